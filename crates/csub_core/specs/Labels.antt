@@ -1,0 +1,63 @@
+-- Labels: what is done at a point. Two statements count as the same exactly where their labels are equal.
+use Rattle.std.specs.Prelude.{ℕ, ℤ, List, [], map, Option, Some, None}
+use Rattle.std.specs.Option.{option_map}
+use Rattle.csub_types.specs.declared.kind.IntKind.{IntKind}
+use Rattle.csub_core.specs.Types.{Name, MemberTree, member_tree}
+use Rattle.csub_core.specs.Trees.{NamedExpr, NamedArg, expr_tree, arg_tree}
+use Rattle.csub_core.specs.declared.label.EndRule.{EndRule}
+use Rattle.csub_core.specs.declared.label.Answer.{Answer}
+use Rattle.csub_core.specs.declared.label.CallLabel.{CallLabel}
+use Rattle.csub_core.specs.declared.label.Label.{Label}
+use Rattle.csub_core.specs.declared.label.Label.TheVariants.{Entry, Exit, Eval, Branch, Return, Call}
+
+-- a returned value with the function's result type, to which it is converted (C11 6.8.6.4)
+pub record AnswerTree : Type 0 where
+  pub kind : IntKind
+  pub value : NamedExpr
+
+-- a call: the callee's name, its parameters and result type as it is defined, the arguments, and the temporary that takes the result
+pub record CallTree : Type 0 where
+  pub callee : Name
+  pub params : List MemberTree
+  pub result : Option IntKind
+  pub args : List NamedArg
+  pub temp : Option ℕ
+
+-- the resolved tree at a point, without spans and parentheses
+pub data LabelTree : Type 0 where
+  enters : LabelTree
+  exits : EndRule → LabelTree
+  evaluates : NamedExpr → LabelTree
+  branches : NamedExpr → LabelTree
+  returns : Option AnswerTree → LabelTree
+  calls : CallTree → LabelTree
+
+-- a global that a tree names, with the initial contents of its cells
+pub record Initial : Type 0 where
+  pub name : Name
+  pub contents : List ℤ
+
+-- a label: the tree, and the initial contents of each global that the tree names, in order of names
+pub record PointLabel : Type 0 where
+  pub tree : LabelTree
+  pub globals : List Initial
+
+abbrev pub answer_tree : Answer → AnswerTree
+answer_tree a = record { kind = a.kind; value = expr_tree a.value }
+
+abbrev pub call_tree : CallLabel → CallTree
+call_tree c = record {
+  callee = c.callee;
+  params = map member_tree c.params.items;
+  result = c.result;
+  args = map arg_tree c.args.items;
+  temp = c.temp;
+}
+
+abbrev pub label_tree : Label → LabelTree
+label_tree Entry = enters
+label_tree (Exit rule) = exits rule
+label_tree (Eval e) = evaluates (expr_tree e)
+label_tree (Branch e) = branches (expr_tree e)
+label_tree (Return answer) = returns (option_map answer_tree answer)
+label_tree (Call call) = calls (call_tree call)

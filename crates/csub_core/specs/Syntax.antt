@@ -1,0 +1,98 @@
+-- Programs as values: functions with their statements, each statement with its parts.
+use Rattle.std.specs.Prelude.{ℕ, List, [], ◌∷◌, ◌++◌, map, Option, Some, None}
+use Rattle.std.specs.Option.{option_map}
+use Rattle.csub_lex.specs.declared.span.Span.{Span}
+use Rattle.csub_types.specs.declared.kind.IntKind.{IntKind}
+use Rattle.csub_core.specs.Types.{Name, TypeTree, type_tree, MemberTree, member_tree}
+use Rattle.csub_core.specs.Labels.{LabelTree, CallTree, calls, label_tree, call_tree}
+use Rattle.csub_core.specs.declared.function.RCall.{RCall}
+use Rattle.csub_core.specs.declared.function.RPart.{RPart}
+use Rattle.csub_core.specs.declared.function.RStmt.{RStmt, Parts, Block', If', Row_of-RStmt, end_of-RStmt, more_of-RStmt, Held-RStmt-If-2, None', Some'}
+use Rattle.csub_core.specs.declared.function.LocalVar.{LocalVar}
+use Rattle.csub_core.specs.declared.function.Function.{Function}
+
+-- one stage of a part: a call or the part's own point, with the place in the source that is named for it
+pub record Stage : Type 0 where
+  pub label : LabelTree
+  pub span : Span
+
+-- a part: an expression of a statement. Its stages are its calls in the order in which they are made, and last its
+-- own point, where it has one
+abbrev pub PartTree : Type 0
+PartTree = List Stage
+
+mutual
+  pub data StmtTree : Type 0 where
+    parts : List PartTree → StmtTree
+    block : StmtTrees → StmtTree
+    conditional : PartTree → StmtTree → ElseTree → StmtTree
+
+  pub data StmtTrees : Type 0 where
+    no_stmt : StmtTrees
+    more_stmts : StmtTree → StmtTrees → StmtTrees
+
+  pub data ElseTree : Type 0 where
+    no_else : ElseTree
+    else_stmt : StmtTree → ElseTree
+
+-- a local object that is no parameter: the number-th of its name in its function
+pub record LocalTree : Type 0 where
+  pub name : Name
+  pub number : ℕ
+  pub ctype : TypeTree
+
+pub record FunctionTree : Type 0 where
+  pub name : Name
+  pub params : List MemberTree
+  pub result : Option IntKind
+  pub body : StmtTrees
+  pub span : Span
+  pub locals : List LocalTree
+  pub temps : ℕ
+
+-- the functions of a program: first `#start`, which calls `main`, and then the others in the order of the source
+abbrev pub ProgramTree : Type 0
+ProgramTree = List FunctionTree
+
+abbrev pub call_stage : RCall → Stage
+call_stage c = record { label = calls (call_tree c.label); span = c.span }
+
+abbrev pub own_stage : Span → Option LabelTree → PartTree
+own_stage span None = []
+own_stage span (Some label) = record { label = label; span = span } ∷ []
+
+abbrev pub part_tree : RPart → PartTree
+part_tree p = map call_stage p.calls.items ++ own_stage p.span (option_map label_tree p.main)
+
+abbrev mutual
+  pub stmt_tree : RStmt → StmtTree
+  stmt_tree (Parts row) = parts (map part_tree row.items)
+  stmt_tree (Block' shape row) = block (row_trees row)
+  stmt_tree (If' part p t e) = conditional (part_tree part) (stmt_tree t) (else_tree e)
+
+  pub else_tree : Held-RStmt-If-2 → ElseTree
+  else_tree None' = no_else
+  else_tree (Some' p s) = else_stmt (stmt_tree s)
+
+  pub row_trees : {m : _} → Row_of-RStmt m → StmtTrees
+  row_trees end_of-RStmt = no_stmt
+  row_trees (more_of-RStmt s rest) = more_stmts (stmt_tree s) (row_trees rest)
+
+-- the trees of a list
+abbrev pub stmts_of : List StmtTree → StmtTrees
+stmts_of [] = no_stmt
+stmts_of (s ∷ rest) = more_stmts s (stmts_of rest)
+
+abbrev pub local_tree : LocalVar → LocalTree
+local_tree v = record { name = v.name; number = v.number; ctype = type_tree v.ctype }
+
+abbrev pub function_tree : Function → FunctionTree
+function_tree f = record {
+  name = f.name;
+  params = map member_tree f.params.items;
+  result = f.result;
+  body = stmts_of (map stmt_tree f.body.items);
+  span = f.span;
+  locals = map local_tree f.locals.items;
+  temps = f.temps;
+}

@@ -1,0 +1,54 @@
+-- Resolved expressions as values: trees are equal exactly where the expressions are, node by node.
+-- What stands at a variable, at an index and at a member is a parameter, so that one definition of evaluation serves
+-- cells by names and cells by numbers.
+use Rattle.std.specs.Prelude.{ℕ, ℤ}
+use Rattle.csub_lex.specs.declared.operator.BinOp.{BinOp}
+use Rattle.csub_types.specs.declared.kind.IntKind.{IntKind}
+use Rattle.csub_core.specs.Types.{Name, TypeTree}
+use Rattle.csub_core.specs.declared.expression.RArg.{RArg}
+use Rattle.csub_core.specs.declared.expression.RArg.TheVariants.{Value}
+use Rattle.csub_core.specs.declared.expression.RExpr.{RExpr, Const, Getchar, Putchar', Binary'}
+
+-- a place that holds a number (an lvalue, C11 6.3.2.1)
+pub data PlaceTree (V I M : Type 0) : Type 0 where
+  variable : V → PlaceTree V I M
+
+pub data ExprTree (V I M : Type 0) : Type 0 where
+  constant : IntKind → ℤ → ExprTree V I M
+  reading : PlaceTree V I M → ExprTree V I M
+  operation : BinOp → IntKind → ExprTree V I M → ExprTree V I M → ExprTree V I M
+  input_byte : ExprTree V I M
+  output_byte : ExprTree V I M → ExprTree V I M
+
+-- an argument of a call
+pub data ArgTree (V I M : Type 0) : Type 0 where
+  value_argument : ExprTree V I M → ArgTree V I M
+
+-- whose object a name is: one of file scope, or the k-th of its name in its function (its parameters counted first)
+pub data OwnerTree : Type 0 where
+  global_owner : Name → OwnerTree
+  local_owner : Name → ℕ → OwnerTree
+
+-- an object with its whole declared type, or a temporary, which holds the value of a call
+pub data Variable : Type 0 where
+  object : OwnerTree → TypeTree → Variable
+  temporary : ℕ → IntKind → Variable
+
+-- trees as a program has them, with names at variables and members
+abbrev pub NamedPlace : Type 0
+NamedPlace = PlaceTree Variable (Unit {0}) Name
+
+abbrev pub NamedExpr : Type 0
+NamedExpr = ExprTree Variable (Unit {0}) Name
+
+abbrev pub NamedArg : Type 0
+NamedArg = ArgTree Variable (Unit {0}) Name
+
+abbrev pub expr_tree : RExpr → NamedExpr
+expr_tree (Const k v) = constant k v
+expr_tree Getchar = input_byte
+expr_tree (Putchar' p e) = output_byte (expr_tree e)
+expr_tree (Binary' op k p a q b) = operation op k (expr_tree a) (expr_tree b)
+
+abbrev pub arg_tree : RArg → NamedArg
+arg_tree (Value e) = value_argument (expr_tree e)

@@ -1,0 +1,66 @@
+//! Resolved functions: their statements, each by its parts.
+use crate::label::{CallLabel, Label};
+use crate::types::{CType, Member};
+use csub_lex::{Span, Text};
+use csub_types::IntKind;
+
+/// A user call of a part, with the place of the callee's name.
+#[derive(Drop)]
+pub struct RCall {
+    /// The call.
+    pub label: CallLabel,
+    /// Where the callee's name stands.
+    pub span: Span,
+}
+
+/// A part of a statement: an expression. Its calls are made first, in order, and then its own point is evaluated.
+#[derive(Drop)]
+pub struct RPart {
+    /// The user calls, innermost and leftmost first.
+    pub calls: Vec<RCall>,
+    /// The part's own point; none where the whole part is a user call.
+    pub main: Option<Label>,
+    /// The place that is named for the own point.
+    pub span: Span,
+}
+
+/// A statement.
+#[derive(Drop)]
+pub enum RStmt {
+    /// A statement without statements inside it, by its parts in order; none for an empty statement.
+    Parts(Vec<RPart>),
+    /// A block, by its lines.
+    Block(Vec<RStmt>),
+    /// An `if`: the test, the statement for a true test, and the one behind `else`.
+    If(RPart, Box<RStmt>, Option<Box<RStmt>>),
+}
+
+/// A local object that is no parameter.
+#[derive(Drop)]
+pub struct LocalVar {
+    /// The declared name.
+    pub name: Text,
+    /// The object is the number-th of its name in its function, parameters counted first, from 1.
+    pub number: u32,
+    /// The declared type.
+    pub ctype: CType,
+}
+
+/// A function definition.
+#[derive(Drop)]
+pub struct Function {
+    /// The function's name.
+    pub name: Text,
+    /// Its parameters.
+    pub params: Vec<Member>,
+    /// Its result type; `None` for a `void` function.
+    pub result: Option<IntKind>,
+    /// The lines of its body.
+    pub body: Vec<RStmt>,
+    /// Where its name stands in its definition.
+    pub span: Span,
+    /// Its local objects other than its parameters, in the order of the source.
+    pub locals: Vec<LocalVar>,
+    /// The most temporaries of one of its parts.
+    pub temps: u32,
+}

@@ -1,0 +1,74 @@
+//! What is done at a point, and how control leaves it.
+use crate::expression::{RArg, RExpr};
+use crate::types::Member;
+use csub_lex::Text;
+use csub_types::IntKind;
+
+/// What the end of a function asks for.
+#[derive(Clone, Copy, Debug, PartialEq, Eq)]
+pub enum EndRule {
+    /// A `void` function: nothing.
+    Nothing,
+    /// A function with a result type: a returned value, else the trap `missing`.
+    Value,
+    /// `main`: 0 where nothing was returned (C11 5.1.2.2.3).
+    Main,
+    /// `#start`: the run ends with the low 8 bits of what `main` gave.
+    Start,
+}
+
+/// A returned value and the function's result type, to which it is converted (C11 6.8.6.4).
+#[derive(Drop)]
+pub struct Answer {
+    /// The function's result type.
+    pub kind: IntKind,
+    /// The returned expression.
+    pub value: RExpr,
+}
+
+/// A user call.
+#[derive(Drop)]
+pub struct CallLabel {
+    /// The called function's name.
+    pub callee: Text,
+    /// Its parameters as it is defined.
+    pub params: Vec<Member>,
+    /// Its result type; `None` for a `void` function.
+    pub result: Option<IntKind>,
+    /// The arguments, in order.
+    pub args: Vec<RArg>,
+    /// The number of the temporary that takes the result, from 1, where there is a result.
+    pub temp: Option<u32>,
+}
+
+/// What is done at a point.
+#[derive(Drop)]
+pub enum Label {
+    /// A function's entry: nothing.
+    Entry,
+    /// A function's exit.
+    Exit(EndRule),
+    /// An expression is evaluated for its effects.
+    Eval(RExpr),
+    /// A test of an `if` or a loop.
+    Branch(RExpr),
+    /// A `return`, with or without a value.
+    Return(Option<Answer>),
+    /// A user call.
+    Call(CallLabel),
+}
+
+/// A way out of a point.
+#[derive(Drop)]
+pub enum ExitLabel {
+    /// The only way out.
+    Next,
+    /// A test that isn't 0.
+    True,
+    /// A test that is 0.
+    False,
+    /// A case of a switch, by its value.
+    Case(i64),
+    /// The default of a switch, with all its case values, rising.
+    Default(Vec<i64>),
+}

@@ -1,0 +1,42 @@
+//! A program, which keeps its validity.
+ghost use Rattle.std.specs.Prelude.{◌≡◌, map};
+ghost use Rattle.csub_core.specs.Syntax.{function_tree};
+ghost use Rattle.csub_core.specs.Valid.{IsValid};
+
+use crate::function::Function;
+use std::marker::Model;
+
+/// A valid program: `#start`, which calls `main`, and then the defined functions in the order of the source. Contracts
+/// see the list of its functions; what validity is stands in `specs/Valid`.
+#[derive(Drop)]
+pub struct Program {
+    functions: Vec<Function>,
+}
+
+impl Model for Program {
+    ghost use Rattle.std.specs.Prelude.{List, map};
+    ghost use Rattle.std.specs.Coded.{codes};
+    ghost use Rattle.csub_core.specs.contracts.expression.RExpr as expr;
+    ghost use Rattle.csub_core.specs.contracts.function.RStmt as stmt;
+    ghost use Rattle.csub_core.specs.declared.function.Function.{Function};
+    ghost use Rattle.csub_core.specs.Syntax.{function_tree};
+    ghost use Rattle.csub_core.specs.Valid.{IsValid};
+
+    ghost Value = { List Function };
+
+    ghost coded = { Prim.hlevel (codes, expr.the_row.coded, stmt.the_row.coded) };
+
+    ghost view = { λ p. p.functions.items };
+
+    ghost invariant = { λ p. IsValid (map function_tree p.functions.items) };
+}
+
+impl Program {
+    /// The functions: number 0 is `#start`, the others stand in the order of the source.
+    pub fn functions(&self) -> &[Function]
+        ensures value { result.now ≡ self.now }
+        ensures valid { IsValid (map function_tree self.now) }
+    {
+        self.functions.as_slice()
+    }
+}

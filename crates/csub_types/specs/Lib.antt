@@ -1,0 +1,5 @@
+pub mod Kinds
+pub mod Settled
+pub mod Division
+pub mod Shifts
+pub mod Arithmetic

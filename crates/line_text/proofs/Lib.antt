@@ -1,0 +1,5 @@
+pub mod BytesLemmas
+pub mod CutLemmas
+pub mod HexadecimalLemmas
+pub mod Laws
+pub mod NumberLemmas
