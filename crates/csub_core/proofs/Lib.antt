@@ -1,0 +1,7 @@
+pub mod StmtRows
+pub mod ValidCounts
+pub mod ValidLists
+pub mod ValidParts
+pub mod ValidPrograms
+pub mod ValidStmts
+pub mod ValidStart

@@ -12,3 +12,4 @@ pub mod Cells
 pub mod Acts
 pub mod Runs
 pub mod Valid
+pub mod Checks

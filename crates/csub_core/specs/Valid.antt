@@ -9,6 +9,8 @@ use Rattle.csub_core.specs.Types.{Name, TypeTree, number_kind, MemberTree}
 use Rattle.csub_core.specs.Trees.{NamedPlace, NamedExpr, NamedArg, Variable, variable, object, temporary, constant, reading, operation, input_byte, output_byte}
 use Rattle.csub_core.specs.Labels.{LabelTree, enters, exits, evaluates, branches, returns, calls, AnswerTree, CallTree}
 use Rattle.csub_core.specs.Syntax.{Stage, PartTree, StmtTree, StmtTrees, ElseTree, parts, block, conditional, no_stmt, more_stmts, no_else, else_stmt, FunctionTree, ProgramTree}
+use Rattle.csub_core.specs.declared.valid.role.Role.{Role}
+use Rattle.csub_core.specs.declared.valid.role.Role.TheVariants.{Whole, Test}
 use Rattle.csub_core.specs.Flows.{start_name, main_name, function_of, point_list, edge_list}
 
 -- the kind of an operator's result: comparisons give an `int` (C11 6.5.8 and 6.5.9), all others the kind of the operation
@@ -74,17 +76,12 @@ IsAnswer None (Some a) = ⊥
 IsAnswer (Some kind) None = ⊥
 IsAnswer (Some kind) (Some a) = (a.kind ≡ kind) × IsExpr a.value
 
--- what a part is for: a whole expression or return, or the test of an `if`
-pub data Role : Type 0 where
-  whole : Role
-  test : Role
-
 -- what may stand last in a part: its own point, or where the whole part is a user call, that call
 abbrev pub IsLast : ProgramTree → FunctionTree → Role → ℕ → LabelTree → Type 0
-IsLast P f whole k (calls c) = IsCall P f.temps k c
-IsLast P f whole k (evaluates e) = IsExpr e
-IsLast P f whole k (returns answer) = IsAnswer f.result answer
-IsLast P f test k (branches e) = IsExpr e
+IsLast P f Whole k (calls c) = IsCall P f.temps k c
+IsLast P f Whole k (evaluates e) = IsExpr e
+IsLast P f Whole k (returns answer) = IsAnswer f.result answer
+IsLast P f Test k (branches e) = IsExpr e
 IsLast P f role k label = ⊥
 
 -- what may stand before the last: a call
@@ -101,9 +98,9 @@ IsPart P f role k (s ∷ t ∷ rest) = IsEarlier P f k s.label × IsPart P f rol
 -- a label stands only where there is a point of its kind
 abbrev mutual
   pub IsStmt : ProgramTree → FunctionTree → StmtTree → Type 0
-  IsStmt P f (parts ps) = All (λ p. IsPart P f whole 1 p) ps
+  IsStmt P f (parts ps) = All (λ p. IsPart P f Whole 1 p) ps
   IsStmt P f (block stmts) = AreStmts P f stmts
-  IsStmt P f (conditional p t e) = IsPart P f test 1 p × IsStmt P f t × IsElse P f e
+  IsStmt P f (conditional p t e) = IsPart P f Test 1 p × IsStmt P f t × IsElse P f e
 
   pub AreStmts : ProgramTree → FunctionTree → StmtTrees → Type 0
   AreStmts P f no_stmt = Unit {0}

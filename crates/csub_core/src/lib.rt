@@ -10,20 +10,21 @@
 
 pub mod copy;
 pub mod expression;
-pub mod function;
 pub mod label;
 pub mod point;
+pub mod function;
 pub mod program;
 pub mod status;
 pub mod types;
+mod valid;
 
 pub use copy::{copy_call, copy_label};
 pub use csub_lex::{BinOp, Span, StepOp, Text, UnaryOp};
 pub use csub_types::{IntKind, Trap};
 pub use expression::{Owner, Piece, RArg, RExpr};
-pub use function::{Function, LocalVar, RCall, RPart, RStmt};
 pub use label::{Answer, CallLabel, EndRule, ExitLabel, Label};
 pub use point::{Point, PointPath};
+pub use function::{Function, LocalVar, RCall, RPart, RStmt};
 pub use program::Program;
 pub use status::Status;
 pub use types::{CType, Member};

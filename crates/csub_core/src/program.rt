@@ -1,9 +1,10 @@
 //! A program, which keeps its validity.
-ghost use Rattle.std.specs.Prelude.{◌≡◌, map};
+ghost use Rattle.std.specs.Prelude.{◌≡◌, ◌↔◌, IsSome, IfSome, map};
 ghost use Rattle.csub_core.specs.Syntax.{function_tree};
 ghost use Rattle.csub_core.specs.Valid.{IsValid};
 
 use crate::function::Function;
+use crate::valid::is_valid;
 use std::marker::Model;
 
 /// A valid program: `#start`, which calls `main`, and then the defined functions in the order of the source. Contracts
@@ -32,6 +33,18 @@ impl Model for Program {
 }
 
 impl Program {
+    /// The program of these functions, and `None` exactly where they are not valid; they are dropped then. What validity
+    /// is stands in `specs/Valid`.
+    ///
+    /// The limits on functions, points and edges are looked at first. Beside passes over the program this takes a
+    /// comparison of names for each two functions, and for each call and each function.
+    pub fn make(functions: Vec<Function>) -> Option<Program>
+        ensures exact { IsSome result ↔ IsValid (map function_tree functions.items) }
+        ensures value { IfSome result (λ program. program ≡ functions.items) }
+    {
+        if is_valid(&functions) { Some(Program { functions }) } else { None }
+    }
+
     /// The functions: number 0 is `#start`, the others stand in the order of the source.
     pub fn functions(&self) -> &[Function]
         ensures value { result.now ≡ self.now }

@@ -13,11 +13,13 @@ use Rattle.csub_types.specs.Kinds.{IsOf, convert}
 use Rattle.csub_types.specs.Settled.{settled, fits_int}
 use Rattle.csub_types.specs.Division.{DividesTo, quotient}
 
+-- a divisor is not 0, so there is room for a remainder
 some : (b : ℤ) → b ≢ pos 0 → 0 < unsigned_abs b
 some (pos zero) n = absurd (n refl)
 some (pos (suc b)) n = omega arith
 some (negsuc b) n = omega arith
 
+-- the remainder has the sign of what is divided
 rem_not_below : (a b : ℤ) → pos 0 ≤ℤ a → pos 0 ≤ℤ int_rem a b
 rem_not_below (pos a) b h = omega (arith, ints)
 rem_not_below (negsuc a) b h = absurd (omega (arith, ints))

@@ -1,5 +1,5 @@
--- What the operators of C11 6.5.3.3 and 6.5.5 to 6.5.12 give: the exact whole number, and then it wraps, traps or is compared.
--- The operands are numbers of the kind already, by `promote`, `common` and `convert`; the right operand of a shift is any number.
+-- What the operators of C11 6.5.3.3 and 6.5.5 to 6.5.12 give: the exact whole number, which is then kept, wrapped or
+-- trapped, or what a comparison says. The operands have been converted to the kind, by `promote`, `common` and `convert`.
 use Rattle.std.specs.Prelude.{ℕ, ℤ, pos, negsuc, ◌+ℤ◌, ◌-ℤ◌, ◌*ℤ◌, neg_ℤ, not, Result, Ok, bit_and, bit_or, bit_xor}
 use Rattle.std.specs.Int.RustNames.{int_lt, int_le}
 use Rattle.std.specs.Ordering.{int_eq}
@@ -15,14 +15,15 @@ use Rattle.csub_types.specs.Settled.{settled, truth}
 use Rattle.csub_types.specs.Division.{quotient, remainder}
 use Rattle.csub_types.specs.Shifts.{shifted_left, shifted_right}
 
--- `+`, `-`, `!` and `~` (6.5.3.3). In two's complement the complement of all bits is -1 - a.
+-- `+`, `-`, `!` and `~` (6.5.3.3). In two's complement the number with all bits turned is -1 - a.
 abbrev pub unary : UnaryOp → IntKind → ℤ → Result ℤ Trap
 unary Plus k a = Ok a
 unary Minus k a = settled k (neg_ℤ a)
 unary Not k a = Ok (truth (int_eq a (pos 0)))
 unary Flip k a = Ok (convert k (negsuc 0 -ℤ a))
 
--- An operation on each of the low 32 bits (6.5.10 to 6.5.12), in two's complement (6.5p4 leaves this to the implementation).
+-- An operation on each of the low 32 bits (6.5.10 to 6.5.12).
+-- 6.5p4 leaves the bits of negative numbers to the implementation: here they are those of the two's complement.
 abbrev pub bitwise : (ℕ → ℕ → ℕ) → IntKind → ℤ → ℤ → Result ℤ Trap
 bitwise f k a b = Ok (convert k (pos (f (low_bits Int a) (low_bits Int b))))
 

@@ -4,8 +4,8 @@ use Rattle.std.specs.Int.{int_rem_euclid, cast_signed, w8, w32}
 use Rattle.csub_types.specs.declared.kind.IntKind.{IntKind}
 use Rattle.csub_types.specs.declared.kind.IntKind.TheVariants.{Char, Int, Unsigned}
 
--- The numbers of a kind; `negsuc n` is -n - 1. C11 6.2.5 and 6.2.6.2 leave open whether `char` has a sign,
--- the widths, and how negative numbers are held: here `char` has a sign and 8 bits, the others have 32, in two's complement.
+-- The numbers of a kind; `negsuc n` is -n - 1. C11 6.2.5 and 6.2.6.2 leave open whether `char` has a sign, the widths,
+-- and how negative numbers are held: here `char` has a sign and 8 bits, the others have 32, in two's complement.
 abbrev pub IsOf : IntKind → ℤ → Type 0
 IsOf Char z = (negsuc 127 ≤ℤ z) × (z ≤ℤ pos 127)
 IsOf Int z = (negsuc 2147483647 ≤ℤ z) × (z ≤ℤ pos 2147483647)
@@ -29,7 +29,7 @@ common Unsigned b = Unsigned
 common a Unsigned = Unsigned
 common a b = Int
 
--- 2 to the power of the number of a kind's bits
+-- 2 to the power of the number of a kind's bits.
 abbrev pub modulus : IntKind → ℤ
 modulus Char = pos 256
 modulus Int = pos 4294967296

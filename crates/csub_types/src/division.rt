@@ -8,7 +8,7 @@ use crate::kind::IntKind;
 use crate::settle::settle;
 use crate::trap::Trap;
 
-/// The quotient, cut toward 0.
+/// The quotient, cut toward 0. That it and the remainder obey C's law of the two is `law`.
 pub(crate) fn divide(kind: IntKind, a: i64, b: i64) -> Result<i64, Trap>
     requires promoted { IsPromoted kind }
     requires left { IsOf kind a }
@@ -23,7 +23,7 @@ pub(crate) fn divide(kind: IntKind, a: i64, b: i64) -> Result<i64, Trap>
     }
 }
 
-/// What the quotient leaves of `a`.
+/// What the quotient leaves of `a`, with the quotient's traps.
 pub(crate) fn remain(kind: IntKind, a: i64, b: i64) -> Result<i64, Trap>
     requires promoted { IsPromoted kind }
     requires left { IsOf kind a }
@@ -34,14 +34,6 @@ pub(crate) fn remain(kind: IntKind, a: i64, b: i64) -> Result<i64, Trap>
     if b == 0 {
         return Err(Trap::Divide);
     }
-    match kind {
-        IntKind::Unsigned => Ok(a % b),
-        _ => {
-            if a / b < 2_147_483_648 {
-                Ok(a % b)
-            } else {
-                Err(Trap::Overflow)
-            }
-        }
-    }
+    settle(kind, a / b)?;
+    Ok(a % b)
 }

@@ -1,10 +1,17 @@
 //! `<<` and `>>`.
 ghost use Rattle.std.specs.Prelude.{◌≡◌, ◌≤ℤ◌, pos, ◌*ℤ◌};
 ghost use Rattle.csub_types.specs.Kinds.{IsOf, IsPromoted};
-ghost use Rattle.csub_types.specs.Shifts.{power, shifted_left, shifted_right, IsOfEither};
+ghost use Rattle.csub_types.specs.Shifts.{is_count, power, shifted_left, shifted_right, IsOfEither};
 
 use crate::kind::{IntKind, convert};
 use crate::trap::Trap;
+
+/// Whether a count of bits is one that a shift has: from 0 to 31.
+fn is_count(count: i64) -> bool
+    ensures { result ≡ is_count count }
+{
+    0 <= count && count <= 31
+}
 
 /// 2 to the power of a count.
 fn power(count: i64) -> i64
@@ -33,7 +40,7 @@ pub(crate) fn shift_left(kind: IntKind, a: i64, count: i64) -> Result<i64, Trap>
     requires left { IsOf kind a }
     ensures { result ≡ shifted_left kind a count }
 {
-    if count < 0 || 31 < count {
+    if !is_count(count) {
         return Err(Trap::Shift);
     }
     let shifted = scale(a, count);
@@ -54,7 +61,7 @@ pub(crate) fn shift_right(a: i64, count: i64) -> Result<i64, Trap>
     requires { IsOfEither a }
     ensures { result ≡ shifted_right a count }
 {
-    if count < 0 || 31 < count {
+    if !is_count(count) {
         return Err(Trap::Shift);
     }
     Ok(a.div_euclid(power(count)))

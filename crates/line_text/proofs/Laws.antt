@@ -1,5 +1,7 @@
 -- Laws of words and lines: what is written is read back.
-use Rattle.std.proofs.Common.{◌≡◌, ◌≢◌, ℕ, ◌^◌, ◌<◌, ◌/◌, ◌%◌, eqb, leb, Bool, true, false, ◌&&◌, lit<, List, [], ◌∷◌, ◌++◌, length, map, get_or, refl, ap, ◌∙◌, arith, append_assoc, suc}
+use Rattle.std.proofs.Common.{inl, inr, ◌≡◌, ◌≢◌, ℕ, ◌^◌, ◌<◌, ◌/◌, ◌%◌, eqb, leb, Bool, true, false, ◌&&◌, lit<, List, [], ◌∷◌, ◌++◌, length, map, get_or, refl, ap, ◌∙◌, arith, append_assoc}
+use Rattle.std.proofs.lemmas.Bool.{cases_lt}
+use Rattle.std.proofs.lemmas.List.{get_or_past}
 use Rattle.std.proofs.lemmas.List.Elements.{All-nil, All-cons, All-head, All-tail, All-weaker}
 use Rattle.std.proofs.lemmas.List.Splits.{slice_split_at, join_with_byte-slice_split}
 use Rattle.std.proofs.lemmas.Fmt.{decimal_nonempty, digits_decimal}
@@ -7,7 +9,8 @@ use Rattle.std.specs.Char.{is_ascii_digit}
 use Rattle.std.specs.Fmt.{decimal}
 use Rattle.std.specs.List.{All}
 use Rattle.std.specs.Str.{all_ascii_digits}
-use Rattle.hex.specs.Hex.{encode_lower, encode_with, lower_digits, IsBytes}
+use Rattle.hex.specs.Hex.{encode_lower, encode_with, lower_digits, decode_of, IsBytes}
+use Rattle.hex.proofs.HexLemmas.{length-encode_with, decode_of-encode_lower, decode_of-same}
 use Rattle.line_text.specs.Bytes.{bytes_or_dash}
 use Rattle.line_text.specs.Lines.{lines_of, line_with, text_of_lines}
 use Rattle.line_text.specs.Words.{IsWord, AreWords, line_of_words, pieces}
@@ -79,31 +82,43 @@ IsWord-decimal n small =
       no_newline = digits-lack 10 (decimal n) (lit< tt) digits;
     }
 
--- a digit that is written is none of the bytes below 48
+-- a digit that is written is none of the bytes from 1 to 47
 abbrev is_above : ℕ → Bool
 is_above d = leb 48 (get_or lower_digits d 0)
 
-lower_digit-not : (c d : ℕ) → c < 48 → d < 16 → get_or lower_digits d 0 ≢ c
-lower_digit-not c d small within is =
-    let above : leb 48 (get_or lower_digits d 0) ≡ true = all_below-at is_above 16 d refl within in
-    grind arith
+lower_digit-not : (c d : ℕ) → 0 < c → c < 48 → get_or lower_digits d 0 ≢ c
+lower_digit-not c d some small is = elim (cases_lt d 16) [
+  | inl within ↦
+      let above : leb 48 (get_or lower_digits d 0) ≡ true = all_below-at is_above 16 d refl within in
+      grind arith
+  | inr past ↦ omega (arith, get_or_past lower_digits d 0 past)
+]
 
-encode_lower-lack : (c : ℕ) (bytes : List ℕ) → c < 48 → IsBytes bytes → All (λ byte. byte ≢ c) (encode_lower bytes)
+encode_lower-lack : (c : ℕ) (bytes : List ℕ) → 0 < c → c < 48 → All (λ byte. byte ≢ c) (encode_lower bytes)
 unfolding encode_with
-encode_lower-lack c [] small h = All-nil (λ byte. byte ≢ c)
-encode_lower-lack c (b ∷ rest) small h =
-    let fits : b < 256 = h 0 in
+encode_lower-lack c [] some small = All-nil (λ byte. byte ≢ c)
+encode_lower-lack c (b ∷ rest) some small =
     let Other : ℕ → Type 0 = λ byte. byte ≢ c in
-    All-cons Other (get_or lower_digits (b / 16) 0) (get_or lower_digits (b % 16) 0 ∷ encode_lower rest) (lower_digit-not c (b / 16) small (omega arith))
-    (All-cons Other (get_or lower_digits (b % 16) 0) (encode_lower rest) (lower_digit-not c (b % 16) small (omega arith)) (encode_lower-lack c rest small (λ k. h (suc k))))
+    All-cons Other (get_or lower_digits (b / 16) 0) (get_or lower_digits (b % 16) 0 ∷ encode_lower rest) (lower_digit-not c (b / 16) some small)
+    (All-cons Other (get_or lower_digits (b % 16) 0) (encode_lower rest) (lower_digit-not c (b % 16) some small) (encode_lower-lack c rest some small))
 
-bytes_or_dash-lack : (c : ℕ) (bytes : List ℕ) → c < 45 → IsBytes bytes → All (λ byte. byte ≢ c) (bytes_or_dash bytes)
-bytes_or_dash-lack c [] small h = All-cons (λ byte. byte ≢ c) 45 [] (λ is. omega arith) (All-nil (λ byte. byte ≢ c))
-bytes_or_dash-lack c (b ∷ more) small h = encode_lower-lack c (b ∷ more) (omega arith) h
+bytes_or_dash-lack : (c : ℕ) (bytes : List ℕ) → 0 < c → c < 45 → All (λ byte. byte ≢ c) (bytes_or_dash bytes)
+bytes_or_dash-lack c [] some small = All-cons (λ byte. byte ≢ c) 45 [] (λ is. omega arith) (All-nil (λ byte. byte ≢ c))
+bytes_or_dash-lack c (b ∷ more) some small = encode_lower-lack c (b ∷ more) some (omega arith)
 
-pub IsWord-bytes_or_dash : (bytes : List ℕ) → IsBytes bytes → IsWord (bytes_or_dash bytes)
-IsWord-bytes_or_dash bytes h = record {
+pub IsWord-bytes_or_dash : (bytes : List ℕ) → IsWord (bytes_or_dash bytes)
+IsWord-bytes_or_dash bytes = record {
   nonempty = λ none. omega (arith, bytes_or_dash-nonempty bytes, ap length none);
-  no_space = bytes_or_dash-lack 32 bytes (lit< tt) h;
-  no_newline = bytes_or_dash-lack 10 bytes (lit< tt) h;
+  no_space = bytes_or_dash-lack 32 bytes (lit< tt) (lit< tt);
+  no_newline = bytes_or_dash-lack 10 bytes (lit< tt) (lit< tt);
 }
+
+-- ---- a word stands for one value
+
+-- bytes have one word, and no other bytes have it
+pub bytes_or_dash-injective : (a b : List ℕ) → IsBytes a → IsBytes b → bytes_or_dash a ≡ bytes_or_dash b → a ≡ b
+bytes_or_dash-injective [] [] ha hb is = refl
+bytes_or_dash-injective [] (y ∷ b) ha hb is = absurd (omega (arith, ap length is, length-encode_with lower_digits (y ∷ b)))
+bytes_or_dash-injective (x ∷ a) [] ha hb is = absurd (omega (arith, ap length is, length-encode_with lower_digits (x ∷ a)))
+bytes_or_dash-injective (x ∷ a) (y ∷ b) ha hb is =
+    decode_of-same (encode_lower (x ∷ a)) (x ∷ a) (y ∷ b) (decode_of-encode_lower (x ∷ a) ha) (ap decode_of is ∙ decode_of-encode_lower (y ∷ b) hb)

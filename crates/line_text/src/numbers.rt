@@ -35,7 +35,7 @@ pub fn read_decimal(text: &[u8], most: u64) -> Option<u64>
         return None;
     }
     if text.len() > 1 && text[0] == b'0' {
-        return None;
+        return None; // a leading zero
     }
     let mut value: u64 = 0;
     for digit in text {

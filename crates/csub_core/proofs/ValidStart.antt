@@ -1,0 +1,17 @@
+-- The first function of a program, `#start`, by the parts of its definition.
+use Rattle.std.proofs.Common.{◌≡◌, ◌↔◌, ℕ, ◌<◌, List, [], ◌∷◌, map, length, get_or, refl, sym, subst, arith}
+use Rattle.csub_core.specs.declared.function.Function.{Function}
+use Rattle.csub_core.specs.declared.function.RStmt.{RStmt}
+use Rattle.csub_core.specs.Syntax.{StmtTree, StmtTrees, parts, block, conditional, more_stmts, stmt_tree, stmts_of, function_tree}
+use Rattle.csub_core.specs.Valid.{IsStartBody, IsStart, BeginsWithStart}
+
+two_lines : (s t : StmtTree) (rest : StmtTrees) → IsStartBody (more_stmts s (more_stmts t rest)) → ⊥
+two_lines (parts ps) t rest h = h
+two_lines (block stmts) t rest h = h
+two_lines (conditional p a e) t rest h = h
+
+-- the body of `#start` is one line
+pub start_body_is_one : (ss : List RStmt) → IsStartBody (stmts_of (map stmt_tree ss)) → length ss ≡ 1
+start_body_is_one [] h = absurd h
+start_body_is_one (s ∷ []) h = refl
+start_body_is_one (s ∷ t ∷ ss) h = absurd (two_lines (stmt_tree s) (stmt_tree t) (stmts_of (map stmt_tree ss)) h)

@@ -1,0 +1,9 @@
+use Rattle.std.proofs.Common.{ℕ, ◌<◌, map, get_or}
+use Rattle.csub_core.specs.declared.function.Function.{Function}
+use Rattle.csub_core.specs.Syntax.{function_tree}
+use Rattle.csub_core.specs.Checks.{IsFunction}
+use Rattle.csub_core.proofs.valid.are_functions.Given as goal
+
+abbrev pub invariant-loop-function : goal.invariant-loop-function
+invariant-loop-function l =
+    (k : ℕ) (d : Function) → k < l.function-index → IsFunction (map function_tree l.functions) (function_tree (get_or l.functions k d))

@@ -1,0 +1,116 @@
+//! The decision procedure for the validity of programs.
+//!
+//! Each rule of `specs/Valid` has a function of its own here, and what a rule joins is joined by `&&`. The limits are
+//! looked at first, so that the rest is done for programs of bounded size alone.
+ghost use Rattle.std.specs.Prelude.{◌≡◌, ◌≢◌, ◌↔◌, ◌≤◌, [], All, AllPairs, IsTrue, length, map};
+ghost use Rattle.std.specs.List.{AllWithin};
+ghost use Rattle.csub_core.specs.declared.function.Function.{Function};
+ghost use Rattle.csub_core.specs.Syntax.{function_tree};
+ghost use Rattle.csub_core.specs.Valid.{IsValid};
+ghost use Rattle.csub_core.specs.Checks.{IsWithinLimits, HasEnds, AreNamed, IsFramed, IsFunction, IsSmall};
+
+mod calls;
+mod counts;
+mod expressions;
+mod role;
+mod start;
+mod statements;
+
+use crate::function::Function;
+use crate::valid::calls::is_named;
+use crate::valid::counts::{has_few_edges, has_few_points};
+use crate::valid::start::{has_main, has_start};
+use crate::valid::statements::are_stmts;
+
+const MOST_FUNCTIONS: usize = 500;
+const MOST_CELLS: u32 = 4096;
+
+/// Whether the functions are a valid program. Beside a pass over the program this takes a comparison of names for each
+/// two functions, and for each call and each function.
+pub(crate) fn is_valid(functions: &[Function]) -> bool
+    ensures { IsTrue result ↔ IsValid (map function_tree functions.now) }
+{
+    is_framed(functions) && are_functions(functions)
+}
+
+/// Whether the functions are within the limits, and are `#start`, `main` and others of different names.
+fn is_framed(functions: &[Function]) -> bool
+    ensures { IsTrue result ↔ IsFramed (map function_tree functions.now) }
+{
+    is_within_limits(functions) && are_named(functions)
+}
+
+fn are_named(functions: &[Function]) -> bool
+    ensures { IsTrue result ↔ AreNamed (map function_tree functions.now) }
+{
+    has_ends(functions) && names_differ(functions)
+}
+
+fn has_ends(functions: &[Function]) -> bool
+    ensures { IsTrue result ↔ HasEnds (map function_tree functions.now) }
+{
+    has_start(functions) && has_main(functions)
+}
+
+/// Whether there are at most 500 functions beside `#start`, 10,000 points and 10,000 edges.
+fn is_within_limits(functions: &[Function]) -> bool
+    ensures { IsTrue result ↔ IsWithinLimits (map function_tree functions.now) }
+{
+    functions.len() <= MOST_FUNCTIONS + 1 && has_few_points(functions) && has_few_edges(functions)
+}
+
+/// Whether no two functions have one name.
+fn names_differ(functions: &[Function]) -> bool
+    ensures { IsTrue result ↔ AllPairs (λ (f g : Function). f.name ≢ g.name) functions.now }
+{
+    for i in 0..functions.len() {
+        if !is_new(functions, i, functions[i].name.bytes()) {
+            return false;
+        }
+    }
+    true
+}
+
+/// Whether none of the first `count` functions has a name.
+fn is_new(functions: &[Function], count: usize, name: &[u8]) -> bool
+    requires { count ≤ length functions.now }
+    ensures { IsTrue result ↔ AllWithin (λ (f : Function). f.name ≢ name.now) functions.now 0 count }
+{
+    for i in 0..count {
+        if is_named(&functions[i], name) {
+            return false;
+        }
+    }
+    true
+}
+
+/// Whether each function is valid in the program.
+fn are_functions(functions: &[Function]) -> bool
+    ensures { IsTrue result ↔ All (λ f. IsFunction (map function_tree functions.now) (function_tree f)) functions.now }
+{
+    for function in functions {
+        if !is_function(functions, function) {
+            return false;
+        }
+    }
+    true
+}
+
+/// Whether a function of the program has no object, few temporaries, and valid statements.
+fn is_function(functions: &[Function], function: &Function) -> bool
+    ensures { IsTrue result ↔ IsFunction (map function_tree functions.now) (function_tree function.now) }
+{
+    is_small(function) && are_stmts(functions, function, &function.body)
+}
+
+fn is_small(function: &Function) -> bool
+    ensures { IsTrue result ↔ IsSmall (function_tree function.now) }
+{
+    is_plain(function) && function.temps <= MOST_CELLS
+}
+
+fn is_plain(function: &Function) -> bool
+    ensures { IsTrue result ↔ (((function_tree function.now).params ≡ []) × ((function_tree function.now).locals ≡ [])) }
+{
+    function.params.is_empty() && function.locals.is_empty()
+}

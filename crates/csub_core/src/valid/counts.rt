@@ -1,0 +1,106 @@
+//! Whether a program stays within its limits of points and edges.
+//!
+//! A count is taken away from what is left of its limit, and ends at once where too little is left.
+ghost use Rattle.std.specs.Prelude.{◌≡◌, ◌↔◌, ◌≤◌, ◌<◌, ◌+◌, ◌-◌, ◌^◌, map, sum_by, length, IsTrue};
+ghost use Rattle.std.specs.Option.{SomeIff};
+ghost use Rattle.csub_core.specs.Syntax.{part_tree, stmt_tree, function_tree};
+ghost use Rattle.csub_core.specs.Flows.{point_list, edge_list};
+ghost use Rattle.csub_core.specs.Valid.{most_points, most_edges};
+ghost use Rattle.csub_core.specs.Checks.{count, count_test, count_function};
+
+use crate::function::{Function, RPart, RStmt};
+
+const MOST_POINTS: usize = 10_000;
+const MOST_EDGES: usize = 10_000;
+
+/// Whether the functions have at most 10,000 points: each has an entry and an exit, and each stage is one.
+pub(crate) fn has_few_points(functions: &[Function]) -> bool
+    ensures { IsTrue result ↔ (length (point_list (map function_tree functions.now)) ≤ most_points) }
+{
+    left_of_functions(functions, 2, 0, MOST_POINTS).is_some()
+}
+
+/// Whether the functions have at most 10,000 edges: an entry and each stage have one, and a test has two.
+pub(crate) fn has_few_edges(functions: &[Function]) -> bool
+    ensures { IsTrue result ↔ (length (edge_list (map function_tree functions.now)) ≤ most_edges) }
+{
+    left_of_functions(functions, 1, 1, MOST_EDGES).is_some()
+}
+
+/// What the count of the functions leaves of `most`.
+fn left_of_functions(functions: &[Function], ends: usize, further: usize, most: usize) -> Option<usize>
+    ensures { SomeIff result (sum_by (λ f. count_function ends further (function_tree f)) functions.now ≤ most) (most - sum_by (λ f. count_function ends further (function_tree f)) functions.now) }
+{
+    let mut left = most;
+    for function in functions {
+        left = left_of_function(function, ends, further, left)?;
+    }
+    Some(left)
+}
+
+fn left_of_function(function: &Function, ends: usize, further: usize, left: usize) -> Option<usize>
+    ensures { SomeIff result (count_function ends further (function_tree function.now) ≤ left) (left - count_function ends further (function_tree function.now)) }
+{
+    let inside = left.checked_sub(ends)?;
+    left_of_stmts(&function.body, further, inside)
+}
+
+/// What the count of a statement leaves of `left`.
+#[cycle(count)]
+fn left_of_stmt(stmt: &RStmt, further: usize, left: usize) -> Option<usize>
+    ensures { SomeIff result (count further (stmt_tree stmt.now) ≤ left) (left - count further (stmt_tree stmt.now)) }
+{
+    match stmt {
+        RStmt::Parts(parts) => left_of_parts(parts, left),
+        RStmt::Block(stmts) => left_of_stmts(stmts, further, left),
+        RStmt::If(test, then, other) => {
+            let after_test = left_of_test(test, further, left)?;
+            let after_then = left_of_stmt(then, further, after_test)?;
+            match other {
+                None => Some(after_then),
+                Some(stmt) => left_of_stmt(stmt, further, after_then),
+            }
+        }
+    }
+}
+
+#[cycle(count)]
+fn left_of_stmts(stmts: &[RStmt], further: usize, left: usize) -> Option<usize>
+    ensures { SomeIff result (sum_by (λ s. count further (stmt_tree s)) stmts.now ≤ left) (left - sum_by (λ s. count further (stmt_tree s)) stmts.now) }
+{
+    let mut rest = left;
+    for stmt in stmts {
+        rest = left_of_stmt(stmt, further, rest)?;
+    }
+    Some(rest)
+}
+
+fn left_of_parts(parts: &[RPart], left: usize) -> Option<usize>
+    ensures { SomeIff result (sum_by (λ p. length (part_tree p)) parts.now ≤ left) (left - sum_by (λ p. length (part_tree p)) parts.now) }
+{
+    let mut rest = left;
+    for part in parts {
+        rest = rest.checked_sub(stages_of(part))?;
+    }
+    Some(rest)
+}
+
+fn left_of_test(test: &RPart, further: usize, left: usize) -> Option<usize>
+    ensures { SomeIff result (count_test further (part_tree test.now) ≤ left) (left - count_test further (part_tree test.now)) }
+{
+    let stages = stages_of(test);
+    if stages == 0 {
+        return Some(left);
+    }
+    left.checked_sub(stages)?.checked_sub(further)
+}
+
+/// How many stages a part has: its calls, and its own point where it has one.
+fn stages_of(part: &RPart) -> usize
+    ensures { result ≡ length (part_tree part.now) }
+{
+    match part.main {
+        None => part.calls.len(),
+        Some(_) => part.calls.len() + 1,
+    }
+}

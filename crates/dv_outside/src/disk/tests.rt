@@ -1,0 +1,92 @@
+// What is trusted: a real file, and what an output may answer.
+use super::*;
+use std::alloc::AllocError;
+use std::cell::Cell;
+use std::fmt::Display;
+use std::test::Fail;
+use std::{fs, io, process};
+
+// More than one piece, no two neighbours alike.
+fn long_content(alloc: Global) -> Result<Vec<u8>, AllocError> {
+    let mut content = Vec::new(alloc);
+    for i in 0..10_000u32 {
+        content.push((i % 251) as u8)?;
+    }
+    Ok(content)
+}
+
+#[test]
+fn a_real_file_is_read_up_to_the_limit(rt: HostRuntime) -> Result<(), Fail> {
+    let alloc = rt.alloc();
+    let content = long_content(alloc)?;
+    let path = format!(in alloc; "dv_outside-{}", process::id(rt.process()))?;
+    fs::write(&rt, path.as_str(), content.as_slice())?;
+    let mut shelf = DiskShelf::new(&rt, alloc);
+    for (most, wanted) in [
+        (0, 0),
+        (1, 1),
+        (8_192, 8_192),
+        (8_193, 8_193),
+        (9_999, 9_999),
+        (10_000, 10_000),
+        (10_001, 10_000),
+        (100_000, 10_000),
+    ] {
+        let bytes = shelf.fetch(path.as_str(), most)?;
+        assert_eq!(rt;
+            Some(bytes.as_slice()),
+            content.get(..wanted),
+            "up to {most}"
+        );
+    }
+    assert_eq!(rt; shelf.faults, 0);
+    fs::remove_file(&rt, path.as_str())?;
+    for faults in [1, 2] {
+        let missing = shelf.fetch(path.as_str(), 9).err();
+        assert_eq!(rt; missing, Some(FetchError::Failed));
+        assert_eq!(rt; shelf.faults, faults);
+    }
+    Ok(())
+}
+
+// An output that takes three bytes, then nothing, and then fails.
+#[derive(Drop)]
+struct Stubborn {
+    calls: Cell<u32>,
+}
+
+impl Print for Stubborn {
+    fn print<D: Display + Drop>(&self, _value: D) -> io::Result<()> {
+        Err(io::Error::from(io::ErrorKind::Unsupported))
+    }
+
+    fn println<D: Display + Drop>(&self, _value: D) -> io::Result<()> {
+        Err(io::Error::from(io::ErrorKind::Unsupported))
+    }
+
+    fn write_all(&self, _bytes: &[u8]) -> io::Result<()> {
+        Err(io::Error::from(io::ErrorKind::Unsupported))
+    }
+
+    fn write_some(&self, bytes: &[u8]) -> io::Result<usize> {
+        let calls = self.calls.get();
+        self.calls.set(calls.saturating_add(1));
+        match calls {
+            0 => Ok(bytes.len().min(3)),
+            1 => Ok(0),
+            _ => Err(io::Error::from(io::ErrorKind::BrokenPipe)),
+        }
+    }
+}
+
+#[test]
+fn a_write_that_takes_nothing_is_a_fault(rt: HostRuntime) {
+    let output = Stubborn {
+        calls: Cell::new(0),
+    };
+    let mut sink = StdSink::new(&output);
+    for (wanted, faults) in [(Ok(3), 0), (Err(SinkFailed), 1), (Err(SinkFailed), 2)] {
+        assert_eq!(rt; sink.put(b"left A\n"), wanted);
+        assert_eq!(rt; sink.faults, faults);
+    }
+}

@@ -1,0 +1,35 @@
+//! The world outside the tool: shelves that files are read from, sinks that text is written to, and gates
+//! that a worker passes as it begins a test.
+//!
+//! What is promised, and where:
+//! - [`Shelf::fetch`]: the answer is the beginning of the file with that name, never longer than was asked
+//!   for, and `Failed` comes only where the shelf's count of faults of that name rose.
+//! - [`Sink::put`]: a beginning of the piece was appended, and `SinkFailed` comes only where the sink's
+//!   count of faults rose, with nothing of the piece taken.
+//! - [`write_whole`]: `Ok` says that the whole text was appended, `SinkFailed` that a beginning of it was
+//!   and that the count rose. It takes no memory.
+//! - The shelves and sinks in memory tell their contents, and the contracts of their `fetch` and `put` say
+//!   exactly when a call fails and how much it takes.
+//! - `DiskShelf` and `StdSink` tell nothing of contents: what the system does is trusted.
+//!
+//! Contents that are told, and what a count that rose is, stand in `specs/Outside.antt`.
+#![tactic(auto)]
+
+mod disk;
+mod gate;
+mod held;
+mod shelf;
+mod shelves;
+mod sink;
+mod sinks;
+
+pub use disk::{DiskShelf, StdSink};
+pub use gate::{Gate, OpenGate};
+pub use held::names_differ;
+pub use shelf::{FetchError, Shelf};
+pub use shelves::{FailingShelf, MemoryShelf};
+pub use sink::{Sink, SinkFailed, write_whole};
+pub use sinks::{FailingSink, MemorySink};
+
+#[cfg(test)]
+mod tests;

@@ -1,0 +1,184 @@
+-- Equality of labels is decided.
+use Rattle.std.proofs.Common.{◌≡◌, ℤ, List, [], ◌∷◌, Option, Some, None, Bool, true, false, int_eq, refl, sym, ap, inl, inr, true≢false}
+use Rattle.std.specs.Cmp.{signed_Decides}
+use Rattle.std.proofs.lemmas.Bool.{cases_eq}
+use Rattle.csub_lex.specs.declared.operator.BinOp.{BinOp}
+use Rattle.csub_lex.specs.declared.operator.BinOp.TheVariants.{Mul, Div, Rem, Add, Sub, Shl, Shr, Lt, Gt, Le, Ge, Eq, Ne, BitAnd, BitXor, BitOr}
+use Rattle.csub_types.specs.declared.kind.IntKind.{IntKind}
+use Rattle.csub_types.specs.declared.kind.IntKind.TheVariants.{Char, Int, Unsigned}
+use Rattle.csub_core.specs.declared.label.EndRule.{EndRule}
+use Rattle.csub_core.specs.declared.label.EndRule.TheVariants.{Nothing, Value, Main, Start}
+use Rattle.csub_core.specs.Types.{Name, TypeTree, number_type, MemberTree}
+use Rattle.csub_core.specs.Trees.{NamedPlace, NamedExpr, NamedArg, variable, constant, reading, operation, input_byte, output_byte, value_argument, OwnerTree, global_owner, local_owner, Variable, object, temporary}
+use Rattle.csub_core.specs.Labels.{LabelTree, enters, exits, evaluates, branches, returns, calls, AnswerTree, CallTree, Initial, PointLabel}
+use Rattle.program_laws.specs.Decided.{Decided}
+
+-- what is built of one part, two or more is equal where all the parts are
+one : {X Y : Type 0} (f : X → Y) (a b : X) → (f a ≡ f b → a ≡ b) → Decided a b → Decided (f a) (f b)
+one f a b back (inl e) = inl (ap f e)
+one f a b back (inr n) = inr (λ e. n (back e))
+
+two : {X Y Z : Type 0} (f : X → Y → Z) (a b : X) (c d : Y) → (f a c ≡ f b d → (a ≡ b) × (c ≡ d)) → Decided a b → Decided c d → Decided (f a c) (f b d)
+two f a b c d back (inl e) (inl g) = inl (λ i. f (e i) (g i))
+two f a b c d back (inr n) y = inr (λ e. n (back e).0)
+two f a b c d back (inl e) (inr n) = inr (λ e. n (back e).1)
+
+three : {X Y Z W : Type 0} (f : X → Y → Z → W) (a b : X) (c d : Y) (p q : Z) → (f a c p ≡ f b d q → (a ≡ b) × (c ≡ d) × (p ≡ q)) → Decided a b → Decided c d → Decided p q → Decided (f a c p) (f b d q)
+three f a b c d p q back (inl e) (inl g) (inl h) = inl (λ i. f (e i) (g i) (h i))
+three f a b c d p q back (inr n) y z = inr (λ e. n (back e).0)
+three f a b c d p q back (inl e) (inr n) z = inr (λ e. n (back e).1)
+three f a b c d p q back (inl e) (inl g) (inr n) = inr (λ e. n (back e).2)
+
+four : {X Y Z V W : Type 0} (f : X → Y → Z → V → W) (a b : X) (c d : Y) (p q : Z) (m n : V) → (f a c p m ≡ f b d q n → (a ≡ b) × (c ≡ d) × (p ≡ q) × (m ≡ n)) → Decided a b → Decided c d → Decided p q → Decided m n → Decided (f a c p m) (f b d q n)
+four f a b c d p q m n back (inl e) (inl g) (inl h) (inl k) = inl (λ i. f (e i) (g i) (h i) (k i))
+four f a b c d p q m n back (inr x) y z w = inr (λ e. x (back e).0)
+four f a b c d p q m n back (inl e) (inr x) z w = inr (λ e. x (back e).1)
+four f a b c d p q m n back (inl e) (inl g) (inr x) w = inr (λ e. x (back e).2)
+four f a b c d p q m n back (inl e) (inl g) (inl h) (inr x) = inr (λ e. x (back e).3)
+
+-- and so are lists and options of such values
+
+module _ {X : Type 0} (each : (a b : X) → Decided a b) where
+  pub lists : (xs ys : List X) → Decided xs ys
+  lists [] [] = inl refl
+  lists [] _ = inr (λ e. cc)
+  lists (x ∷ xs) (y ∷ ys) = two (λ z zs. z ∷ zs) x y xs ys (λ e. (cc, cc)) (each x y) (lists xs ys)
+  lists (x ∷ xs) _ = inr (λ e. cc)
+
+  pub options : (o p : Option X) → Decided o p
+  options None None = inl refl
+  options None _ = inr (λ e. cc)
+  options (Some a) (Some b) = one Some a b (λ e. cc) (each a b)
+  options (Some a) _ = inr (λ e. cc)
+
+pub integers : (a b : ℤ) → Decided a b
+integers a b = pick (int_eq a b) (signed_Decides a b).0 (signed_Decides a b).1
+  where
+    pick : (t : Bool) → (t ≡ true → a ≡ b) → (a ≡ b → t ≡ true) → Decided a b
+    pick true yes' no' = inl (yes' refl)
+    pick false yes' no' = inr (λ e. true≢false (sym (no' e)))
+
+pub names : (a b : Name) → Decided a b
+names = lists cases_eq
+
+pub kinds : (a b : IntKind) → Decided a b
+kinds Char Char = inl refl
+kinds Char _ = inr (λ e. cc)
+kinds Int Int = inl refl
+kinds Int _ = inr (λ e. cc)
+kinds Unsigned Unsigned = inl refl
+kinds Unsigned _ = inr (λ e. cc)
+
+end_rules : (a b : EndRule) → Decided a b
+end_rules Nothing Nothing = inl refl
+end_rules Nothing _ = inr (λ e. cc)
+end_rules Value Value = inl refl
+end_rules Value _ = inr (λ e. cc)
+end_rules Main Main = inl refl
+end_rules Main _ = inr (λ e. cc)
+end_rules Start Start = inl refl
+end_rules Start _ = inr (λ e. cc)
+
+operators : (a b : BinOp) → Decided a b
+operators Mul Mul = inl refl
+operators Mul _ = inr (λ e. cc)
+operators Div Div = inl refl
+operators Div _ = inr (λ e. cc)
+operators Rem Rem = inl refl
+operators Rem _ = inr (λ e. cc)
+operators Add Add = inl refl
+operators Add _ = inr (λ e. cc)
+operators Sub Sub = inl refl
+operators Sub _ = inr (λ e. cc)
+operators Shl Shl = inl refl
+operators Shl _ = inr (λ e. cc)
+operators Shr Shr = inl refl
+operators Shr _ = inr (λ e. cc)
+operators Lt Lt = inl refl
+operators Lt _ = inr (λ e. cc)
+operators Gt Gt = inl refl
+operators Gt _ = inr (λ e. cc)
+operators Le Le = inl refl
+operators Le _ = inr (λ e. cc)
+operators Ge Ge = inl refl
+operators Ge _ = inr (λ e. cc)
+operators Eq Eq = inl refl
+operators Eq _ = inr (λ e. cc)
+operators Ne Ne = inl refl
+operators Ne _ = inr (λ e. cc)
+operators BitAnd BitAnd = inl refl
+operators BitAnd _ = inr (λ e. cc)
+operators BitXor BitXor = inl refl
+operators BitXor _ = inr (λ e. cc)
+operators BitOr BitOr = inl refl
+operators BitOr _ = inr (λ e. cc)
+
+types : (a b : TypeTree) → Decided a b
+types (number_type k) (number_type j) = one number_type k j (λ e. cc) (kinds k j)
+
+owners : (a b : OwnerTree) → Decided a b
+owners (global_owner a) (global_owner b) = one global_owner a b (λ e. cc) (names a b)
+owners (global_owner a) _ = inr (λ e. cc)
+owners (local_owner a m) (local_owner b n) = two local_owner a b m n (λ e. (cc, cc)) (names a b) (cases_eq m n)
+owners (local_owner a m) _ = inr (λ e. cc)
+
+variables : (a b : Variable) → Decided a b
+variables (object o t) (object p u) = two object o p t u (λ e. (cc, cc)) (owners o p) (types t u)
+variables (object o t) _ = inr (λ e. cc)
+variables (temporary m k) (temporary n j) = two temporary m n k j (λ e. (cc, cc)) (cases_eq m n) (kinds k j)
+variables (temporary m k) _ = inr (λ e. cc)
+
+places : (a b : NamedPlace) → Decided a b
+places (variable v) (variable w) = one variable v w (λ e. cc) (variables v w)
+
+pub exprs : (a b : NamedExpr) → Decided a b
+exprs (constant k v) (constant j w) = two constant k j v w (λ e. (cc, cc)) (kinds k j) (integers v w)
+exprs (constant k v) _ = inr (λ e. cc)
+exprs (reading p) (reading q) = one reading p q (λ e. cc) (places p q)
+exprs (reading p) _ = inr (λ e. cc)
+exprs (operation o k a b) (operation u j c d) = four operation o u k j a c b d (λ e. (cc, cc, cc, cc)) (operators o u) (kinds k j) (exprs a c) (exprs b d)
+exprs (operation o k a b) _ = inr (λ e. cc)
+exprs input_byte input_byte = inl refl
+exprs input_byte _ = inr (λ e. cc)
+exprs (output_byte a) (output_byte b) = one output_byte a b (λ e. cc) (exprs a b)
+exprs (output_byte a) _ = inr (λ e. cc)
+
+arguments : (a b : NamedArg) → Decided a b
+arguments (value_argument a) (value_argument b) = one value_argument a b (λ e. cc) (exprs a b)
+
+members : (a b : MemberTree) → Decided a b
+members a b = two (λ n t. record { name = n; ctype = t }) a.name b.name a.ctype b.ctype (λ e. (ap (λ (m : MemberTree). m.name) e, ap (λ (m : MemberTree). m.ctype) e)) (names a.name b.name) (types a.ctype b.ctype)
+
+answers : (a b : AnswerTree) → Decided a b
+answers a b = two (λ k v. record { kind = k; value = v }) a.kind b.kind a.value b.value (λ e. (ap (λ (r : AnswerTree). r.kind) e, ap (λ (r : AnswerTree). r.value) e)) (kinds a.kind b.kind) (exprs a.value b.value)
+
+call_trees : (a b : CallTree) → Decided a b
+call_trees a b = join (names a.callee b.callee) (lists members a.params b.params) (options kinds a.result b.result) (lists arguments a.args b.args) (options cases_eq a.temp b.temp)
+  where
+    join : Decided a.callee b.callee → Decided a.params b.params → Decided a.result b.result → Decided a.args b.args → Decided a.temp b.temp → Decided a b
+    join (inl c) (inl p) (inl r) (inl x) (inl t) = inl (λ i. record { callee = c i; params = p i; result = r i; args = x i; temp = t i })
+    join (inr n) p r x t = inr (λ e. n (ap (λ (c : CallTree). c.callee) e))
+    join (inl c) (inr n) r x t = inr (λ e. n (ap (λ (c : CallTree). c.params) e))
+    join (inl c) (inl p) (inr n) x t = inr (λ e. n (ap (λ (c : CallTree). c.result) e))
+    join (inl c) (inl p) (inl r) (inr n) t = inr (λ e. n (ap (λ (c : CallTree). c.args) e))
+    join (inl c) (inl p) (inl r) (inl x) (inr n) = inr (λ e. n (ap (λ (c : CallTree). c.temp) e))
+
+pub labels_alike : (a b : LabelTree) → Decided a b
+labels_alike enters enters = inl refl
+labels_alike enters _ = inr (λ e. cc)
+labels_alike (exits r) (exits u) = one exits r u (λ e. cc) (end_rules r u)
+labels_alike (exits r) _ = inr (λ e. cc)
+labels_alike (evaluates a) (evaluates b) = one evaluates a b (λ e. cc) (exprs a b)
+labels_alike (evaluates a) _ = inr (λ e. cc)
+labels_alike (branches a) (branches b) = one branches a b (λ e. cc) (exprs a b)
+labels_alike (branches a) _ = inr (λ e. cc)
+labels_alike (returns a) (returns b) = one returns a b (λ e. cc) (options answers a b)
+labels_alike (returns a) _ = inr (λ e. cc)
+labels_alike (calls c) (calls d) = one calls c d (λ e. cc) (call_trees c d)
+labels_alike (calls c) _ = inr (λ e. cc)
+
+initials : (a b : Initial) → Decided a b
+initials a b = two (λ n vs. record { name = n; contents = vs }) a.name b.name a.contents b.contents (λ e. (ap (λ (i : Initial). i.name) e, ap (λ (i : Initial). i.contents) e)) (names a.name b.name) (lists integers a.contents b.contents)
+
+pub labels : (a b : PointLabel) → Decided a b
+labels a b = two (λ t gs. record { tree = t; globals = gs }) a.tree b.tree a.globals b.globals (λ e. (ap (λ (l : PointLabel). l.tree) e, ap (λ (l : PointLabel). l.globals) e)) (labels_alike a.tree b.tree) (lists initials a.globals b.globals)

@@ -1,0 +1,47 @@
+-- The outcome of an act fits its label.
+use Rattle.std.proofs.Common.{ℕ, ◌-◌, ℤ, pos, Bool, true, false, Option, Some, None, nat_le, int_eq, refl, inl, inr, if◌then◌else◌}
+use Rattle.csub_core.specs.declared.label.EndRule.{EndRule}
+use Rattle.csub_core.specs.declared.label.EndRule.TheVariants.{Nothing, Value, Main, Start}
+use Rattle.csub_types.specs.declared.trap.Trap.TheVariants.{Depth}
+use Rattle.csub_types.specs.declared.kind.IntKind.TheVariants.{Int}
+use Rattle.csub_core.specs.declared.status.Status.{Status}
+use Rattle.csub_core.specs.declared.status.Status.TheVariants.{Exit, Trap}
+use Rattle.csub_core.specs.Types.{Name}
+use Rattle.csub_core.specs.Trees.{reading, variable, temporary}
+use Rattle.csub_core.specs.Labels.{LabelTree, enters, exits, evaluates, branches, returns, calls}
+use Rattle.csub_core.specs.Points.{on_true, on_false}
+use Rattle.csub_core.specs.Memory.{Answer, value, trapped, low_byte}
+use Rattle.csub_core.specs.Evaluation.{eval}
+use Rattle.csub_core.specs.Cells.{named, entered}
+use Rattle.csub_core.specs.Acts.{Store, Outcome, pushes, ends, after_value, argument_contents, most_frames, act_exit, act}
+use Rattle.program_laws.specs.Outcomes.{LeavesBy, Pushes, Pops, IsNext, IsOfTest, Fits}
+
+-- where all that may follow a value fits, and the end by a trap does, all fits
+fits_after : {X : Type 0} (Q : Outcome → Type 0) (a : Answer X Store) (go : X → Store → Outcome) → ((v : X) (s : Store) → Q (go v s)) → ((t : Status) (s : Store) → Q (ends t s)) → Q (after_value a go)
+fits_after Q (value v s) go each trap = each v s
+fits_after Q (trapped t s) go each trap = trap (Trap t) s
+
+of_test : (b : Bool) → IsOfTest (if b then on_false else on_true)
+of_test true = inr refl
+of_test false = inl refl
+
+pushed : (g : Name) (deep : Bool) (s t : Store) → Pushes g (if deep then ends (Trap Depth) s else pushes g t)
+pushed g true s t = tt
+pushed g false s t = refl
+
+fits_end : (rule : EndRule) (n : ℕ) (r : Option ℤ) (s : Store) → Pops rule (act_exit rule n r s)
+fits_end Nothing n r s = λ e. cc
+fits_end Value n None s = tt
+fits_end Value n (Some v) s = λ e. cc
+fits_end Main n None s = λ e. cc
+fits_end Main n (Some v) s = λ e. cc
+fits_end Start n r s = fits_after (Pops Start) (eval (named (n - 1)) (reading (variable (temporary 1 Int))) s) (λ v t. ends (Exit (low_byte v)) t) (λ v t. tt) (λ t u. tt)
+
+pub fits : (l : LabelTree) (n : ℕ) (r : Option ℤ) (s : Store) → Fits l (act l n r s)
+fits enters n r s = refl
+fits (exits rule) n r s = fits_end rule n r s
+fits (evaluates e) n r s = fits_after (LeavesBy IsNext) (eval (named (n - 1)) e s) _ (λ v t. refl) (λ t u. tt)
+fits (branches e) n r s = fits_after (LeavesBy IsOfTest) (eval (named (n - 1)) e s) _ (λ v t. of_test (int_eq v (pos 0))) (λ t u. tt)
+fits (returns None) n r s = refl
+fits (returns (Some a)) n r s = fits_after (LeavesBy IsNext) (eval (named (n - 1)) a.value s) _ (λ v t. refl) (λ t u. tt)
+fits (calls c) n r s = fits_after (Pushes c.callee) (argument_contents (n - 1) c.params c.args s) _ (λ cs t. pushed c.callee (nat_le most_frames n) t (record t { cells = entered n c.params cs t.cells })) (λ t u. tt)

@@ -1,0 +1,82 @@
+-- A valid program has what lockstep asks of it.
+use Rattle.std.proofs.Common.{◌≡◌, ◌⊎◌, inl, inr, Option, Some, None, IsTrue, option_map, All, refl, sym, ap, ◌∙◌, subst}
+use Rattle.std.specs.List.{list_any}
+use Rattle.std.specs.Ordering.{int_eq}
+use Rattle.std.proofs.lemmas.List.Elements.{All-nil}
+use Rattle.csub_core.specs.declared.label.EndRule.{EndRule}
+use Rattle.csub_core.specs.Types.{Name}
+use Rattle.csub_core.specs.Labels.{exits, calls, CallTree, Initial, PointLabel}
+use Rattle.csub_core.specs.Syntax.{FunctionTree, ProgramTree}
+use Rattle.csub_core.specs.Points.{PointTree, entry, exit, ExitTree, on_case, on_default}
+use Rattle.csub_core.specs.Successors.{Way, Node}
+use Rattle.csub_core.specs.Flows.{start_name, function_nodes, function_of, node_in, node_of, way_in, way_of, labelled, flow_of}
+use Rattle.csub_core.specs.Valid.{IsValid}
+use Rattle.program_laws.specs.Flows.{entry_label, IsFlow}
+use Rattle.program_laws.proofs.Nodes.{Leads}
+use Rattle.program_laws.proofs.Standing.{IsPoint, Stands, label_at, succ_at, cases_at, point_is, fine, entry_is, callee_defined, start_defined}
+
+module _ (P : ProgramTree) (g : Name) (p : PointTree) where
+  stands_or_not : Stands P g p ⊎ (node_of (function_of P g) p ≡ None)
+  stands_or_not = function (function_of P g) refl
+    where
+      function : (o : Option FunctionTree) → function_of P g ≡ o → Stands P g p ⊎ (node_of o p ≡ None)
+      function None d = inr refl
+      function (Some f) d = point (node_in (function_nodes f) p) refl
+        where
+          point : (o : Option (Node PointTree)) → node_in (function_nodes f) p ≡ o → Stands P g p ⊎ (o ≡ None)
+          point None at = inr refl
+          point (Some n) at = inl (record { function = f; node = n; defined = d; found = at })
+
+  -- where there is a label there is a point with it
+  pub record Labelled (l : PointLabel) : Type 0 where
+    pub stands : Stands P g p
+    pub is : labelled stands.node ≡ l
+
+  pub labelled_at : (l : PointLabel) → (flow_of P).label g p ≡ Some l → Labelled l
+  labelled_at l e = pick stands_or_not
+    where
+      pick : Stands P g p ⊎ (node_of (function_of P g) p ≡ None) → Labelled l
+      pick (inl s) = record { stands = s; is = let both : ◌≡◌ {A = Option PointLabel} (Some (labelled s.node)) (Some l) = sym (label_at P g p s) ∙ e in cc }
+      pick (inr n) = let none : ◌≡◌ {A = Option PointLabel} None (Some l) = sym (ap (option_map labelled) n) ∙ e in cc
+
+  -- where there is a way out there is a point with it
+  record Leaving (x : ExitTree) : Type 0 where
+    stands : Stands P g p
+    along : Way PointTree
+    is : way_in stands.node.ways x ≡ Some along
+
+  leaving_at : (x : ExitTree) (q : PointTree) → (flow_of P).succ g p x ≡ Some q → Leaving x
+  leaving_at x q e = pick stands_or_not
+    where
+      pick : Stands P g p ⊎ (node_of (function_of P g) p ≡ None) → Leaving x
+      pick (inl s) = out (way_in s.node.ways x) refl (sym (succ_at P g p s x) ∙ e)
+        where
+          out : (o : Option (Way PointTree)) → way_in s.node.ways x ≡ o → option_map (λ (w : Way PointTree). w.to) o ≡ Some q → Leaving x
+          out None w e = cc
+          out (Some w) is e = record { stands = s; along = w; is = is }
+      pick (inr n) = let none : ◌≡◌ {A = Option PointTree} None (Some q) = sym (ap (λ o. option_map (λ (w : Way PointTree). w.to) (way_of o x)) n) ∙ e in cc
+
+module _ (P : ProgramTree) (valid : IsValid P) where
+  called : (g : Name) (p : PointTree) (l : PointLabel) (c : CallTree) → (flow_of P).label g p ≡ Some l → l.tree ≡ calls c → (flow_of P).label c.callee entry ≡ Some entry_label
+  called g p l c e is =
+      let h = labelled_at P g p l e in
+      let label : h.stands.node.label ≡ calls c = ap (λ (m : PointLabel). m.tree) h.is ∙ is in
+      let leads = subst (λ t. Leads (IsPoint (function_nodes h.stands.function)) P h.stands.function h.stands.node.point t h.stands.node.ways) label (fine P g p valid h.stands).leads in
+      entry_is P c.callee (callee_defined P c.callee c leads.0)
+
+  exited : (g : Name) (p : PointTree) (l : PointLabel) (rule : EndRule) → (flow_of P).label g p ≡ Some l → l.tree ≡ exits rule → p ≡ exit
+  exited g p l rule e is =
+      let h = labelled_at P g p l e in
+      let label : h.stands.node.label ≡ exits rule = ap (λ (m : PointLabel). m.tree) h.is ∙ is in
+      let leads = subst (λ t. Leads (IsPoint (function_nodes h.stands.function)) P h.stands.function h.stands.node.point t h.stands.node.ways) label (fine P g p valid h.stands).leads in
+      sym (point_is P g p valid h.stands) ∙ leads.0
+
+  pub is_flow : IsFlow (flow_of P)
+  is_flow = record {
+    starts = entry_is P start_name (start_defined P valid.start);
+    called = called;
+    leaves = exited;
+    cased = λ g p q v e. let h = leaving_at P g p (on_case v) q e in subst (λ vs. IsTrue (list_any (λ w. int_eq w v) vs)) (sym (cases_at P g p h.stands)) ((fine P g p valid h.stands).cases.cased v h.along h.is);
+    defaulted = λ g p q vs e. let h = leaving_at P g p (on_default vs) q e in (fine P g p valid h.stands).cases.defaulted vs h.along h.is ∙ sym (cases_at P g p h.stands);
+    named = λ g p l e. subst (λ (m : PointLabel). All (λ (i : Initial). (flow_of P).initial i.name ≡ Some i.contents) m.globals) (labelled_at P g p l e).is (All-nil (λ (i : Initial). (flow_of P).initial i.name ≡ Some i.contents));
+  }

@@ -1,0 +1,30 @@
+-- What holds of each element of a list, and of the one that is found.
+use Rattle.std.proofs.Common.{◌≡◌, List, [], ◌∷◌, ◌++◌, Bool, true, false, cond, Some, find, refl, subst}
+use Rattle.std.specs.List.{AllByRecursion}
+
+module _ {X : Type 0} (Q : X → Type 0) where
+  pub each_append : (xs ys : List X) → AllByRecursion Q xs → AllByRecursion Q ys → AllByRecursion Q (xs ++ ys)
+  each_append [] ys h g = g
+  each_append (x ∷ xs) ys h g = (h.0, each_append xs ys h.1 g)
+
+  pub each_left : (xs ys : List X) → AllByRecursion Q (xs ++ ys) → AllByRecursion Q xs
+  each_left [] ys h = tt
+  each_left (x ∷ xs) ys h = (h.0, each_left xs ys h.1)
+
+  pub each_right : (xs ys : List X) → AllByRecursion Q (xs ++ ys) → AllByRecursion Q ys
+  each_right [] ys h = h
+  each_right (x ∷ xs) ys h = each_right xs ys h.1
+
+  pub each_weaker : (R : X → Type 0) → ((x : X) → Q x → R x) → (xs : List X) → AllByRecursion Q xs → AllByRecursion R xs
+  each_weaker R f [] h = tt
+  each_weaker R f (x ∷ xs) h = (f x h.0, each_weaker R f xs h.1)
+
+-- what is found is one of the list, and passes the test
+module _ {X : Type 0} (test : X → Bool) where
+  pub found_each : (Q : X → Type 0) (xs : List X) (x : X) → find test xs ≡ Some x → AllByRecursion Q xs → Q x × (test x ≡ true)
+  found_each Q [] x e h = cc
+  found_each Q (y ∷ ys) x e h = pick (test y) refl e (λ g. found_each Q ys x g h.1)
+    where
+      pick : (b : Bool) → test y ≡ b → cond b (Some y) (find test ys) ≡ Some x → (find test ys ≡ Some x → Q x × (test x ≡ true)) → Q x × (test x ≡ true)
+      pick true t e rest = let same : y ≡ x = cc in subst (λ z. Q z × (test z ≡ true)) same (h.0, t)
+      pick false t e rest = rest e

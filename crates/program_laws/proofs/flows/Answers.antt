@@ -1,0 +1,5 @@
+use Rattle.program_laws.proofs.Labelled.{is_flow}
+use Rattle.program_laws.proofs.flows.Goals as goal
+
+pub returns : goal.returns
+returns c = is_flow

@@ -1,0 +1,5 @@
+use Rattle.program_laws.proofs.Fitting.{fits}
+use Rattle.program_laws.proofs.outcomes.Goals as goal
+
+pub returns : goal.returns
+returns c = fits

@@ -1,0 +1,4 @@
+pub mod Outcomes
+pub mod Flows
+pub mod Lost
+pub mod Decided

@@ -1,0 +1,38 @@
+//! Laws of the definitions of `csub_core`: what holds of every valid program, of every act and of every label.
+//!
+//! Each law is the contract of a function without parameters, whose body does nothing: [`never_lost`] says that a run
+//! of a valid program never gets stuck, [`flows`] what lockstep asks of a program, [`outcomes`] which outcomes a label
+//! may have, and [`decided_labels`] that labels can be compared.
+#![tactic(auto)]
+
+ghost use Rattle.std.specs.Prelude.{ℕ, ℤ, Option};
+ghost use Rattle.csub_core.specs.Labels.{LabelTree, PointLabel};
+ghost use Rattle.csub_core.specs.Syntax.{ProgramTree};
+ghost use Rattle.csub_core.specs.Flows.{flow_of};
+ghost use Rattle.csub_core.specs.Acts.{Store, act};
+ghost use Rattle.csub_core.specs.Valid.{IsValid};
+ghost use Rattle.program_laws.specs.Outcomes.{Fits};
+ghost use Rattle.program_laws.specs.Flows.{IsFlow};
+ghost use Rattle.program_laws.specs.Lost.{NeverLost, HasResults};
+ghost use Rattle.program_laws.specs.Decided.{Decided};
+
+/// A run of a valid program is never lost, so that it has results within every budget of turns.
+pub fn never_lost()
+    ensures moments { (P : ProgramTree) → IsValid P → NeverLost P }
+    ensures results { (P : ProgramTree) → IsValid P → HasResults P }
+{}
+
+/// A valid program has what lockstep asks of it.
+pub fn flows()
+    ensures { (P : ProgramTree) → IsValid P → IsFlow (flow_of P) }
+{}
+
+/// The outcome of an act fits its label.
+pub fn outcomes()
+    ensures { (l : LabelTree) (frames : ℕ) (r : Option ℤ) (s : Store) → Fits l (act l frames r s) }
+{}
+
+/// Two labels are equal or not.
+pub fn decided_labels()
+    ensures { (a b : PointLabel) → Decided a b }
+{}
