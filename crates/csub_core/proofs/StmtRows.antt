@@ -15,11 +15,3 @@ row_trees-list (more_of-RStmt s rest) = ap (λ t. more_stmts (stmt_tree s) t) (r
 -- what a block stands for
 pub stmt_tree-Block : (stmts : Vec RStmt Global) → stmt_tree (Block stmts) ≡ block (stmts_of (map stmt_tree stmts.items))
 stmt_tree-Block stmts = search (rules, row_trees-list, the_lemmas)
-
-pub count_list-sum_by : (further : ℕ) (ss : List RStmt) → count_list further (stmts_of (map stmt_tree ss)) ≡ sum_by (λ s. count further (stmt_tree s)) ss
-count_list-sum_by further [] = refl
-count_list-sum_by further (s ∷ ss) =
-    ap (λ n. count further (stmt_tree s) + n) (count_list-sum_by further ss) ∙ sym (sum_by-cons (λ t. count further (stmt_tree t)) s ss)
-
-pub count-Block : (further : ℕ) (stmts : Vec RStmt Global) → count further (stmt_tree (Block stmts)) ≡ sum_by (λ s. count further (stmt_tree s)) stmts.items
-count-Block further stmts = ap (count further) (stmt_tree-Block stmts) ∙ count_list-sum_by further stmts.items

@@ -5,10 +5,14 @@ use Rattle.std.specs.Option.{SomeIff}
 use Rattle.std.proofs.lemmas.List.{length-map, map-append}
 use Rattle.std.proofs.lemmas.List.Sums.{sum_by-cons}
 use Rattle.std.proofs.lemmas.List.Concat.{flat_map-append}
+use Rattle.std.specs.declared.vec.Vec.{Vec}
+use Rattle.std.specs.declared.alloc.Global.{Global}
 use Rattle.csub_core.specs.declared.function.Function.{Function}
+use Rattle.csub_core.specs.declared.function.RStmt.{RStmt, Block}
 use Rattle.csub_core.specs.Types.{Name}
 use Rattle.csub_core.specs.Labels.{LabelTree, enters, exits, evaluates, branches, returns, calls}
-use Rattle.csub_core.specs.Syntax.{PartTree, StmtTree, StmtTrees, ElseTree, parts, block, conditional, no_stmt, more_stmts, no_else, else_stmt, FunctionTree, ProgramTree, function_tree}
+use Rattle.csub_core.specs.Syntax.{PartTree, StmtTree, StmtTrees, ElseTree, parts, block, conditional, no_stmt, more_stmts, no_else, else_stmt, FunctionTree, ProgramTree, function_tree, stmt_tree, stmts_of}
+use Rattle.csub_core.proofs.StmtRows.{stmt_tree-Block}
 use Rattle.csub_core.specs.Points.{PointTree, entry, exit, at, next}
 use Rattle.csub_core.specs.Successors.{Way, Node, Around, own_ways, last_ways, part_nodes, parts_nodes, nodes, nodes_list, nodes_else, leaving, way, test_ways, enter, enter_list, enter_else, enter_parts}
 use Rattle.csub_core.specs.Flows.{function_nodes, to_exit, end_rule, placed, edges_from, point_list, edge_list}
@@ -19,6 +23,15 @@ pub SomeIff-after : (r : Option ℕ) (a s left inside : ℕ) → a ≤ left → 
 SomeIff-after None a s left inside h e n = λ k. n (omega arith)
 SomeIff-after (Some x) a s left inside h e n =
     let below : s ≤ inside = n.0 in let is : x ≡ inside - s = n.1 in (omega arith, omega arith)
+
+-- the statements of a list are counted one by one
+pub count_list-sum_by : (further : ℕ) (ss : List RStmt) → count_list further (stmts_of (map stmt_tree ss)) ≡ sum_by (λ s. count further (stmt_tree s)) ss
+count_list-sum_by further [] = refl
+count_list-sum_by further (s ∷ ss) =
+    ap (λ n. count further (stmt_tree s) + n) (count_list-sum_by further ss) ∙ sym (sum_by-cons (λ t. count further (stmt_tree t)) s ss)
+
+pub count-Block : (further : ℕ) (stmts : Vec RStmt Global) → count further (stmt_tree (Block stmts)) ≡ sum_by (λ s. count further (stmt_tree s)) stmts.items
+count-Block further stmts = ap (count further) (stmt_tree-Block stmts) ∙ count_list-sum_by further stmts.items
 
 module _ {X : Type 0} where
   -- how many ways out points have

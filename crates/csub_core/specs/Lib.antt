@@ -12,4 +12,5 @@ pub mod Cells
 pub mod Acts
 pub mod Runs
 pub mod Valid
+pub mod Books
 pub mod Checks

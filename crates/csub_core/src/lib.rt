@@ -3,7 +3,7 @@
 //! `specs/` says what a program does, in this order: types, resolved expressions, labels and statements as values
 //! (`Types`, `Trees`, `Labels`, `Syntax`); points by places in the syntax and where they lead (`Points`, `Successors`,
 //! `Flows`); evaluation over any memory, and over named cells (`Memory`, `Evaluation`, `Cells`); the act of a label
-//! (`Acts`); turns and runs (`Runs`).
+//! (`Acts`); turns and runs (`Runs`); valid programs (`Valid`); the walk of two programs together (`Books`).
 //!
 //! What is promised of the code: the copies of [`copy`] are equal to what they copy.
 #![tactic(auto)]

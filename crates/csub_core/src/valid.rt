@@ -114,3 +114,6 @@ fn is_plain(function: &Function) -> bool
 {
     function.params.is_empty() && function.locals.is_empty()
 }
+
+#[cfg(test)]
+mod tests;

@@ -17,82 +17,83 @@ const MOST_EDGES: usize = 10_000;
 pub(crate) fn has_few_points(functions: &[Function]) -> bool
     ensures { IsTrue result ↔ (length (point_list (map function_tree functions.now)) ≤ most_points) }
 {
-    left_of_functions(functions, 2, 0, MOST_POINTS).is_some()
+    room_after_functions(functions, 2, 0, MOST_POINTS).is_some()
 }
 
 /// Whether the functions have at most 10,000 edges: an entry and each stage have one, and a test has two.
 pub(crate) fn has_few_edges(functions: &[Function]) -> bool
     ensures { IsTrue result ↔ (length (edge_list (map function_tree functions.now)) ≤ most_edges) }
 {
-    left_of_functions(functions, 1, 1, MOST_EDGES).is_some()
+    room_after_functions(functions, 1, 1, MOST_EDGES).is_some()
 }
 
-/// What the count of the functions leaves of `most`.
-fn left_of_functions(functions: &[Function], ends: usize, further: usize, most: usize) -> Option<usize>
+/// What is left of `most` after the count of the functions.
+fn room_after_functions(functions: &[Function], ends: usize, further: usize, most: usize) -> Option<usize>
     ensures { SomeIff result (sum_by (λ f. count_function ends further (function_tree f)) functions.now ≤ most) (most - sum_by (λ f. count_function ends further (function_tree f)) functions.now) }
 {
-    let mut left = most;
+    let mut room = most;
     for function in functions {
-        left = left_of_function(function, ends, further, left)?;
+        room = room_after_function(function, ends, further, room)?;
     }
-    Some(left)
+    Some(room)
 }
 
-fn left_of_function(function: &Function, ends: usize, further: usize, left: usize) -> Option<usize>
-    ensures { SomeIff result (count_function ends further (function_tree function.now) ≤ left) (left - count_function ends further (function_tree function.now)) }
+/// What is left of `room` after the count of a function, which has `ends` beside its body.
+fn room_after_function(function: &Function, ends: usize, further: usize, room: usize) -> Option<usize>
+    ensures { SomeIff result (count_function ends further (function_tree function.now) ≤ room) (room - count_function ends further (function_tree function.now)) }
 {
-    let inside = left.checked_sub(ends)?;
-    left_of_stmts(&function.body, further, inside)
+    let inside = room.checked_sub(ends)?;
+    room_after_stmts(&function.body, further, inside)
 }
 
-/// What the count of a statement leaves of `left`.
+/// What is left of `room` after the count of a statement, in which a test counts `further` more than its stages.
 #[cycle(count)]
-fn left_of_stmt(stmt: &RStmt, further: usize, left: usize) -> Option<usize>
-    ensures { SomeIff result (count further (stmt_tree stmt.now) ≤ left) (left - count further (stmt_tree stmt.now)) }
+fn room_after_stmt(stmt: &RStmt, further: usize, room: usize) -> Option<usize>
+    ensures { SomeIff result (count further (stmt_tree stmt.now) ≤ room) (room - count further (stmt_tree stmt.now)) }
 {
     match stmt {
-        RStmt::Parts(parts) => left_of_parts(parts, left),
-        RStmt::Block(stmts) => left_of_stmts(stmts, further, left),
+        RStmt::Parts(parts) => room_after_parts(parts, room),
+        RStmt::Block(stmts) => room_after_stmts(stmts, further, room),
         RStmt::If(test, then, other) => {
-            let after_test = left_of_test(test, further, left)?;
-            let after_then = left_of_stmt(then, further, after_test)?;
+            let after_test = room_after_test(test, further, room)?;
+            let after_then = room_after_stmt(then, further, after_test)?;
             match other {
                 None => Some(after_then),
-                Some(stmt) => left_of_stmt(stmt, further, after_then),
+                Some(stmt) => room_after_stmt(stmt, further, after_then),
             }
         }
     }
 }
 
 #[cycle(count)]
-fn left_of_stmts(stmts: &[RStmt], further: usize, left: usize) -> Option<usize>
-    ensures { SomeIff result (sum_by (λ s. count further (stmt_tree s)) stmts.now ≤ left) (left - sum_by (λ s. count further (stmt_tree s)) stmts.now) }
+fn room_after_stmts(stmts: &[RStmt], further: usize, room: usize) -> Option<usize>
+    ensures { SomeIff result (sum_by (λ s. count further (stmt_tree s)) stmts.now ≤ room) (room - sum_by (λ s. count further (stmt_tree s)) stmts.now) }
 {
-    let mut rest = left;
+    let mut rest = room;
     for stmt in stmts {
-        rest = left_of_stmt(stmt, further, rest)?;
+        rest = room_after_stmt(stmt, further, rest)?;
     }
     Some(rest)
 }
 
-fn left_of_parts(parts: &[RPart], left: usize) -> Option<usize>
-    ensures { SomeIff result (sum_by (λ p. length (part_tree p)) parts.now ≤ left) (left - sum_by (λ p. length (part_tree p)) parts.now) }
+fn room_after_parts(parts: &[RPart], room: usize) -> Option<usize>
+    ensures { SomeIff result (sum_by (λ p. length (part_tree p)) parts.now ≤ room) (room - sum_by (λ p. length (part_tree p)) parts.now) }
 {
-    let mut rest = left;
+    let mut rest = room;
     for part in parts {
         rest = rest.checked_sub(stages_of(part))?;
     }
     Some(rest)
 }
 
-fn left_of_test(test: &RPart, further: usize, left: usize) -> Option<usize>
-    ensures { SomeIff result (count_test further (part_tree test.now) ≤ left) (left - count_test further (part_tree test.now)) }
+fn room_after_test(test: &RPart, further: usize, room: usize) -> Option<usize>
+    ensures { SomeIff result (count_test further (part_tree test.now) ≤ room) (room - count_test further (part_tree test.now)) }
 {
     let stages = stages_of(test);
     if stages == 0 {
-        return Some(left);
+        return Some(room);
     }
-    left.checked_sub(stages)?.checked_sub(further)
+    room.checked_sub(stages)?.checked_sub(further)
 }
 
 /// How many stages a part has: its calls, and its own point where it has one.

@@ -3,6 +3,6 @@ use Rattle.csub_core.specs.Syntax.{stmt_tree}
 use Rattle.csub_core.specs.Checks.{count}
 use Rattle.csub_core.proofs.valid.counts.+count.Given as goal
 
-abbrev pub invariant-left_of_stmts-loop-stmt : goal.invariant-left_of_stmts-loop-stmt
-invariant-left_of_stmts-loop-stmt l =
-    l.rest + sum_by (λ s. count l.further (stmt_tree s)) (take l.stmt-index l.stmts) ≡ l.left
+abbrev pub invariant-room_after_stmts-loop-stmt : goal.invariant-room_after_stmts-loop-stmt
+invariant-room_after_stmts-loop-stmt l =
+    l.rest + sum_by (λ s. count l.further (stmt_tree s)) (take l.stmt-index l.stmts) ≡ l.room

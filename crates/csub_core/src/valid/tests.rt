@@ -1,0 +1,167 @@
+//! Programs that are valid, and programs that break one rule each.
+use crate::expression::RExpr;
+use crate::function::{Function, RCall, RPart, RStmt};
+use crate::label::{Answer, CallLabel, Label};
+use crate::program::Program;
+use csub_lex::{Span, Text};
+use csub_types::IntKind;
+use std::alloc::{AllocError, Global};
+use std::test::Fail;
+
+const NOWHERE: Span = Span { start: 0, end: 0 };
+
+/// A function without objects, with the temporaries that its calls need.
+fn function(
+    alloc: Global,
+    name: &[u8],
+    outcome: Option<IntKind>,
+    temps: u32,
+    body: Vec<RStmt>,
+) -> Result<Function, AllocError> {
+    Ok(Function {
+        name: Text::new(alloc, name)?,
+        params: Vec::new(alloc),
+        result: outcome,
+        body,
+        span: NOWHERE,
+        locals: Vec::new(alloc),
+        temps,
+    })
+}
+
+/// `#start`, which calls the function of a name as an `int` function into its temporary 1.
+fn start(alloc: Global, callee: &[u8]) -> Result<Function, AllocError> {
+    let label = CallLabel {
+        callee: Text::new(alloc, callee)?,
+        params: Vec::new(alloc),
+        result: Some(IntKind::Int),
+        args: Vec::new(alloc),
+        temp: Some(1),
+    };
+    let mut calls = Vec::new(alloc);
+    calls.push(RCall { label, span: NOWHERE })?;
+    let mut parts = Vec::new(alloc);
+    parts.push(RPart { calls, main: None, span: NOWHERE })?;
+    let mut body = Vec::new(alloc);
+    body.push(RStmt::Parts(parts))?;
+    function(alloc, b"#start", None, 1, body)
+}
+
+/// A part of one point.
+fn part(alloc: Global, label: Label) -> RPart {
+    RPart { calls: Vec::new(alloc), main: Some(label), span: NOWHERE }
+}
+
+/// A statement of one point.
+fn line(alloc: Global, label: Label) -> Result<RStmt, AllocError> {
+    let mut parts = Vec::new(alloc);
+    parts.push(part(alloc, label))?;
+    Ok(RStmt::Parts(parts))
+}
+
+/// A constant as a statement.
+fn constant(alloc: Global, kind: IntKind, value: i64) -> Result<RStmt, AllocError> {
+    line(alloc, Label::Eval(RExpr::Const(kind, value)))
+}
+
+/// `return 0;`
+fn answer(alloc: Global, kind: IntKind) -> Result<RStmt, AllocError> {
+    let value = RExpr::Const(IntKind::Int, 0);
+    line(alloc, Label::Return(Some(Answer { kind, value })))
+}
+
+/// `if (0) {}`
+fn empty_if(alloc: Global) -> Result<RStmt, AllocError> {
+    let test = part(alloc, Label::Branch(RExpr::Const(IntKind::Int, 0)));
+    let nothing = RStmt::Block(Vec::new(alloc));
+    Ok(RStmt::If(test, Box::new(alloc, nothing)?, None))
+}
+
+/// `#start` and `main` with a body.
+fn program(alloc: Global, body: Vec<RStmt>) -> Result<Vec<Function>, AllocError> {
+    let mut functions = Vec::new(alloc);
+    functions.push(start(alloc, b"main")?)?;
+    functions.push(function(alloc, b"main", Some(IntKind::Int), 0, body)?)?;
+    Ok(functions)
+}
+
+/// The program whose `main` is one line.
+fn one_line(alloc: Global, line: RStmt) -> Result<Vec<Function>, AllocError> {
+    let mut body = Vec::new(alloc);
+    body.push(line)?;
+    program(alloc, body)
+}
+
+/// The program whose `main` has so many points, and after them so many tests.
+fn long_program(alloc: Global, points: usize, tests: usize) -> Result<Vec<Function>, AllocError> {
+    let mut body = Vec::new(alloc);
+    for _ in 0..points {
+        body.push(constant(alloc, IntKind::Int, 0)?)?;
+    }
+    for _ in 0..tests {
+        body.push(empty_if(alloc)?)?;
+    }
+    program(alloc, body)
+}
+
+#[test]
+fn the_smallest_program_is_accepted(rt: HostRuntime) -> Result<(), Fail> {
+    let functions = program(rt.alloc(), Vec::new(rt.alloc()))?;
+    let made = Program::make(functions).ok_or("refused")?;
+    assert_eq!(rt; made.functions().len(), 2);
+    Ok(())
+}
+
+#[test]
+fn start_calls_main_alone_and_names_differ(rt: HostRuntime) -> Result<(), Fail> {
+    let alloc = rt.alloc();
+    let mut without_main = Vec::new(alloc);
+    without_main.push(start(alloc, b"main")?)?;
+    assert!(rt; Program::make(without_main).is_none());
+
+    let mut other_call = Vec::new(alloc);
+    other_call.push(start(alloc, b"work")?)?;
+    other_call.push(function(alloc, b"main", Some(IntKind::Int), 0, Vec::new(alloc))?)?;
+    assert!(rt; Program::make(other_call).is_none());
+
+    let mut twice = program(alloc, Vec::new(alloc))?;
+    twice.push(function(alloc, b"main", Some(IntKind::Int), 0, Vec::new(alloc))?)?;
+    assert!(rt; Program::make(twice).is_none());
+    Ok(())
+}
+
+#[test]
+fn values_have_their_kinds(rt: HostRuntime) -> Result<(), Fail> {
+    let alloc = rt.alloc();
+    for (kind, accepted) in [(IntKind::Int, true), (IntKind::Char, false)] {
+        let functions = one_line(alloc, answer(alloc, kind)?)?;
+        assert_eq!(rt; Program::make(functions).is_some(), accepted);
+    }
+    for (kind, value, accepted) in [
+        (IntKind::Char, 127, true),
+        (IntKind::Char, 128, false),
+        (IntKind::Unsigned, 4_294_967_295, true),
+        (IntKind::Unsigned, -1, false),
+        (IntKind::Int, -2_147_483_648, true),
+        (IntKind::Int, 2_147_483_648, false),
+    ] {
+        let functions = one_line(alloc, constant(alloc, kind, value)?)?;
+        assert_eq!(rt; Program::make(functions).is_some(), accepted, "at {value}");
+    }
+    Ok(())
+}
+
+// The entries, the exits and the call in `#start` are 5 points and 3 edges of a program with two functions.
+#[test]
+fn a_program_has_at_most_10000_points_and_edges(rt: HostRuntime) -> Result<(), Fail> {
+    for (points, tests, accepted) in [
+        (9_995, 0, true),
+        (9_996, 0, false),
+        (1, 4_998, true),
+        (0, 4_999, false),
+    ] {
+        let functions = long_program(rt.alloc(), points, tests)?;
+        assert_eq!(rt; Program::make(functions).is_some(), accepted, "at {points} and {tests}");
+    }
+    Ok(())
+}
