@@ -1,12 +1,9 @@
 -- What the elements of a vector of statements stand for, read as a row of a statement or as a list.
-use Rattle.std.proofs.Common.{◌≡◌, ◌∙◌, ℕ, ◌+◌, List, [], ◌∷◌, map, refl, ap, sym, rules, sum_by, length}
-use Rattle.std.proofs.lemmas.List.Sums.{sum_by-cons}
+use Rattle.std.proofs.Common.{◌≡◌, map, refl, ap, rules}
 use Rattle.std.specs.declared.vec.Vec.{Vec}
 use Rattle.std.specs.declared.alloc.Global.{Global}
-use Rattle.csub_core.specs.declared.function.RPart.{RPart}
-use Rattle.csub_core.specs.declared.function.RStmt.{RStmt, Parts, Block, Row_of-RStmt, end_of-RStmt, more_of-RStmt, items-the_row-RStmt, the_lemmas}
-use Rattle.csub_core.specs.Syntax.{parts, block, more_stmts, part_tree, stmt_tree, row_trees, stmts_of}
-use Rattle.csub_core.specs.Checks.{count, count_list}
+use Rattle.csub_core.specs.declared.function.RStmt.{RStmt, Block, Row_of-RStmt, end_of-RStmt, more_of-RStmt, items-the_row-RStmt, the_lemmas}
+use Rattle.csub_core.specs.Syntax.{block, more_stmts, stmt_tree, row_trees, stmts_of}
 
 pub row_trees-list : {m : _} (row : Row_of-RStmt m) → row_trees row ≡ stmts_of (map stmt_tree (items-the_row-RStmt m row))
 row_trees-list end_of-RStmt = refl

@@ -1,8 +1,8 @@
 -- The counts of points and ways out, against the lists of points and edges.
-use Rattle.std.proofs.Common.{◌≡◌, ◌∙◌, ℕ, ◌+◌, ◌-◌, ◌≤◌, List, [], ◌∷◌, ◌++◌, map, length, length-append, Option, Some, None, is_some, IsTrue, ◌↔◌, refl, ap, sym, rules, arith, sum_by}
+use Rattle.std.proofs.Common.{◌≡◌, ◌∙◌, ℕ, ◌+◌, ◌-◌, ◌≤◌, List, [], ◌∷◌, ◌++◌, map, length, length-append, Option, Some, None, is_some, IsTrue, ◌↔◌, refl, ap, sym, arith, sum_by}
 use Rattle.std.specs.List.{flat_map}
 use Rattle.std.specs.Option.{SomeIff}
-use Rattle.std.proofs.lemmas.List.{length-map, map-append}
+use Rattle.std.proofs.lemmas.List.{length-map}
 use Rattle.std.proofs.lemmas.List.Sums.{sum_by-cons}
 use Rattle.std.proofs.lemmas.List.Concat.{flat_map-append}
 use Rattle.std.specs.declared.vec.Vec.{Vec}
@@ -11,10 +11,10 @@ use Rattle.csub_core.specs.declared.function.Function.{Function}
 use Rattle.csub_core.specs.declared.function.RStmt.{RStmt, Block}
 use Rattle.csub_core.specs.Types.{Name}
 use Rattle.csub_core.specs.Labels.{LabelTree, enters, exits, evaluates, branches, returns, calls}
-use Rattle.csub_core.specs.Syntax.{PartTree, StmtTree, StmtTrees, ElseTree, parts, block, conditional, no_stmt, more_stmts, no_else, else_stmt, FunctionTree, ProgramTree, function_tree, stmt_tree, stmts_of}
+use Rattle.csub_core.specs.Syntax.{PartTree, StmtTree, StmtTrees, ElseTree, parts, block, conditional, no_stmt, more_stmts, no_else, else_stmt, FunctionTree, function_tree, stmt_tree, stmts_of}
 use Rattle.csub_core.proofs.StmtRows.{stmt_tree-Block}
-use Rattle.csub_core.specs.Points.{PointTree, entry, exit, at, next}
-use Rattle.csub_core.specs.Successors.{Way, Node, Around, own_ways, last_ways, part_nodes, parts_nodes, nodes, nodes_list, nodes_else, leaving, way, test_ways, enter, enter_list, enter_else, enter_parts}
+use Rattle.csub_core.specs.Points.{PointTree, exit, at}
+use Rattle.csub_core.specs.Successors.{Way, Node, Around, own_ways, last_ways, part_nodes, parts_nodes, nodes, nodes_list, nodes_else, leaving, test_ways, enter, enter_list, enter_else, enter_parts}
 use Rattle.csub_core.specs.Flows.{function_nodes, to_exit, end_rule, placed, edges_from, point_list, edge_list}
 use Rattle.csub_core.specs.Checks.{count, count_list, count_else, count_test, count_function}
 

@@ -1,5 +1,5 @@
 -- Lists of code values, read as the lists of what they stand for.
-use Rattle.std.proofs.Common.{◌≡◌, ◌↔◌, ℕ, ◌+◌, ◌<◌, Bool, cond, List, [], ◌∷◌, map, length, get_or, drop, All, AllPairs, add-one, drop-cons, refl, ap, rules, arith, zero, suc, subst, sym, Option, Some, find}
+use Rattle.std.proofs.Common.{◌≡◌, ◌↔◌, ℕ, ◌+◌, ◌<◌, Bool, cond, List, [], ◌∷◌, map, length, get_or, drop, All, AllPairs, add-one, drop-cons, refl, arith, subst, Some, find}
 use Rattle.std.proofs.lemmas.List.{get_or-map, length-map}
 use Rattle.std.proofs.lemmas.List.Elements.{All-map}
 

@@ -1,11 +1,11 @@
 -- The stages of a part: its calls, and what stands behind them.
-use Rattle.std.proofs.Common.{◌≡◌, ◌↔◌, ◌∙◌, ℕ, zero, suc, ◌+◌, ◌<◌, List, [], ◌∷◌, ◌++◌, map, length, get_or, Option, Some, None, refl, ap, sym, subst, rules, arith}
+use Rattle.std.proofs.Common.{◌≡◌, ◌↔◌, ℕ, zero, suc, ◌+◌, ◌<◌, List, [], ◌∷◌, ◌++◌, map, length, get_or, Option, Some, None, sym, subst, arith}
 use Rattle.csub_core.specs.declared.function.RCall.{RCall}
 use Rattle.csub_core.specs.declared.valid.role.Role.{Role}
 use Rattle.csub_core.specs.declared.valid.role.Role.TheVariants.{Whole, Test}
 use Rattle.csub_lex.specs.declared.span.Span.{Span}
 use Rattle.csub_core.specs.Labels.{LabelTree, call_tree}
-use Rattle.csub_core.specs.Syntax.{Stage, PartTree, call_stage, own_stage, FunctionTree, ProgramTree}
+use Rattle.csub_core.specs.Syntax.{Stage, call_stage, own_stage, FunctionTree, ProgramTree}
 use Rattle.csub_core.specs.Valid.{IsCall, IsLast, IsPart}
 use Rattle.csub_core.specs.Checks.{AreCalls, IsEnd}
 
@@ -44,9 +44,10 @@ module _ (P : ProgramTree) (f : FunctionTree) where
   IsPart-own role k (c ∷ cs) s =
       let more = IsPart-more role k c cs s in
       let rest = IsPart-own role (k + 1) cs s in
-      let same : length cs + (k + 1) ≡ suc (length cs) + k = omega arith in
-      (λ h. let both = more.0 h in let others = rest.0 both.1 in ((both.0, others.0), subst (λ n. IsLast P f role n s.label) same others.1),
-        λ h. more.1 (h.0.0, rest.1 (h.0.1, subst (λ n. IsLast P f role n s.label) (sym same) h.1)))
+      let same : length cs + (k + 1) ≡ suc (length cs) + k = omega arith in (
+        λ h. let both = more.0 h in let others = rest.0 both.1 in ((both.0, others.0), subst (λ n. IsLast P f role n s.label) same others.1),
+        λ h. more.1 (h.0.0, rest.1 (h.0.1, subst (λ n. IsLast P f role n s.label) (sym same) h.1)),
+      )
 
   IsPart-calls : (k : ℕ) (c : RCall) (cs : List RCall) → IsPart P f Whole k (map call_stage (c ∷ cs) ++ []) ↔ FitFrom k (c ∷ cs)
   IsPart-calls k c [] = (λ h. (h, tt), λ h. h.0)

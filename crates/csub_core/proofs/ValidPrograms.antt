@@ -1,5 +1,5 @@
 -- Validity of a program, by what is looked at in turn.
-use Rattle.std.proofs.Common.{◌≡◌, ◌≢◌, ◌↔◌, ◌∙◌, ℕ, ◌<◌, List, [], ◌∷◌, map, length, get_or, All, AllPairs, ap, refl, sym}
+use Rattle.std.proofs.Common.{◌≡◌, ◌≢◌, ◌↔◌, ◌∙◌, ℕ, ◌<◌, List, map, length, get_or, All, AllPairs, ap, refl, sym}
 use Rattle.std.specs.List.{AllWithin}
 use Rattle.std.proofs.lemmas.List.Elements.{at_read}
 use Rattle.csub_core.specs.declared.function.Function.{Function}
@@ -23,7 +23,8 @@ AreNamed-split fs =
 valid_parts : (P : ProgramTree) → IsValid P → IsFramed P × All (IsFunction P) P
 valid_parts P h = (
   ((h.functions, h.points, h.edges), ((h.start, h.main), h.distinct)),
-  λ k d below. ((h.plain k d below, h.frames k d below), h.bodies k d below))
+  λ k d below. ((h.plain k d below, h.frames k d below), h.bodies k d below),
+)
 
 valid_from_parts : (P : ProgramTree) → IsFramed P → All (IsFunction P) P → IsValid P
 valid_from_parts P framed each = record {

@@ -1,9 +1,8 @@
 -- The first function of a program, `#start`, by the parts of its definition.
-use Rattle.std.proofs.Common.{◌≡◌, ◌↔◌, ℕ, ◌<◌, List, [], ◌∷◌, map, length, get_or, refl, sym, subst, arith}
-use Rattle.csub_core.specs.declared.function.Function.{Function}
+use Rattle.std.proofs.Common.{◌≡◌, List, [], ◌∷◌, map, length, refl}
 use Rattle.csub_core.specs.declared.function.RStmt.{RStmt}
-use Rattle.csub_core.specs.Syntax.{StmtTree, StmtTrees, parts, block, conditional, more_stmts, stmt_tree, stmts_of, function_tree}
-use Rattle.csub_core.specs.Valid.{IsStartBody, IsStart, BeginsWithStart}
+use Rattle.csub_core.specs.Syntax.{StmtTree, StmtTrees, parts, block, conditional, more_stmts, stmt_tree, stmts_of}
+use Rattle.csub_core.specs.Valid.{IsStartBody}
 
 two_lines : (s t : StmtTree) (rest : StmtTrees) → IsStartBody (more_stmts s (more_stmts t rest)) → ⊥
 two_lines (parts ps) t rest h = h

@@ -15,9 +15,10 @@ module _ (P : ProgramTree) (f : FunctionTree) where
   pub AreStmts-All : (ss : List RStmt) → AreStmts P f (stmts_of (map stmt_tree ss)) ↔ All (λ s. IsStmt P f (stmt_tree s)) ss
   AreStmts-All [] = (λ h. All-nil (λ s. IsStmt P f (stmt_tree s)), λ h. tt)
   AreStmts-All (s ∷ ss) =
-      let rest = AreStmts-All ss in
-      (λ h. All-cons (λ t. IsStmt P f (stmt_tree t)) s ss h.0 (rest.0 h.1),
-        λ h. (All-head (λ t. IsStmt P f (stmt_tree t)) s ss h, rest.1 (All-tail (λ t. IsStmt P f (stmt_tree t)) s ss h)))
+      let rest = AreStmts-All ss in (
+        λ h. All-cons (λ t. IsStmt P f (stmt_tree t)) s ss h.0 (rest.0 h.1),
+        λ h. (All-head (λ t. IsStmt P f (stmt_tree t)) s ss h, rest.1 (All-tail (λ t. IsStmt P f (stmt_tree t)) s ss h)),
+      )
 
   pub IsStmt-Block : (stmts : Vec RStmt Global) → IsStmt P f (stmt_tree (Block stmts)) ↔ All (λ s. IsStmt P f (stmt_tree s)) stmts.items
   IsStmt-Block stmts = subst (λ t. IsStmt P f t ↔ All (λ s. IsStmt P f (stmt_tree s)) stmts.items) (sym (stmt_tree-Block stmts)) (AreStmts-All stmts.items)

@@ -1,14 +1,14 @@
 -- Valid programs: what a program keeps at every moment.
-use Rattle.std.specs.Prelude.{ℕ, suc, ◌+◌, ◌≤◌, ◌≡◌, ◌≢◌, ℤ, List, [], ◌∷◌, length, map, All, AllPairs, Option, Some, None, sum_by}
+use Rattle.std.specs.Prelude.{ℕ, ◌+◌, ◌≤◌, ◌≡◌, ◌≢◌, List, [], ◌∷◌, length, All, AllPairs, Option, Some, None}
 use Rattle.csub_lex.specs.declared.operator.BinOp.{BinOp}
-use Rattle.csub_lex.specs.declared.operator.BinOp.TheVariants.{Mul, Div, Rem, Add, Sub, Shl, Shr, Lt, Gt, Le, Ge, Eq, Ne, BitAnd, BitXor, BitOr}
+use Rattle.csub_lex.specs.declared.operator.BinOp.TheVariants.{Shl, Shr, Lt, Gt, Le, Ge, Eq, Ne}
 use Rattle.csub_types.specs.declared.kind.IntKind.{IntKind}
 use Rattle.csub_types.specs.declared.kind.IntKind.TheVariants.{Int}
 use Rattle.csub_types.specs.Kinds.{IsOf, promote, common}
-use Rattle.csub_core.specs.Types.{Name, TypeTree, number_kind, MemberTree}
-use Rattle.csub_core.specs.Trees.{NamedPlace, NamedExpr, NamedArg, Variable, variable, object, temporary, constant, reading, operation, input_byte, output_byte}
-use Rattle.csub_core.specs.Labels.{LabelTree, enters, exits, evaluates, branches, returns, calls, AnswerTree, CallTree}
-use Rattle.csub_core.specs.Syntax.{Stage, PartTree, StmtTree, StmtTrees, ElseTree, parts, block, conditional, no_stmt, more_stmts, no_else, else_stmt, FunctionTree, ProgramTree}
+use Rattle.csub_core.specs.Types.{number_kind}
+use Rattle.csub_core.specs.Trees.{NamedPlace, NamedExpr, Variable, variable, object, temporary, constant, reading, operation, input_byte, output_byte}
+use Rattle.csub_core.specs.Labels.{LabelTree, evaluates, branches, returns, calls, AnswerTree, CallTree}
+use Rattle.csub_core.specs.Syntax.{PartTree, StmtTree, StmtTrees, ElseTree, parts, block, conditional, no_stmt, more_stmts, no_else, else_stmt, FunctionTree, ProgramTree}
 use Rattle.csub_core.specs.declared.valid.role.Role.{Role}
 use Rattle.csub_core.specs.declared.valid.role.Role.TheVariants.{Whole, Test}
 use Rattle.csub_core.specs.Flows.{start_name, main_name, function_of, point_list, edge_list}

@@ -42,7 +42,11 @@ impl Program {
         ensures exact { IsSome result ↔ IsValid (map function_tree functions.items) }
         ensures value { IfSome result (λ program. program ≡ functions.items) }
     {
-        if is_valid(&functions) { Some(Program { functions }) } else { None }
+        if is_valid(&functions) {
+            Some(Program { functions })
+        } else {
+            None
+        }
     }
 
     /// The functions: number 0 is `#start`, the others stand in the order of the source.

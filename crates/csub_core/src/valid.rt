@@ -23,6 +23,7 @@ use crate::valid::start::{has_main, has_start};
 use crate::valid::statements::are_stmts;
 
 const MOST_FUNCTIONS: usize = 500;
+
 const MOST_CELLS: u32 = 4096;
 
 /// Whether the functions are a valid program. Beside a pass over the program this takes a comparison of names for each

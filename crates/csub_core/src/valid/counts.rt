@@ -11,6 +11,7 @@ ghost use Rattle.csub_core.specs.Checks.{count, count_test, count_function};
 use crate::function::{Function, RPart, RStmt};
 
 const MOST_POINTS: usize = 10_000;
+
 const MOST_EDGES: usize = 10_000;
 
 /// Whether the functions have at most 10,000 points: each has an entry and an exit, and each stage is one.
@@ -28,7 +29,12 @@ pub(crate) fn has_few_edges(functions: &[Function]) -> bool
 }
 
 /// What is left of `most` after the count of the functions.
-fn room_after_functions(functions: &[Function], ends: usize, further: usize, most: usize) -> Option<usize>
+fn room_after_functions(
+    functions: &[Function],
+    ends: usize,
+    further: usize,
+    most: usize,
+) -> Option<usize>
     ensures { SomeIff result (sum_by (λ f. count_function ends further (function_tree f)) functions.now ≤ most) (most - sum_by (λ f. count_function ends further (function_tree f)) functions.now) }
 {
     let mut room = most;
@@ -39,7 +45,12 @@ fn room_after_functions(functions: &[Function], ends: usize, further: usize, mos
 }
 
 /// What is left of `room` after the count of a function, which has `ends` beside its body.
-fn room_after_function(function: &Function, ends: usize, further: usize, room: usize) -> Option<usize>
+fn room_after_function(
+    function: &Function,
+    ends: usize,
+    further: usize,
+    room: usize,
+) -> Option<usize>
     ensures { SomeIff result (count_function ends further (function_tree function.now) ≤ room) (room - count_function ends further (function_tree function.now)) }
 {
     let inside = room.checked_sub(ends)?;

@@ -67,7 +67,13 @@ fn is_part(functions: &[Function], function: &Function, role: Role, part: &RPart
 }
 
 /// Whether the own point of a part may stand behind so many calls, or may be missing there.
-fn is_end(functions: &[Function], function: &Function, role: Role, calls: usize, main: &Option<Label>) -> bool
+fn is_end(
+    functions: &[Function],
+    function: &Function,
+    role: Role,
+    calls: usize,
+    main: &Option<Label>,
+) -> bool
     requires { calls < 2 ^ 63 }
     ensures { IsTrue result ↔ IsEnd (map function_tree functions.now) (function_tree function.now) role calls (option_map label_tree main.now) }
 {
@@ -81,7 +87,13 @@ fn is_end(functions: &[Function], function: &Function, role: Role, calls: usize,
 }
 
 /// Whether a label may stand last in a part, as its stage `number`, counted from 1.
-fn is_last(functions: &[Function], function: &Function, role: Role, number: usize, label: &Label) -> bool
+fn is_last(
+    functions: &[Function],
+    function: &Function,
+    role: Role,
+    number: usize,
+    label: &Label,
+) -> bool
     ensures { IsTrue result ↔ IsLast (map function_tree functions.now) (function_tree function.now) role number (label_tree label.now) }
 {
     match role {

@@ -39,9 +39,16 @@ fn start(alloc: Global, callee: &[u8]) -> Result<Function, AllocError> {
         temp: Some(1),
     };
     let mut calls = Vec::new(alloc);
-    calls.push(RCall { label, span: NOWHERE })?;
+    calls.push(RCall {
+        label,
+        span: NOWHERE,
+    })?;
     let mut parts = Vec::new(alloc);
-    parts.push(RPart { calls, main: None, span: NOWHERE })?;
+    parts.push(RPart {
+        calls,
+        main: None,
+        span: NOWHERE,
+    })?;
     let mut body = Vec::new(alloc);
     body.push(RStmt::Parts(parts))?;
     function(alloc, b"#start", None, 1, body)
@@ -49,7 +56,11 @@ fn start(alloc: Global, callee: &[u8]) -> Result<Function, AllocError> {
 
 /// A part of one point.
 fn part(alloc: Global, label: Label) -> RPart {
-    RPart { calls: Vec::new(alloc), main: Some(label), span: NOWHERE }
+    RPart {
+        calls: Vec::new(alloc),
+        main: Some(label),
+        span: NOWHERE,
+    }
 }
 
 /// A statement of one point.
@@ -161,7 +172,11 @@ fn a_program_has_at_most_10000_points_and_edges(rt: HostRuntime) -> Result<(), F
         (0, 4_999, false),
     ] {
         let functions = long_program(rt.alloc(), points, tests)?;
-        assert_eq!(rt; Program::make(functions).is_some(), accepted, "at {points} and {tests}");
+        assert_eq!(rt;
+            Program::make(functions).is_some(),
+            accepted,
+            "at {points} and {tests}"
+        );
     }
     Ok(())
 }

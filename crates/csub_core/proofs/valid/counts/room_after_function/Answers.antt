@@ -1,4 +1,4 @@
-use Rattle.std.proofs.Common.{◌≡◌, ◌-◌, ◌≤◌, arith}
+use Rattle.std.proofs.Common.{◌≡◌, ◌-◌, ◌≤◌}
 use Rattle.csub_core.proofs.ValidCounts.{count_list-sum_by}
 use Rattle.csub_core.proofs.ValidCounts.{SomeIff-after}
 use Rattle.csub_core.proofs.valid.counts.room_after_function.Goals as goal
