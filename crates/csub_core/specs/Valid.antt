@@ -1,5 +1,5 @@
 -- Valid programs: what a program keeps at every moment.
-use Rattle.std.specs.Prelude.{ℕ, ◌+◌, ◌≤◌, ◌≡◌, ◌≢◌, List, [], ◌∷◌, length, All, AllPairs, Option, Some, None}
+use Rattle.std.specs.Prelude.{ℕ, ◌+◌, ◌≤◌, ◌≡◌, ◌≢◌, List, [], ◌∷◌, length, All, AllPairs, Option, Some, None, IfSome}
 use Rattle.csub_lex.specs.declared.operator.BinOp.{BinOp}
 use Rattle.csub_lex.specs.declared.operator.BinOp.TheVariants.{Shl, Shr, Lt, Gt, Le, Ge, Eq, Ne}
 use Rattle.csub_types.specs.declared.kind.IntKind.{IntKind}
@@ -67,7 +67,7 @@ pub record IsCall (P : ProgramTree) (temps k : ℕ) (c : CallTree) : Type 0 wher
   pub no_argument : c.args ≡ []
   pub no_parameter : c.params ≡ []
   pub temp : c.temp ≡ temp_of c.result k
-  pub few : k ≤ temps
+  pub few : IfSome c.temp (λ t. t ≤ temps)
 
 -- a return has its function's result kind, and no value exactly where the function has no result type
 abbrev pub IsAnswer : Option IntKind → Option AnswerTree → Type 0

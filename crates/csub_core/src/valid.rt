@@ -22,12 +22,14 @@ use crate::valid::counts::{has_few_edges, has_few_points};
 use crate::valid::start::{has_main, has_start};
 use crate::valid::statements::are_stmts;
 
+/// The most functions beside `#start`.
 const MOST_FUNCTIONS: usize = 500;
 
+/// The most temporaries of a function's frame.
 const MOST_CELLS: u32 = 4096;
 
-/// Whether the functions are a valid program. Beside a pass over the program this takes a comparison of names for each
-/// two functions, and for each call and each function.
+/// Whether the functions are a valid program. Beside a few passes over the program this takes a comparison of names for
+/// each two functions, and for each call and each function: at most some five million in all.
 pub(crate) fn is_valid(functions: &[Function]) -> bool
     ensures { IsTrue result ↔ IsValid (map function_tree functions.now) }
 {

@@ -1,5 +1,5 @@
 //! Whether calls fit the functions that they call.
-ghost use Rattle.std.specs.Prelude.{◌≡◌, ◌↔◌, ◌<◌, ◌≤◌, ◌^◌, [], map, IsTrue};
+ghost use Rattle.std.specs.Prelude.{◌≡◌, ◌↔◌, ◌<◌, ◌≤◌, ◌^◌, [], map, IsTrue, IfSome};
 ghost use Rattle.std.specs.Option.{option_map};
 ghost use Rattle.csub_core.specs.Types.{type_tree, member_tree};
 ghost use Rattle.csub_core.specs.Labels.{call_tree};
@@ -52,16 +52,16 @@ pub(crate) fn takes_nothing(call: &CallLabel) -> bool
     call.args.is_empty() && call.params.is_empty()
 }
 
-/// Whether the `number`-th call of a part has the temporary of its number exactly where its callee has a result type.
+/// Whether the `number`-th call of a part has the temporary of its number, one of its function's, exactly where its
+/// callee has a result type.
 fn has_temp(temps: u32, number: usize, call: &CallLabel) -> bool
-    ensures { IsTrue result ↔ ((call.now.temp ≡ temp_of call.now.result number) × (number ≤ temps)) }
+    ensures { IsTrue result ↔ ((call.now.temp ≡ temp_of call.now.result number) × IfSome call.now.temp (λ t. t ≤ temps)) }
 {
-    let is_its_own = match (call.result, call.temp) {
+    match (call.result, call.temp) {
         (None, None) => true,
-        (Some(_), Some(temp)) => temp as usize == number,
+        (Some(_), Some(temp)) => temp as usize == number && temp <= temps,
         _ => false,
-    };
-    is_its_own && number <= temps as usize
+    }
 }
 
 /// The function of a name. It is looked for from the front, so this takes at most as many comparisons of names as

@@ -29,14 +29,19 @@ fn function(
     })
 }
 
-/// `#start`, which calls the function of a name as an `int` function into its temporary 1.
-fn start(alloc: Global, callee: &[u8]) -> Result<Function, AllocError> {
+/// A call of a function as a statement, with a temporary where there is one.
+fn call(
+    alloc: Global,
+    callee: &[u8],
+    outcome: Option<IntKind>,
+    temp: Option<u32>,
+) -> Result<RStmt, AllocError> {
     let label = CallLabel {
         callee: Text::new(alloc, callee)?,
         params: Vec::new(alloc),
-        result: Some(IntKind::Int),
+        result: outcome,
         args: Vec::new(alloc),
-        temp: Some(1),
+        temp,
     };
     let mut calls = Vec::new(alloc);
     calls.push(RCall {
@@ -49,8 +54,13 @@ fn start(alloc: Global, callee: &[u8]) -> Result<Function, AllocError> {
         main: None,
         span: NOWHERE,
     })?;
+    Ok(RStmt::Parts(parts))
+}
+
+/// `#start`, which calls the function of a name as an `int` function into its temporary 1.
+fn start(alloc: Global, callee: &[u8]) -> Result<Function, AllocError> {
     let mut body = Vec::new(alloc);
-    body.push(RStmt::Parts(parts))?;
+    body.push(call(alloc, callee, Some(IntKind::Int), Some(1))?)?;
     function(alloc, b"#start", None, 1, body)
 }
 
@@ -138,6 +148,18 @@ fn start_calls_main_alone_and_names_differ(rt: HostRuntime) -> Result<(), Fail> 
     let mut twice = program(alloc, Vec::new(alloc))?;
     twice.push(function(alloc, b"main", Some(IntKind::Int), 0, Vec::new(alloc))?)?;
     assert!(rt; Program::make(twice).is_none());
+    Ok(())
+}
+
+// `main` has no temporary, so it can call a `void` function alone.
+#[test]
+fn a_call_without_a_result_needs_no_temporary(rt: HostRuntime) -> Result<(), Fail> {
+    let alloc = rt.alloc();
+    for (outcome, temp, accepted) in [(None, None, true), (Some(IntKind::Int), Some(1), false)] {
+        let mut functions = one_line(alloc, call(alloc, b"work", outcome, temp)?)?;
+        functions.push(function(alloc, b"work", outcome, 0, Vec::new(alloc))?)?;
+        assert_eq!(rt; Program::make(functions).is_some(), accepted);
+    }
     Ok(())
 }
 

@@ -1,0 +1,92 @@
+-- An evaluation reads and writes cells of frames and of the globals that are named, and nothing else.
+use Rattle.std.proofs.Common.{◌≡◌, ℕ, ◌++◌, ◌∷◌, ℤ, List, [], length, Bool, true, false, Option, Some, None, Result, Ok, Err, nat_lt, refl, subst, if◌then◌else◌, IsTrue}
+use Rattle.csub_types.specs.declared.trap.Trap.{Trap}
+use Rattle.csub_types.specs.declared.trap.Trap.TheVariants.{Flood}
+use Rattle.csub_types.specs.Kinds.{convert, promote}
+use Rattle.csub_types.specs.Arithmetic.{binary}
+use Rattle.csub_core.specs.Types.{TypeTree, number_type}
+use Rattle.csub_core.specs.Trees.{global_owner, local_owner, Variable, object, temporary, NamedPlace, variable, NamedExpr, constant, reading, operation, input_byte, output_byte}
+use Rattle.csub_core.specs.Memory.{Answer, value, trapped, then_do, given, found, get_byte, most_output, put_byte, low_byte}
+use Rattle.csub_core.specs.Evaluation.{right_operand, fetch, locate, eval}
+use Rattle.csub_core.specs.Cells.{Root, root_of, Cell, cell_of, type_of, Spot, stand_at, number_in, named}
+use Rattle.csub_core.specs.Acts.{Store}
+use Rattle.call_walk.specs.Shared.{Agree}
+use Rattle.call_walk.specs.Locality.{HasFrames, CoversVariable, CoversPlace, CoversExpr}
+
+-- both give one value, which passes Q, or one trap, and their stores are related
+pub data SameAnswer {X : Type 0} (Q : X → Type 0) (A : Store → Store → Type 0) : Answer X Store → Answer X Store → Type 0 where
+  both_give : {v : X} {s s' : Store} → Q v → A s s' → SameAnswer Q A (value v s) (value v s')
+  both_trap : {t : Trap} {s s' : Store} → A s s' → SameAnswer Q A (trapped t s) (trapped t s')
+
+-- one after another
+pub then_same : {X Y : Type 0} {Q : X → Type 0} {R : Y → Type 0} {A : Store → Store → Type 0} {a a' : Answer X Store} {f f' : X → Store → Answer Y Store} → SameAnswer Q A a a' → ((v : X) (s s' : Store) → Q v → A s s' → SameAnswer R A (f v s) (f' v s')) → SameAnswer R A (then_do a f) (then_do a' f')
+then_same (both_give {v = v} {s = s} {s' = s'} q r) k = k v s s' q r
+then_same (both_trap r) k = both_trap r
+
+-- a choice by one test
+pub same_if : {X : Type 0} {Q : X → Type 0} {A : Store → Store → Type 0} (b : Bool) {p q p' q' : Answer X Store} → SameAnswer Q A p p' → SameAnswer Q A q q' → SameAnswer Q A (if b then p else q) (if b then p' else q')
+same_if true h k = h
+same_if false h k = k
+
+-- any value
+abbrev pub IsAny : {X : Type 0} → X → Type 0
+IsAny v = Unit {0}
+
+-- a variable's root is in the set at each height
+pub root_in : (S : Root → Bool) → HasFrames S → (h : ℕ) (v : Variable) → CoversVariable S v → IsTrue (S (root_of h v))
+root_in S frames h (object (global_owner a) t) covers = covers
+root_in S frames h (object (local_owner a n) t) covers = frames.objects h a n
+root_in S frames h (temporary n k) covers = frames.temporaries h n
+
+module _ (S : Root → Bool) (frames : HasFrames S) (h : ℕ) where
+  abbrev pub SameNumber : Answer ℤ Store → Answer ℤ Store → Type 0
+  SameNumber a b = SameAnswer IsAny (Agree S) a b
+
+  abbrev pub IsIn : Spot → Type 0
+  IsIn l = IsTrue (S l.cell.root)
+
+  pub same_given : (g : Result ℤ Trap) (s s' : Store) → Agree S s s' → SameNumber (given g s) (given g s')
+  same_given (Ok v) s s' agree = both_give tt agree
+  same_given (Err t) s s' agree = both_trap agree
+
+  same_found : (o o' : Option ℤ) (s s' : Store) → o ≡ o' → Agree S s s' → SameNumber (found o s) (found o' s')
+  same_found o o' s s' e agree = subst (λ p. SameNumber (found o s) (found p s')) e (at o)
+    where
+      at : (o : Option ℤ) → SameNumber (found o s) (found o s')
+      at (Some v) = both_give tt agree
+      at None = both_trap agree
+
+  number_at : (o o' : Option _) → o ≡ o' → number_in o ≡ number_in o'
+  number_at o o' e = cc
+
+  pub same_fetch : (l : Spot) (s s' : Store) → IsIn l → Agree S s s' → SameNumber (fetch (named h) l s) (fetch (named h) l s')
+  same_fetch l s s' inside agree =
+      then_same (same_found (number_in (s.cells l.cell)) (number_in (s'.cells l.cell)) s s' (number_at (s.cells l.cell) (s'.cells l.cell) (agree.cells l.cell inside)) agree)
+      (λ v t t' q r. both_give tt r)
+
+  same_stand : (c : Cell) (t : TypeTree) (s s' : Store) → IsTrue (S c.root) → Agree S s s' → SameAnswer IsIn (Agree S) (found (stand_at c t s.cells) s) (found (stand_at c t s'.cells) s')
+  same_stand c (number_type k) s s' inside agree = both_give inside agree
+
+  pub same_locate : (p : NamedPlace) (s s' : Store) → CoversPlace S p → Agree S s s' → SameAnswer IsIn (Agree S) (locate (named h) p s) (locate (named h) p s')
+  same_locate (variable v) s s' covers agree = same_stand (cell_of h v) (type_of v) s s' (root_in S frames h v covers) agree
+
+  same_get_byte : (s s' : Store) → Agree S s s' → SameNumber (get_byte s s.input) (get_byte s' s'.input)
+  same_get_byte s s' agree = subst (λ (i : List ℕ). SameNumber (get_byte s s.input) (get_byte s' i)) agree.input (at s.input)
+    where
+      at : (i : List ℕ) → SameNumber (get_byte s i) (get_byte s' i)
+      at [] = both_give tt agree
+      at (b ∷ rest) = both_give tt (record { cells = agree.cells; refers = agree.refers; refers' = agree.refers'; input = refl; output = agree.output })
+
+  same_put_byte : (b : ℕ) (s s' : Store) → Agree S s s' → SameAnswer IsAny (Agree S) (put_byte b s) (put_byte b s')
+  same_put_byte b s s' agree =
+      subst (λ (o : List ℕ). SameAnswer IsAny (Agree S) (put_byte b s) (if nat_lt (length o) most_output then value tt (record s' { output = o ++ b ∷ [] }) else trapped Flood s')) agree.output
+      (same_if (nat_lt (length s.output) most_output) (both_give tt (record { cells = agree.cells; refers = agree.refers; refers' = agree.refers'; input = agree.input; output = refl })) (both_trap agree))
+
+  pub same_eval : (e : NamedExpr) (s s' : Store) → CoversExpr S e → Agree S s s' → SameNumber (eval (named h) e s) (eval (named h) e s')
+  same_eval (constant k v) s s' covers agree = both_give tt agree
+  same_eval (reading p) s s' covers agree = then_same (same_locate p s s' covers agree) (λ l t t' inside r. same_fetch l t t' inside r)
+  same_eval (operation op k a b) s s' covers agree =
+      then_same (same_eval a s s' covers.0 agree) (λ v t t' q r. then_same (same_eval b t t' covers.1 r) (λ w u u' o z. same_given (binary op (promote k) (convert (promote k) v) (right_operand op (promote k) w)) u u' z))
+  same_eval input_byte s s' covers agree = same_get_byte s s' agree
+  same_eval (output_byte e) s s' covers agree =
+      then_same (same_eval e s s' covers agree) (λ v t t' q r. then_same (same_put_byte (low_byte v) t t' r) (λ x u u' o z. both_give tt z))

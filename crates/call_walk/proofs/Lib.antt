@@ -1,0 +1,11 @@
+pub mod Lists
+pub mod Reaching
+pub mod ReachedClosed
+pub mod Agreeing
+pub mod Evaluating
+pub mod Acting
+pub mod EveryLabel
+pub mod Covering
+pub mod Turns
+pub mod Together
+pub mod Respecting
