@@ -1,5 +1,5 @@
 -- A text has tests or one fault and never both, and its tests are determined.
-use Rattle.std.proofs.Common.{◌≡◌, ◌≢◌, ◌<◌, ◌≤◌, ◌+◌, ℕ, true, List, [], ◌∷◌, length, length-take, get_or, get_or-take, map, Result, Ok, Err, MatchResult, refl, sym, ap, subst, ◌∙◌, inl, inr, arith, append-nil}
+use Rattle.std.proofs.Common.{◌≡◌, ◌≢◌, ◌<◌, ◌≤◌, ◌+◌, ℕ, true, List, [], ◌∷◌, length, length-take, take, get_or, get_or-take, map, Result, Ok, Err, MatchResult, refl, sym, ap, subst, ◌∙◌, inl, inr, arith, append-nil}
 use Rattle.std.specs.List.{All, AllPairs}
 use Rattle.std.specs.Result.{IsErrAnd}
 use Rattle.std.proofs.lemmas.Option.{slice_get_within, get_or_from_slice_get}
@@ -10,10 +10,10 @@ use Rattle.hex.specs.Hex.{IsBytes}
 use Rattle.line_text.specs.Lines.{TextLine, lines_of, line_with}
 use Rattle.test_suite.specs.declared.error.SuiteError.{SuiteError}
 use Rattle.test_suite.specs.declared.error.SuiteError.TheVariants.{TooLong, Line, TooMany, Twice, Memory}
-use Rattle.test_suite.specs.Causes.{IsFirstRepeat}
+use Rattle.test_suite.specs.Causes.{IsFirstRepeat, HasCause}
 use Rattle.test_suite.specs.Faults.{IsFaultOf}
 use Rattle.test_suite.specs.Tests.{TestParts, IsWithin}
-use Rattle.test_suite.specs.Suites.{first_line, test_line, suite_text, SaysTests}
+use Rattle.test_suite.specs.Suites.{first_line, test_line, suite_text, names_of, SaysTests}
 use Rattle.test_suite.specs.Rules.{IsFirstFault}
 use Rattle.test_suite.proofs.LineLemmas.{test_line-injective}
 use Rattle.test_suite.proofs.SuiteLemmas.{keeps_line, lines_of-suite_text}
@@ -110,3 +110,49 @@ apart_no_repeat names place apart repeat =
 pub passed_on : {V : Type 0} (r : Result V SuiteError) (found : V → Type 0) (error : SuiteError) → IsErrAnd r (λ e. e ≡ error) → error ≡ Memory → MatchResult r found (λ e. e ≡ Memory)
 passed_on (Ok v) found error err memory = absurd err
 passed_on (Err e) found error err memory = err ∙ memory
+
+-- ---- a text is refused for one reason
+
+-- the first repeat of a list of names is at one place
+one_repeat : (names : List (List ℕ)) (a b : ℕ) → IsFirstRepeat names a → IsFirstRepeat names b → a ≡ b
+one_repeat names a b one other = elim (cases_lt a b) [
+  | inl before ↦ absurd (not_before a b one other before)
+  | inr not_before' ↦ elim (cases_lt b a) [ inl after ↦ absurd (not_before b a other one after) | inr not_after ↦ omega arith ]
+]
+  where
+    not_before : (x y : ℕ) → IsFirstRepeat names x → IsFirstRepeat names y → x < y → ⊥
+    not_before x y first later lt =
+        let inside : y < length names = slice_get_within names y later.name later.here in
+        let at : ℕ = first.before.0 in
+        let low : at < x = omega (arith, first.before.1, length-take {A = List ℕ}) in
+        let size : length (take y names) ≡ y = omega (arith, length-take {A = List ℕ} y names) in
+        let here : get_or (take y names) x first.name ≡ first.name = get_or-take y names x first.name lt ∙ get_or_from_slice_get names x first.name first.name first.here in
+        let there : get_or (take y names) at first.name ≡ first.name = get_or-take y names at first.name (omega arith) ∙ sym (get_or-take x names at first.name low) ∙ first.before.2 in
+        later.apart at x first.name low (omega arith) (there ∙ sym here)
+
+-- two causes other than memory are one
+pub one_cause : (text : List ℕ) (a b : SuiteError) → HasCause text a → HasCause text b → a ≢ Memory → b ≢ Memory → a ≡ b
+one_cause text Memory b one other some some' = absurd (some refl)
+one_cause text (TooLong n) Memory one other some some' = absurd (some' refl)
+one_cause text (TooLong n) (TooLong m) one other some some' = ap TooLong (one.0 ∙ sym other.0)
+one_cause text (TooLong n) (Line m r) one other some some' = absurd (omega (arith, one.0, one.1, other.0))
+one_cause text (TooLong n) (TooMany m) one other some some' = absurd (omega (arith, one.0, one.1, other.0))
+one_cause text (TooLong n) (Twice m) one other some some' = absurd (omega (arith, one.0, one.1, other.0))
+one_cause text (Line n r) Memory one other some some' = absurd (some' refl)
+one_cause text (Line n r) (TooLong m) one other some some' = absurd (omega (arith, other.0, other.1, one.0))
+one_cause text (Line n r) (Line m s) one other some some' = let same = one_fault text n r m s one.1 other.1 in cc (same.0, same.1)
+one_cause text (Line n r) (TooMany m) one other some some' = absurd (says_no_fault text other.1 n r other.2 one.1)
+one_cause text (Line n r) (Twice m) one other some some' = absurd (says_no_fault text other.1 n r other.2 one.1)
+one_cause text (TooMany n) Memory one other some some' = absurd (some' refl)
+one_cause text (TooMany n) (TooLong m) one other some some' = absurd (omega (arith, other.0, other.1, one.0))
+one_cause text (TooMany n) (Line m s) one other some some' = absurd (says_no_fault text one.1 m s one.2 other.1)
+one_cause text (TooMany n) (TooMany m) one other some some' = ap TooMany (one.3 ∙ ap length (says_same text one.1 other.1 one.2 other.2) ∙ sym other.3)
+one_cause text (TooMany n) (Twice m) one other some some' = absurd (omega (arith, one.3, one.4, ap length (says_same text one.1 other.1 one.2 other.2), other.3))
+one_cause text (Twice n) Memory one other some some' = absurd (some' refl)
+one_cause text (Twice n) (TooLong m) one other some some' = absurd (omega (arith, other.0, other.1, one.0))
+one_cause text (Twice n) (Line m s) one other some some' = absurd (says_no_fault text one.1 m s one.2 other.1)
+one_cause text (Twice n) (TooMany m) one other some some' = absurd (omega (arith, other.3, other.4, ap length (says_same text one.1 other.1 one.2 other.2), one.3))
+one_cause text (Twice n) (Twice m) one other some some' =
+    let same = says_same text one.1 other.1 one.2 other.2 in
+    let place : one.4 ≡ other.4 = one_repeat (names_of other.1) one.4 other.4 (subst (λ ts. IsFirstRepeat (names_of ts) one.4) same one.5) other.5 in
+    ap Twice (one.6 ∙ ap (λ p. p + 2) place ∙ sym other.6)

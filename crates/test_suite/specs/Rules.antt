@@ -8,9 +8,11 @@ use Rattle.line_text.specs.Words.{AreWords}
 use Rattle.test_suite.specs.Tests.{IsTestName, most_budget, most_input}
 use Rattle.test_suite.specs.Suites.{first_line}
 
+-- the rules of a suite's lines
 pub data Rule : Type 0 where
   s1 s2 s3 s4 s5 s6 s7 : Rule
 
+-- the number by which a refusal names a rule
 abbrev pub number_of : Rule → ℕ
 number_of s1 = 1
 number_of s2 = 2

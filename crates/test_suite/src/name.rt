@@ -1,4 +1,4 @@
-// The names of tests.
+//! The names of tests.
 ghost use Rattle.std.specs.Prelude.{◌≡◌, ◌↔◌, IsTrue};
 ghost use Rattle.test_suite.specs.Tests.{IsTestName, starts_name, goes_in_name};
 

@@ -1,0 +1,124 @@
+-- Points that are appended last first, one after another.
+use Rattle.std.proofs.Common.{◌≡◌, List, [], ◌∷◌, ◌++◌, ◌∙◌, reverse, zero, suc, arith, map, refl, ap, sym, subst, ℕ, ◌+◌, ◌-◌, ◌<◌, ◌≤◌, length, get_or, drop, Option, Some, None, append_assoc, rules}
+use Rattle.std.specs.Option.{option_map}
+use Rattle.std.proofs.lemmas.List.{reverse-append}
+use Rattle.csub_lex.specs.declared.span.Span.{Span}
+use Rattle.std.specs.declared.alloc.Global.{Global}
+use Rattle.std.specs.declared.boxed.Box.{Box}
+use Rattle.csub_core.specs.declared.function.RStmt.{RStmt, If}
+use Rattle.csub_core.specs.declared.function.RPart.{RPart}
+use Rattle.csub_core.specs.declared.function.RCall.{RCall}
+use Rattle.csub_core.specs.Labels.{LabelTree, enters, exits, evaluates, branches, returns, calls, label_tree}
+use Rattle.csub_core.specs.Points.{at, next}
+use Rattle.csub_core.specs.Syntax.{Stage, PartTree, StmtTree, StmtTrees, ElseTree, conditional, no_else, else_stmt, more_stmts, stmt_tree, part_tree, call_stage, own_stage}
+use Rattle.csub_core.specs.Successors.{Way, Around, way, leaving, own_ways, last_ways, test_ways}
+use Rattle.flow_graph.specs.Numbers.{Numbered, count, count_list, count_parts, enter, enter_list, enter_else, enter_part, enter_parts, part_numbered, parts_numbered, numbered, list_numbered, else_numbered, past_label}
+use Rattle.flow_graph.proofs.Rows.{lines_from, lines_from-back, parts_from, parts_from-back}
+
+-- a part by the stages before its last and the last
+pub last_stage : (cs : PartTree) (s : Stage) (k first : ℕ) (path : List ℕ) (i : ℕ) (ways : List (Way ℕ)) (own : ℕ) → own ≡ first + length cs → part_numbered (cs ++ s ∷ []) k first path i ways ≡ part_numbered cs k first path i (way next own ∷ []) ++ record { point = at path i (k + length cs); label = s.label; span = s.span; ways = ways } ∷ []
+last_stage [] s k first path i ways own e =
+    ap (λ n. record { point = at path i n; label = s.label; span = s.span; ways = ways } ∷ []) (omega arith)
+last_stage (c ∷ []) s k first path i ways own e =
+    let here : first + 1 ≡ own = omega arith in
+    ap (λ n. record { point = at path i k; label = c.label; span = c.span; ways = way next n ∷ [] } ∷ record { point = at path i (k + 1); label = s.label; span = s.span; ways = ways } ∷ []) here
+last_stage (c ∷ d ∷ cs) s k first path i ways own e =
+    let there : own ≡ first + 1 + length (d ∷ cs) = omega arith in
+    let later : k + 1 + length (d ∷ cs) ≡ k + length (c ∷ d ∷ cs) = omega arith in
+    let node : Numbered = record { point = at path i k; label = c.label; span = c.span; ways = way next (first + 1) ∷ [] } in
+    ap (λ l. node ∷ l) (last_stage (d ∷ cs) s (k + 1) (first + 1) path i ways own there)
+    ∙ ap (λ n. (node ∷ part_numbered (d ∷ cs) (k + 1) (first + 1) path i (way next own ∷ [])) ++ record { point = at path i n; label = s.label; span = s.span; ways = ways } ∷ []) later
+
+-- two appendings, the later standing in front
+pub two_appended : (xs ys : List Numbered) (old middle new : List Numbered) → middle ≡ old ++ reverse ys → new ≡ middle ++ reverse xs → new ≡ old ++ reverse (xs ++ ys)
+two_appended xs ys old middle new e f =
+    f ∙ ap (λ l. l ++ reverse xs) e ∙ append_assoc old (reverse ys) (reverse xs) ∙ ap (λ l. old ++ l) (sym (reverse-append xs ys))
+
+-- the calls of a part in front of its own point
+pub stages_emitted : (cs : PartTree) (s : Stage) (first own : ℕ) (path : List ℕ) (i : ℕ) (ways : List (Way ℕ)) (old middle new : List Numbered) → own ≡ first + length cs → middle ≡ old ++ record { point = at path i (length cs); label = s.label; span = s.span; ways = ways } ∷ [] → new ≡ middle ++ reverse (part_numbered cs 0 first path i (way next own ∷ [])) → new ≡ old ++ reverse (part_numbered (cs ++ s ∷ []) 0 first path i ways)
+stages_emitted cs s first own path i ways old middle new e f g =
+    let last : Numbered = record { point = at path i (0 + length cs); label = s.label; span = s.span; ways = ways } in
+    let pushed : middle ≡ old ++ last ∷ [] = f ∙ ap (λ n. old ++ record { point = at path i n; label = s.label; span = s.span; ways = ways } ∷ []) (omega arith) in
+    two_appended (part_numbered cs 0 first path i (way next own ∷ [])) (last ∷ []) old middle new pushed g
+    ∙ ap (λ l. old ++ reverse l) (sym (last_stage cs s 0 first path i ways own e))
+
+-- the ways out of a part's last stage
+last_own : (cs : PartTree) (s : Stage) (past returned : ℕ) → last_ways (cs ++ s ∷ []) past returned ≡ own_ways s.label past returned
+last_own [] s past returned = refl
+last_own (c ∷ []) s past returned = refl
+last_own (c ∷ d ∷ cs) s past returned = last_own (d ∷ cs) s past returned
+
+last_call : (c : RCall) (cs : List RCall) (past returned : ℕ) → last_ways (map call_stage (c ∷ cs)) past returned ≡ way next past ∷ []
+last_call c [] past returned = refl
+last_call c (d ∷ cs) past returned = last_call d cs past returned
+
+own_way : (label : LabelTree) (past returned : ℕ) → own_ways label past returned ≡ way next (past_label (Some label) past returned) ∷ []
+own_way enters past returned = refl
+own_way (exits r) past returned = refl
+own_way (evaluates e) past returned = refl
+own_way (branches e) past returned = refl
+own_way (returns a) past returned = refl
+own_way (calls c) past returned = refl
+
+nothing_after : (cs : List RCall) → map call_stage cs ++ [] ≡ map call_stage cs
+nothing_after [] = refl
+nothing_after (c ∷ cs) = ap (λ l. call_stage c ∷ l) (nothing_after cs)
+
+calls_ways : (cs : List RCall) (first : ℕ) (path : List ℕ) (i past returned : ℕ) → part_numbered (map call_stage cs) 0 first path i (way next past ∷ []) ≡ part_numbered (map call_stage cs) 0 first path i (last_ways (map call_stage cs) past returned)
+calls_ways [] first path i past returned = refl
+calls_ways (c ∷ cs) first path i past returned = ap (λ w. part_numbered (map call_stage (c ∷ cs)) 0 first path i w) (sym (last_call c cs past returned))
+
+stages_ways : (cs : List RCall) (span : Span) (main : Option LabelTree) (first : ℕ) (path : List ℕ) (i past returned : ℕ) → let p = map call_stage cs ++ own_stage span main in part_numbered p 0 first path i (way next (past_label main past returned) ∷ []) ≡ part_numbered p 0 first path i (last_ways p past returned)
+stages_ways cs span None first path i past returned =
+    subst (λ p. part_numbered p 0 first path i (way next past ∷ []) ≡ part_numbered p 0 first path i (last_ways p past returned)) (sym (nothing_after cs)) (calls_ways cs first path i past returned)
+stages_ways cs span (Some label) first path i past returned =
+    let s : Stage = record { label = label; span = span } in
+    ap (λ w. part_numbered (map call_stage cs ++ s ∷ []) 0 first path i w) (sym (last_own (map call_stage cs) s past returned ∙ own_way label past returned))
+
+-- the points of a part that is no test
+pub part_ways : (p : RPart) (first : ℕ) (path : List ℕ) (i past returned : ℕ) → part_numbered (part_tree p) 0 first path i (way next (past_label (option_map label_tree p.main) past returned) ∷ []) ≡ part_numbered (part_tree p) 0 first path i (last_ways (part_tree p) past returned)
+part_ways p first path i past returned = stages_ways p.calls.items p.span (option_map label_tree p.main) first path i past returned
+
+-- what an `if` stands for
+pub stmt_tree-If-none : (test : RPart) (then : Box RStmt Global) → stmt_tree (If test then None) ≡ conditional (part_tree test) (stmt_tree then.value) no_else
+stmt_tree-If-none test then = search rules
+
+pub stmt_tree-If-some : (test : RPart) (then other : Box RStmt Global) → stmt_tree (If test then (Some other)) ≡ conditional (part_tree test) (stmt_tree then.value) (else_stmt (stmt_tree other.value))
+stmt_tree-If-some test then other = search rules
+
+-- the points of an `if` are appended in three steps
+pub if_emitted : (s : StmtTree) (p : PartTree) (t : StmtTree) (e : ElseTree) (first on_true on_false : ℕ) (path : List ℕ) (a : Around ℕ) (old one two new : List Numbered) → s ≡ conditional p t e → first + length p ≡ on_true → on_true + count t ≡ on_false → one ≡ old ++ reverse (else_numbered e on_false (path ++ 1 ∷ []) a) → two ≡ one ++ reverse (numbered t on_true (path ++ 0 ∷ []) a) → new ≡ two ++ reverse (part_numbered p 0 first path 0 (test_ways (enter t on_true a) (enter_else e on_false a))) → new ≡ old ++ reverse (numbered s first path a)
+if_emitted s p t e first on_true on_false path a old one two new is f g emitted_else emitted_then emitted_test =
+    let inside = two_appended (numbered t on_true (path ++ 0 ∷ []) a) (else_numbered e on_false (path ++ 1 ∷ []) a) old one two emitted_else emitted_then in
+    let whole = two_appended (part_numbered p 0 first path 0 (test_ways (enter t on_true a) (enter_else e on_false a))) (numbered t on_true (path ++ 0 ∷ []) a ++ else_numbered e on_false (path ++ 1 ∷ []) a) old two new inside emitted_test in
+    let of = λ (m n : ℕ). old ++ reverse (part_numbered p 0 first path 0 (test_ways (enter t m a) (enter_else e n a)) ++ (numbered t m (path ++ 0 ∷ []) a ++ else_numbered e n (path ++ 1 ∷ []) a)) in
+    whole ∙ ap (λ n. of on_true n) (sym g) ∙ ap (λ m. of m (m + count t)) (sym f) ∙ ap (λ x. old ++ reverse (numbered x first path a)) (sym is)
+
+-- the parts from a place on, by those from the next place on
+pub record PartsFrom (ps : List RPart) (j i : ℕ) (x : RPart) (first onward : ℕ) (path : List ℕ) (a : Around ℕ) (begin : ℕ) (old middle new : List Numbered) : Type 0 where
+  pub place : first + parts_from ps j ≡ onward + parts_from ps i
+  pub begins : enter_part (part_tree x) first begin ≡ enter_parts (map part_tree (drop j ps)) first a.leave
+  pub points : new ≡ old ++ reverse (parts_numbered (map part_tree (drop j ps)) j first path a)
+
+pub parts_emitted : (ps : List RPart) (j i : ℕ) (x : RPart) (first onward : ℕ) (path : List ℕ) (a : Around ℕ) (begin : ℕ) (old middle new : List Numbered) → j + 1 ≡ i → j < length ps → x ≡ get_or ps j x → first + length (part_tree x) ≡ onward → begin ≡ enter_parts (map part_tree (drop i ps)) onward a.leave → middle ≡ old ++ reverse (parts_numbered (map part_tree (drop i ps)) i onward path a) → new ≡ middle ++ reverse (part_numbered (part_tree x) 0 first path j (way next (past_label (option_map label_tree x.main) begin a.returned) ∷ [])) → PartsFrom ps j i x first onward path a begin old middle new
+parts_emitted ps j i x first onward path a begin old middle new next_is below is at_end begins points emitted =
+    let p = part_tree x in
+    let rest = map part_tree (drop i ps) in
+    let split = parts_from-back ps j i x next_is below is in
+    let all = two_appended (part_numbered p 0 first path j (last_ways p begin a.returned)) (parts_numbered rest i onward path a) old middle new points (emitted ∙ ap (λ l. middle ++ reverse l) (part_ways x first path j begin a.returned)) in
+    record {
+      place = let counted : parts_from ps j ≡ length p + parts_from ps i = ap count_parts split in omega arith;
+      begins =
+          ap (λ n. enter_part p first n) (begins ∙ ap (λ k. enter_parts rest k a.leave) (sym at_end))
+          ∙ sym (ap (λ l. enter_parts l first a.leave) split);
+      points =
+          all
+          ∙ ap (λ n. old ++ reverse (part_numbered p 0 first path j (last_ways p n a.returned) ++ parts_numbered rest i onward path a)) begins
+          ∙ ap (λ k. old ++ reverse (part_numbered p 0 first path j (last_ways p (enter_parts rest k a.leave) a.returned) ++ parts_numbered rest i k path a)) (sym at_end)
+          ∙ ap (λ k. old ++ reverse (part_numbered p 0 first path j (last_ways p (enter_parts rest (first + length p) a.leave) a.returned) ++ parts_numbered rest k (first + length p) path a)) (sym next_is)
+          ∙ sym (ap (λ l. old ++ reverse (parts_numbered l j first path a)) split);
+    }
+
+pub call_count : (cs : List RCall) → length (map call_stage cs) ≡ length cs
+call_count [] = refl
+call_count (c ∷ cs) = ap suc (call_count cs)

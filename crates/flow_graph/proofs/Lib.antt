@@ -1,0 +1,12 @@
+pub mod Rows
+pub mod Emitted
+pub mod Lengths
+pub mod Listed
+pub mod Numbering
+pub mod Lists
+pub mod Distinct
+pub mod Whole
+pub mod Found
+pub mod Exits
+pub mod EdgePlaces
+pub mod Looked

@@ -1,0 +1,76 @@
+-- The points of functions, one function after another.
+use Rattle.std.proofs.Common.{◌≡◌, List, [], ◌∷◌, ◌++◌, ◌∙◌, reverse, suc, arith, map, refl, ap, sym, ℕ, ◌+◌, ◌-◌, ◌<◌, ◌≤◌, length, get_or, drop, add-one, drop-cons, append_assoc, append-nil}
+use Rattle.std.proofs.Math.ListN.{drop_of_length-le}
+use Rattle.std.proofs.lemmas.List.{length-append, length-map, map-append, reverse-append, reverse-reverse}
+use Rattle.csub_core.specs.declared.function.Function.{Function}
+use Rattle.csub_core.specs.Syntax.{function_tree, ProgramTree}
+use Rattle.flow_graph.specs.declared.node.GraphNode.{GraphNode}
+use Rattle.flow_graph.specs.Numbers.{Numbered, numbered_node, NumberedPoint, NumberedFunction, of_function, count_function, count_program, exit_number, function_numbered, program_numbered, functions_numbered}
+use Rattle.flow_graph.proofs.Lengths.{function_numbered-length}
+
+pub map-reverse : {A B : Type 0} (f : A → B) (xs : List A) → map f (reverse xs) ≡ reverse (map f xs)
+map-reverse f [] = refl
+map-reverse f (x ∷ xs) =
+    ap (map f) (reverse-append (x ∷ []) xs) ∙ map-append f (reverse xs) (x ∷ []) ∙ ap (λ l. l ++ f x ∷ []) (map-reverse f xs) ∙ sym (reverse-append (f x ∷ []) (map f xs))
+
+-- an exit, a body and an entry that are appended last first
+pub turned_round : (entry exit : Numbered) (body : List Numbered) (nodes : List GraphNode) → map numbered_node nodes ≡ ((exit ∷ []) ++ reverse body) ++ entry ∷ [] → map numbered_node (reverse nodes) ≡ (entry ∷ body) ++ exit ∷ []
+turned_round entry exit body nodes h =
+    map-reverse numbered_node nodes
+    ∙ ap reverse h
+    ∙ reverse-append ((exit ∷ []) ++ reverse body) (entry ∷ [])
+    ∙ ap (λ l. entry ∷ l) (reverse-append (exit ∷ []) (reverse body) ∙ ap (λ l. l ++ exit ∷ []) (reverse-reverse body))
+
+-- how many points the nodes of a function are
+pub nodes_made : (nodes : List GraphNode) (f : _) (start : ℕ) → map numbered_node nodes ≡ function_numbered f start → length nodes ≡ count_function f
+nodes_made nodes f start h = sym (length-map nodes numbered_node) ∙ ap length h ∙ function_numbered-length f start
+
+abbrev pub trees_from : List Function → ℕ → ProgramTree
+trees_from fs i = map function_tree (drop i fs)
+
+pub trees_from-step : (fs : List Function) (i : ℕ) (x : Function) → i < length fs → x ≡ get_or fs i x → trees_from fs i ≡ function_tree x ∷ trees_from fs (i + 1)
+trees_from-step fs i x h is =
+    let step : trees_from fs i ≡ function_tree (get_or fs i x) ∷ trees_from fs (i + 1) = rw (drop-cons fs i x h, add-one) refl in
+    step ∙ ap (λ y. function_tree y ∷ trees_from fs (i + 1)) (sym is)
+
+pub trees_from-end : (fs : List Function) (i : ℕ) → length fs ≤ i → trees_from fs i ≡ []
+trees_from-end fs i h = ap (map function_tree) (drop_of_length-le fs h)
+
+pub count_within : (fs : List Function) (i : ℕ) (x : Function) (n all : ℕ) → i < length fs → x ≡ get_or fs i x → n + count_program (trees_from fs i) ≡ all → n + count_function (function_tree x) ≤ all
+count_within fs i x n all h is e =
+    let step : count_program (trees_from fs i) ≡ count_function (function_tree x) + count_program (trees_from fs (i + 1)) = ap count_program (trees_from-step fs i x h is) in
+    omega arith
+
+-- how many points there are with those of one more function
+pub appended_length : {A : Type 0} {B : Type 0} (f : A → B) (old new : List A) (xs : List B) → map f new ≡ map f old ++ xs → length new ≡ length old + length xs
+appended_length f old new xs h =
+    sym (length-map new f) ∙ ap length h ∙ length-append (map f old) xs ∙ ap (λ n. n + length xs) (length-map old f)
+
+-- the lists of a program after one more function
+pub record More (fs : List Function) (i : ℕ) (m : ℕ) (listed : List NumberedFunction) (made : List NumberedPoint) (all_listed : List NumberedFunction) (all_points : List NumberedPoint) (all : ℕ) : Type 0 where
+  pub count : m + count_program (trees_from fs (i + 1)) ≡ all
+  pub functions : listed ++ functions_numbered (trees_from fs (i + 1)) m ≡ all_listed
+  pub points : made ++ program_numbered (trees_from fs (i + 1)) (i + 1) m ≡ all_points
+
+pub more : (fs : List Function) (i : ℕ) (x : Function) (n m : ℕ) (listed listed' : List NumberedFunction) (points points' : List NumberedPoint) (all_listed : List NumberedFunction) (all_points : List NumberedPoint) (all : ℕ) → i < length fs → x ≡ get_or fs i x → m ≡ n + count_function (function_tree x) → n + count_program (trees_from fs i) ≡ all → listed ++ functions_numbered (trees_from fs i) n ≡ all_listed → points ++ program_numbered (trees_from fs i) i n ≡ all_points → listed' ≡ listed ++ record { name = x.name; start = n; exit = exit_number (function_tree x) n } ∷ [] → points' ≡ points ++ map (of_function i) (function_numbered (function_tree x) n) → More fs i m listed' points' all_listed all_points all
+more fs i x n m listed listed' points points' all_listed all_points all h is is_m count functions is_points one some =
+    let tree = function_tree x in
+    let step = trees_from-step fs i x h is in
+    let rest = trees_from fs (i + 1) in
+    let new : NumberedFunction = record { name = x.name; start = n; exit = exit_number tree n } in
+    let counted : count_program (trees_from fs i) ≡ count_function tree + count_program rest = ap count_program step in
+    record {
+      count = omega arith;
+      functions =
+          ap (λ l. l ++ functions_numbered rest m) one
+          ∙ append_assoc listed (new ∷ []) (functions_numbered rest m)
+          ∙ ap (λ k. listed ++ new ∷ functions_numbered rest k) is_m
+          ∙ sym (ap (λ t. listed ++ functions_numbered t n) step)
+          ∙ functions;
+      points =
+          ap (λ l. l ++ program_numbered rest (i + 1) m) some
+          ∙ append_assoc points (map (of_function i) (function_numbered tree n)) (program_numbered rest (i + 1) m)
+          ∙ ap (λ k. points ++ (map (of_function i) (function_numbered tree n) ++ program_numbered rest (i + 1) k)) is_m
+          ∙ sym (ap (λ t. points ++ program_numbered t i n) step)
+          ∙ is_points;
+    }

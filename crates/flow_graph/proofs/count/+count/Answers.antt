@@ -1,0 +1,10 @@
+use Rattle.std.proofs.Common.{rules}
+use Rattle.csub_core.specs.declared.function.RStmt.{the_lemmas}
+use Rattle.flow_graph.proofs.Rows.{row_trees-list}
+use Rattle.flow_graph.proofs.count.+count.Goals as goal
+
+pub count_of-count_all-requires : goal.count_of-count_all-requires
+count_of-count_all-requires t c = search (rules, row_trees-list, the_lemmas)
+
+pub count_of-returns-in-Block : goal.count_of-returns-in-Block
+count_of-returns-in-Block t c = search (rules, row_trees-list, the_lemmas)

@@ -1,0 +1,52 @@
+use Rattle.std.proofs.Common.{◌≡◌, ◌∙◌, ◌<◌, ◌≤◌, ◌+◌, ap, sym, subst, refl, None, Some, length, rules, arith}
+use Rattle.std.specs.Vec.{vec_len}
+use Rattle.std.specs.List.{slice_get, find}
+use Rattle.csub_core.specs.Points.{exit_tree, exit_eq}
+use Rattle.csub_core.specs.Flows.{flow_of, Edge}
+use Rattle.csub_core.specs.Numbers.{site}
+use Rattle.flow_graph.specs.Graph.{point_count, edge_count, way_count}
+use Rattle.flow_graph.proofs.EdgePlaces.{firsts-length}
+use Rattle.flow_graph.proofs.Looked.{read_point, read_first, first_within, follow_looked, number_looked, some_at, none_made}
+use Rattle.flow_graph.proofs.graph.Graph.edge_number.Goals as goal
+
+pub index-requires-in-Some : goal.index-requires-in-Some
+index-requires-in-Some c =
+    let counted : vec_len c.self.inside.firsts ≡ length c.self.inside.firsts.items = search rules in
+    let long = ap length c.self.invariant.1 ∙ firsts-length c.self.inside.points.items 0 ∙ ap point_count c.self.view_is in
+    let below = c.requires in
+    omega arith
+
+pub overflow_add-result : goal.overflow_add-result
+overflow_add-result c =
+    let read = read_point c.args.self.now c.self.inside.functions.items c.self.inside.points.items c.args.point c.index.result.now c.self.view_is c.requires c.index.ensures in
+    let first = read_first c.args.self.now c.self.inside.functions.items c.self.inside.points.items c.self.inside.firsts.items c.args.point c.index-in-Some.result.now c.self.view_is c.self.invariant.1 c.requires c.index-in-Some.ensures in
+    let room = first_within c.args.self.now.1 0 c.args.point c.index-in-Some.result.now c.index.result.now first read in
+    let within : c.in-Some.way < way_count c.index.result.now = subst (λ l. c.in-Some.way < length l) c.as_slice-ways.ensures.value c.in-Some.ensures.within in
+    let few = c.self.invariant.0.few_edges in
+    let same = ap edge_count c.self.view_is in
+    omega arith
+
+pub returns-in-Some-clause-number : goal.returns-in-Some-clause-number
+returns-in-Some-clause-number c =
+    let read = read_point c.args.self.now c.self.inside.functions.items c.self.inside.points.items c.args.point c.index.result.now c.self.view_is c.requires c.index.ensures in
+    let first = read_first c.args.self.now c.self.inside.functions.items c.self.inside.points.items c.self.inside.firsts.items c.args.point c.index-in-Some.result.now c.self.view_is c.self.invariant.1 c.requires c.index-in-Some.ensures in
+    let within : c.in-Some.way < way_count c.index.result.now = subst (λ l. c.in-Some.way < length l) c.as_slice-ways.ensures.value c.in-Some.ensures.within in
+    let there = some_at c.index.result.now.node.ways.items c.in-Some.way within in
+    let found =
+        sym (ap (λ l. slice_get l c.in-Some.way) c.as_slice-ways.ensures.value) ∙ c.in-Some.ensures.found ∙ ap (find (λ w. exit_eq (exit_tree w.exit) (exit_tree c.args.exit.now))) c.as_slice-ways.ensures.value in
+    λ P s g h. number_looked P c.args.self.now g c.args.point c.in-Some.way c.index-in-Some.result.now (c.index-in-Some.result.now + c.in-Some.way) c.index.result.now there.0 s (exit_tree c.args.exit.now) read first there.1 found refl h
+
+pub returns-in-Some-clause-within : goal.returns-in-Some-clause-within
+returns-in-Some-clause-within c =
+    let read = read_point c.args.self.now c.self.inside.functions.items c.self.inside.points.items c.args.point c.index.result.now c.self.view_is c.requires c.index.ensures in
+    let first = read_first c.args.self.now c.self.inside.functions.items c.self.inside.points.items c.self.inside.firsts.items c.args.point c.index-in-Some.result.now c.self.view_is c.self.invariant.1 c.requires c.index-in-Some.ensures in
+    let room = first_within c.args.self.now.1 0 c.args.point c.index-in-Some.result.now c.index.result.now first read in
+    let within : c.in-Some.way < way_count c.index.result.now = subst (λ l. c.in-Some.way < length l) c.as_slice-ways.ensures.value c.in-Some.ensures.within in
+    omega arith
+
+pub returns-in-None-clause-number : goal.returns-in-None-clause-number
+returns-in-None-clause-number c =
+    let read = read_point c.args.self.now c.self.inside.functions.items c.self.inside.points.items c.args.point c.index.result.now c.self.view_is c.requires c.index.ensures in
+    let x = exit_tree c.args.exit.now in
+    let found = c.in-None.ensures.found ∙ ap (find (λ w. exit_eq (exit_tree w.exit) x)) c.as_slice-ways.ensures.value in
+    λ P s g h. none_made (site s.function) (λ q. let e : Edge = record { function = s.function; from = s.point; exit = x } in e) ((flow_of P).succ s.function s.point x) (follow_looked P c.args.self.now g c.args.point c.index.result.now s None x read found h)

@@ -1,0 +1,178 @@
+-- The points of a program by their numbers, counted in the order of the text from a first number: what the inner
+-- functions of the builder say of themselves. What the whole graph is stands in `Graph`.
+use Rattle.std.specs.Prelude.{ℕ, ◌+◌, List, [], ◌∷◌, ◌++◌, map, length, Option, Some, None}
+use Rattle.csub_lex.specs.declared.span.Span.{Span}
+use Rattle.csub_core.specs.Types.{Name}
+use Rattle.csub_core.specs.Labels.{LabelTree, enters, exits, label_tree, returns}
+use Rattle.csub_core.specs.Points.{PointTree, entry, exit, at, point_tree, exit_tree, next}
+use Rattle.csub_core.specs.Syntax.{Stage, PartTree, StmtTree, StmtTrees, ElseTree, parts, block, conditional, no_stmt, more_stmts, no_else, else_stmt, FunctionTree, ProgramTree}
+use Rattle.csub_core.specs.Successors.{Way, Around, way, leaving, last_ways, test_ways}
+use Rattle.csub_core.specs.Flows.{end_rule}
+use Rattle.flow_graph.specs.declared.node.GraphWay.{GraphWay}
+use Rattle.flow_graph.specs.declared.node.GraphNode.{GraphNode}
+use Rattle.flow_graph.specs.declared.node.GraphPoint.{GraphPoint}
+use Rattle.flow_graph.specs.declared.node.GraphFunction.{GraphFunction}
+use Rattle.flow_graph.specs.declared.emit.Onward.{Onward}
+
+-- a point with the numbers of the points to which it leads
+pub record Numbered : Type 0 where
+  pub point : PointTree
+  pub label : LabelTree
+  pub span : Span
+  pub ways : List (Way ℕ)
+
+abbrev pub numbered_way : GraphWay → Way ℕ
+numbered_way w = way (exit_tree w.exit) w.to
+
+abbrev pub numbered_node : GraphNode → Numbered
+numbered_node n = record {
+  point = point_tree n.point;
+  label = label_tree n.label;
+  span = n.span;
+  ways = map numbered_way n.ways.items;
+}
+
+-- where control goes from a statement, by numbers
+abbrev pub around : Onward → Around ℕ
+around onward = record { leave = onward.leave; returned = onward.returned }
+
+-- how many points there are
+abbrev pub count_parts : List PartTree → ℕ
+count_parts [] = 0
+count_parts (p ∷ rest) = length p + count_parts rest
+
+abbrev mutual
+  pub count : StmtTree → ℕ
+  count (parts ps) = count_parts ps
+  count (block stmts) = count_list stmts
+  count (conditional p t e) = length p + count t + count_else e
+
+  pub count_list : StmtTrees → ℕ
+  count_list no_stmt = 0
+  count_list (more_stmts s rest) = count s + count_list rest
+
+  pub count_else : ElseTree → ℕ
+  count_else no_else = 0
+  count_else (else_stmt s) = count s
+
+-- the number of the point at which a part begins, its first stage having the number `first`
+abbrev pub enter_part : PartTree → ℕ → ℕ → ℕ
+enter_part [] first past = past
+enter_part (s ∷ rest) first past = first
+
+abbrev pub enter_parts : List PartTree → ℕ → ℕ → ℕ
+enter_parts [] first past = past
+enter_parts (p ∷ rest) first past = enter_part p first (enter_parts rest (first + length p) past)
+
+-- the number of the point at which a statement begins
+abbrev mutual
+  pub enter : StmtTree → ℕ → Around ℕ → ℕ
+  enter (parts ps) first a = enter_parts ps first a.leave
+  enter (block stmts) first a = enter_list stmts first a
+  enter (conditional p t e) first a = enter_part p first a.leave
+
+  pub enter_list : StmtTrees → ℕ → Around ℕ → ℕ
+  enter_list no_stmt first a = a.leave
+  enter_list (more_stmts s rest) first a = enter s first (leaving (enter_list rest (first + count s) a) a)
+
+abbrev pub enter_else : ElseTree → ℕ → Around ℕ → ℕ
+enter_else no_else first a = a.leave
+enter_else (else_stmt s) first a = enter s first a
+
+-- the ways out of a stage: where another stands behind it they lead there
+abbrev pub ways_before : PartTree → ℕ → List (Way ℕ) → List (Way ℕ)
+ways_before [] onward ways = ways
+ways_before (s ∷ rest) onward ways = way next onward ∷ []
+
+-- the points of part i of the statement at a path, from stage k on
+abbrev pub part_numbered : PartTree → ℕ → ℕ → List ℕ → ℕ → List (Way ℕ) → List Numbered
+part_numbered [] k first path i ways = []
+part_numbered (s ∷ rest) k first path i ways =
+    record { point = at path i k; label = s.label; span = s.span; ways = ways_before rest (first + 1) ways }
+    ∷ part_numbered rest (k + 1) (first + 1) path i ways
+
+-- where the own point of a part leads that is no test: a return to the function's exit, any other past the part
+abbrev pub past_label : Option LabelTree → ℕ → ℕ → ℕ
+past_label (Some (returns answer)) past returned = returned
+past_label label past returned = past
+
+-- the points of the parts of a statement, from part i on
+abbrev pub parts_numbered : List PartTree → ℕ → ℕ → List ℕ → Around ℕ → List Numbered
+parts_numbered [] i first path a = []
+parts_numbered (p ∷ rest) i first path a =
+    part_numbered p 0 first path i (last_ways p (enter_parts rest (first + length p) a.leave) a.returned)
+    ++ parts_numbered rest (i + 1) (first + length p) path a
+
+-- the points of the statement at a path
+abbrev mutual
+  pub numbered : StmtTree → ℕ → List ℕ → Around ℕ → List Numbered
+  numbered (parts ps) first path a = parts_numbered ps 0 first path a
+  numbered (block stmts) first path a = list_numbered stmts 0 first path a
+  numbered (conditional p t e) first path a =
+      part_numbered p 0 first path 0 (test_ways (enter t (first + length p) a) (enter_else e (first + length p + count t) a))
+      ++ (numbered t (first + length p) (path ++ 0 ∷ []) a ++ else_numbered e (first + length p + count t) (path ++ 1 ∷ []) a)
+
+  -- from line i of the list on
+  pub list_numbered : StmtTrees → ℕ → ℕ → List ℕ → Around ℕ → List Numbered
+  list_numbered no_stmt i first path a = []
+  list_numbered (more_stmts s rest) i first path a =
+      numbered s first (path ++ i ∷ []) (leaving (enter_list rest (first + count s) a) a)
+      ++ list_numbered rest (i + 1) (first + count s) path a
+
+  pub else_numbered : ElseTree → ℕ → List ℕ → Around ℕ → List Numbered
+  else_numbered no_else first path a = []
+  else_numbered (else_stmt s) first path a = numbered s first path a
+
+-- how many points a function has: its entry, those of its body, and its exit
+abbrev pub count_function : FunctionTree → ℕ
+count_function f = count_list f.body + 2
+
+abbrev pub count_program : ProgramTree → ℕ
+count_program [] = 0
+count_program (f ∷ rest) = count_function f + count_program rest
+
+-- the number of a function's exit, its entry having the number `start`
+abbrev pub exit_number : FunctionTree → ℕ → ℕ
+exit_number f start = start + 1 + count_list f.body
+
+-- control leaves a function by its exit
+abbrev pub by_exit : FunctionTree → ℕ → Around ℕ
+by_exit f start = record { leave = exit_number f start; returned = exit_number f start }
+
+-- the points of a function, its entry having the number `start`
+abbrev pub function_numbered : FunctionTree → ℕ → List Numbered
+function_numbered f start =
+    (record { point = entry; label = enters; span = f.span; ways = way next (enter_list f.body (start + 1) (by_exit f start)) ∷ [] }
+     ∷ list_numbered f.body 0 (start + 1) [] (by_exit f start))
+    ++ record { point = exit; label = exits (end_rule f.name f.result); span = f.span; ways = [] } ∷ []
+
+-- a point with the number of its function
+pub record NumberedPoint : Type 0 where
+  pub function : ℕ
+  pub node : Numbered
+
+abbrev pub numbered_point : GraphPoint → NumberedPoint
+numbered_point p = record { function = p.function; node = numbered_node p.node }
+
+abbrev pub of_function : ℕ → Numbered → NumberedPoint
+of_function f n = record { function = f; node = n }
+
+-- the points of functions, the first function having the number f and its entry the number `start`
+abbrev pub program_numbered : ProgramTree → ℕ → ℕ → List NumberedPoint
+program_numbered [] f start = []
+program_numbered (g ∷ rest) f start =
+    map (of_function f) (function_numbered g start) ++ program_numbered rest (f + 1) (start + count_function g)
+
+-- a function with the numbers of its entry and its exit
+pub record NumberedFunction : Type 0 where
+  pub name : Name
+  pub start : ℕ
+  pub exit : ℕ
+
+abbrev pub functions_numbered : ProgramTree → ℕ → List NumberedFunction
+functions_numbered [] start = []
+functions_numbered (g ∷ rest) start =
+    record { name = g.name; start = start; exit = exit_number g start } ∷ functions_numbered rest (start + count_function g)
+
+abbrev pub numbered_function : GraphFunction → NumberedFunction
+numbered_function g = record { name = g.name; start = g.start; exit = g.exit }

@@ -1,0 +1,100 @@
+//! The points of a program.
+ghost use Rattle.std.specs.Prelude.{◌≡◌, ◌<◌, ◌+◌, ◌^◌, ◌++◌, IfOk, length, map};
+ghost use Rattle.csub_core.specs.Flows.{end_rule as end_rule'};
+ghost use Rattle.csub_core.specs.Syntax.{function_tree};
+ghost use Rattle.flow_graph.specs.Numbers.{numbered_node, numbered_point, numbered_function, of_function, count_function, count_program, function_numbered, program_numbered, functions_numbered};
+
+use crate::count::count_all;
+use crate::emit::{emit_list, Onward};
+use crate::node::{GraphFunction, GraphNode, GraphPoint, one_way};
+use csub_core::{EndRule, Function, IntKind, Label, Point, Text};
+use std::alloc::{AllocError, Global};
+
+/// The functions and the points of a program, each by its number.
+#[derive(Drop)]
+pub struct Listed {
+    /// The functions.
+    pub functions: Vec<GraphFunction>,
+    /// The points.
+    pub points: Vec<GraphPoint>,
+}
+
+/// What the end of a function asks for.
+fn end_rule(name: &Text, result_kind: Option<IntKind>) -> EndRule
+    ensures { result ≡ end_rule' name.now result_kind }
+{
+    if name.bytes() == b"#start".as_slice() {
+        EndRule::Start
+    } else if name.bytes() == b"main".as_slice() {
+        EndRule::Main
+    } else {
+        match result_kind {
+            None => EndRule::Nothing,
+            Some(_) => EndRule::Value,
+        }
+    }
+}
+
+/// The points of a function, its entry having the number `start`.
+fn list_function(alloc: Global, function: &Function, start: u32) -> Result<Vec<GraphNode>, AllocError>
+    requires { start + count_function (function_tree function.now) < 2 ^ 30 }
+    ensures { IfOk result (λ made. map numbered_node made.items ≡ function_numbered (function_tree function.now) start) }
+{
+    let body = function.body.as_slice();
+    let exit = start + 1 + count_all(body);
+    let mut nodes = Vec::new(alloc);
+    nodes.push(GraphNode {
+        point: Point::Exit,
+        label: Label::Exit(end_rule(&function.name, function.result)),
+        span: function.span,
+        ways: Vec::new(alloc),
+    })?;
+    let onward = Onward {
+        leave: exit,
+        returned: exit,
+    };
+    let path = Vec::new(alloc);
+    let begin = emit_list(alloc, body, path.as_slice(), exit, onward, &mut nodes)?;
+    nodes.push(GraphNode {
+        point: Point::Entry,
+        label: Label::Entry,
+        span: function.span,
+        ways: one_way(alloc, begin.enter)?,
+    })?;
+    nodes.reverse();
+    Ok(nodes)
+}
+
+/// Appends the points of the function with a number.
+fn append(points: &mut Vec<GraphPoint>, function: u32, nodes: Vec<GraphNode>) -> Result<(), AllocError>
+    ensures { IfOk result (λ _. map numbered_point points.new.items ≡ map numbered_point points.old.items ++ map (of_function function) (map numbered_node nodes.items)) }
+{
+    for node in nodes {
+        points.push(GraphPoint { function, node })?;
+    }
+    Ok(())
+}
+
+/// The functions and the points of a program, function by function.
+pub fn list_points(alloc: Global, functions: &[Function]) -> Result<Listed, AllocError>
+    requires few_functions { length functions.now < 2 ^ 30 }
+    requires few_points { count_program (map function_tree functions.now) < 2 ^ 30 }
+    ensures functions { IfOk result (λ made. map numbered_function made.functions.items ≡ functions_numbered (map function_tree functions.now) 0) }
+    ensures points { IfOk result (λ made. map numbered_point made.points.items ≡ program_numbered (map function_tree functions.now) 0 0) }
+{
+    let mut listed = Vec::new(alloc);
+    let mut points = Vec::new(alloc);
+    for i in 0..functions.len() {
+        let function = &functions[i];
+        let start = points.len() as u32;
+        let nodes = list_function(alloc, function, start)?;
+        let exit = start + (nodes.len() as u32 - 1);
+        append(&mut points, i as u32, nodes)?;
+        let name = function.name.copy()?;
+        listed.push(GraphFunction { name, start, exit })?;
+    }
+    Ok(Listed {
+        functions: listed,
+        points,
+    })
+}

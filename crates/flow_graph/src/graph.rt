@@ -1,0 +1,201 @@
+//! The graph of a program.
+ghost use Rattle.std.specs.Prelude.{◌≡◌, ◌<◌, IfOk, IfSome, OnSome, Some, [], length, map, slice_get};
+ghost use Rattle.std.specs.Option.{option_and_then, option_map};
+ghost use Rattle.csub_core.specs.Types.{Name};
+ghost use Rattle.csub_core.specs.Labels.{label_tree};
+ghost use Rattle.csub_core.specs.Points.{entry, exit, point_tree, exit_tree};
+ghost use Rattle.csub_core.specs.Syntax.{ProgramTree, function_tree};
+ghost use Rattle.csub_core.specs.Flows.{PlacedNode, Edge, point_list, edge_list, flow_of, function_of};
+ghost use Rattle.csub_core.specs.Numbers.{Site, site, site_at, edge_at as edge_at', name_at};
+ghost use Rattle.flow_graph.specs.Graph.{IsGraphOf, point_count, edge_count, function_count};
+
+use crate::build::{list_points, Listed};
+use crate::edges::{number_edges, EdgeNumbers};
+use crate::node::{GraphFunction, GraphPoint};
+use crate::search::{find_function, find_way};
+use csub_core::{ExitLabel, Label, Point, Program, Span, Text};
+use std::alloc::{AllocError, Global};
+use std::marker::Model;
+
+/// The graph of a program: its points and edges, numbered from 0. Points are numbered function by function, and in a
+/// function the entry, the points of the body in the order of the text, and the exit; edges by their source points and
+/// then in order, a `Default` last; functions in the program's order, `#start` first.
+#[derive(Drop)]
+pub struct Graph {
+    functions: Vec<GraphFunction>,
+    points: Vec<GraphPoint>,
+    firsts: Vec<u32>,
+    sources: Vec<u32>,
+}
+
+impl Model for Graph {
+    ghost use Rattle.std.specs.Prelude.{◌≡◌};
+    ghost use Rattle.std.specs.Coded.{codes};
+    ghost use Rattle.csub_core.specs.contracts.expression.RExpr as expr;
+    ghost use Rattle.flow_graph.specs.Graph.{Tables, IsClosed, firsts_of, sources_of};
+
+    ghost Value = { Tables };
+
+    ghost coded = { Prim.hlevel (codes, expr.the_row.coded) };
+
+    ghost view = { λ g. (g.functions.items, g.points.items) };
+
+    ghost invariant = { λ g. IsClosed (g.functions.items, g.points.items) × (g.firsts.items ≡ firsts_of g.points.items 0) × (g.sources.items ≡ sources_of g.points.items 0) };
+}
+
+/// An edge: its source point, its exit label and the point to which it leads.
+pub struct EdgeEnds<'a> {
+    /// The number of the source point.
+    pub from: u32,
+    /// The exit label.
+    pub exit: &'a ExitLabel,
+    /// The number of the point to which it leads.
+    pub to: u32,
+}
+
+impl Graph {
+    /// The graph of a program. An `Err` is want of memory. The work is in proportion to the points, their paths and
+    /// their labels.
+    pub fn build(alloc: Global, program: &Program) -> Result<Graph, AllocError>
+        ensures { IfOk result (λ graph. IsGraphOf graph (map function_tree program.now)) }
+    {
+        let Listed { functions, points } = list_points(alloc, program.functions())?;
+        let EdgeNumbers { firsts, sources } = number_edges(alloc, points.as_slice())?;
+        Ok(Graph {
+            functions,
+            points,
+            firsts,
+            sources,
+        })
+    }
+
+    /// How many points there are.
+    pub fn points(&self) -> u32
+        ensures value { result ≡ point_count self.now }
+        ensures listed { (P : ProgramTree) → IsGraphOf self.now P → result ≡ length (point_list P) }
+    {
+        self.points.len() as u32
+    }
+
+    /// How many edges there are.
+    pub fn edges(&self) -> u32
+        ensures value { result ≡ edge_count self.now }
+        ensures listed { (P : ProgramTree) → IsGraphOf self.now P → result ≡ length (edge_list P) }
+    {
+        self.sources.len() as u32
+    }
+
+    /// The number of a function's entry.
+    pub fn start_of(&self, function: u32) -> u32
+        requires { function < function_count self.now }
+        ensures start { (P : ProgramTree) (f : Name) → IsGraphOf self.now P → name_at P function ≡ Some f → site_at P result ≡ Some (site f entry) }
+        ensures within { result < point_count self.now }
+    {
+        self.functions[function as usize].start
+    }
+
+    /// The number of a function's exit.
+    pub fn exit_of(&self, function: u32) -> u32
+        requires { function < function_count self.now }
+        ensures exit { (P : ProgramTree) (f : Name) → IsGraphOf self.now P → name_at P function ≡ Some f → site_at P result ≡ Some (site f exit) }
+        ensures within { result < point_count self.now }
+    {
+        self.functions[function as usize].exit
+    }
+
+    /// The number of a point's function.
+    pub fn function_at(&self, point: u32) -> u32
+        requires { point < point_count self.now }
+        ensures function { (P : ProgramTree) (s : Site) → IsGraphOf self.now P → site_at P point ≡ Some s → name_at P result ≡ Some s.function }
+        ensures within { result < function_count self.now }
+    {
+        self.points[point as usize].function
+    }
+
+    /// The point with a number.
+    pub fn point_at(&self, point: u32) -> &Point
+        requires { point < point_count self.now }
+        ensures { (P : ProgramTree) (s : Site) → IsGraphOf self.now P → site_at P point ≡ Some s → point_tree result.now ≡ s.point }
+    {
+        &self.points[point as usize].node.point
+    }
+
+    /// What is done at a point.
+    pub fn label_at(&self, point: u32) -> &Label
+        requires { point < point_count self.now }
+        ensures { (P : ProgramTree) (s : Site) → IsGraphOf self.now P → site_at P point ≡ Some s → (flow_of P).label s.function s.point ≡ Some (record { tree = label_tree result.now; globals = [] }) }
+    {
+        &self.points[point as usize].node.label
+    }
+
+    /// The place in the source that is named for a point.
+    pub fn span_at(&self, point: u32) -> Span
+        requires { point < point_count self.now }
+        ensures { (P : ProgramTree) (n : PlacedNode) → IsGraphOf self.now P → slice_get (point_list P) point ≡ Some n → result ≡ n.node.span }
+    {
+        self.points[point as usize].node.span
+    }
+
+    /// The name of a function.
+    pub fn name_of(&self, function: u32) -> &Text
+        requires { function < function_count self.now }
+        ensures { (P : ProgramTree) → IsGraphOf self.now P → name_at P function ≡ Some result.now }
+    {
+        &self.functions[function as usize].name
+    }
+
+    /// The number of the function with a name; `None` exactly where no function has it. Names are compared one by one.
+    pub fn find(&self, name: &Text) -> Option<u32>
+        ensures found { (P : ProgramTree) → IsGraphOf self.now P → option_and_then (name_at P) result ≡ option_map (λ g. g.name) (function_of P name.now) }
+        ensures within { IfSome result (λ f. f < function_count self.now) }
+    {
+        match find_function(self.functions.as_slice(), name) {
+            Some(function) => Some(function as u32),
+            None => None,
+        }
+    }
+
+    /// The point to which a way out of a point leads; `None` exactly where the point has no such exit label.
+    pub fn follow(&self, point: u32, exit: &ExitLabel) -> Option<u32>
+        requires { point < point_count self.now }
+        ensures leads { (P : ProgramTree) (s : Site) → IsGraphOf self.now P → site_at P point ≡ Some s → option_and_then (site_at P) result ≡ option_map (site s.function) ((flow_of P).succ s.function s.point (exit_tree exit.now)) }
+        ensures within { IfSome result (λ q. q < point_count self.now) }
+    {
+        let ways = self.points[point as usize].node.ways.as_slice();
+        match find_way(ways, exit) {
+            Some(way) => Some(ways[way].to),
+            None => None,
+        }
+    }
+
+    /// The number of the edge that leaves a point by an exit label; `None` exactly where the point has no such label.
+    pub fn edge_number(&self, point: u32, exit: &ExitLabel) -> Option<u32>
+        requires { point < point_count self.now }
+        ensures number { (P : ProgramTree) (s : Site) → IsGraphOf self.now P → site_at P point ≡ Some s → option_and_then (edge_at' P) result ≡ option_map (λ q. record { function = s.function; from = s.point; exit = exit_tree exit.now }) ((flow_of P).succ s.function s.point (exit_tree exit.now)) }
+        ensures within { IfSome result (λ e. e < edge_count self.now) }
+    {
+        let ways = self.points[point as usize].node.ways.as_slice();
+        match find_way(ways, exit) {
+            Some(way) => Some(self.firsts[point as usize] + way as u32),
+            None => None,
+        }
+    }
+
+    /// The edge with a number.
+    pub fn edge_at(&self, edge: u32) -> EdgeEnds<'_>
+        requires { edge < edge_count self.now }
+        ensures from { (P : ProgramTree) (e : Edge) → IsGraphOf self.now P → edge_at' P edge ≡ Some e → site_at P result.from ≡ Some (site e.function e.from) }
+        ensures exit { (P : ProgramTree) (e : Edge) → IsGraphOf self.now P → edge_at' P edge ≡ Some e → exit_tree result.exit.now ≡ e.exit }
+        ensures to { (P : ProgramTree) (e : Edge) → IsGraphOf self.now P → edge_at' P edge ≡ Some e → site_at P result.to ≡ option_map (site e.function) ((flow_of P).succ e.function e.from e.exit) }
+        ensures from_within { result.from < point_count self.now }
+        ensures to_within { result.to < point_count self.now }
+    {
+        let from = self.sources[edge as usize];
+        let way = &self.points[from as usize].node.ways[(edge - self.firsts[from as usize]) as usize];
+        EdgeEnds {
+            from,
+            exit: &way.exit,
+            to: way.to,
+        }
+    }
+}

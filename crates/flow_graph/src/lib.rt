@@ -1,0 +1,17 @@
+//! The numbered control-flow graph of a program.
+//!
+//! `Graph::build` gives the graph, and its contract says that it is the program's: the points are those of
+//! `csub_core`'s `point_list` and the edges those of its `edge_list`, each by its place there. The contracts of
+//! [`Graph::follow`], [`Graph::edge_number`], [`Graph::edge_at`], [`Graph::label_at`] and the others say what that is at
+//! a number, in the words of the record `flow_of` between a program and all that runs or walks it.
+#![tactic(auto)]
+
+mod build;
+mod count;
+mod edges;
+mod emit;
+pub mod graph;
+pub mod node;
+mod search;
+
+pub use graph::{EdgeEnds, Graph};
