@@ -1,9 +1,7 @@
 -- What is done at a point. An act reads the label, the number of frames, the top frame's result and the store: no
 -- point and no other part of the program, so equal labels act alike.
 use Rattle.std.specs.Prelude.{ℕ, ◌-◌, ℤ, pos, List, [], ◌∷◌, Option, Some, None, nat_le, if◌then◌else◌}
-use Rattle.std.specs.Option.{option_map}
 use Rattle.std.specs.Ordering.{int_eq}
-use Rattle.csub_types.specs.declared.kind.IntKind.{IntKind}
 use Rattle.csub_types.specs.declared.kind.IntKind.TheVariants.{Int}
 use Rattle.csub_types.specs.declared.trap.Trap.TheVariants.{Depth, Missing}
 use Rattle.csub_types.specs.Kinds.{convert}
@@ -12,7 +10,7 @@ use Rattle.csub_core.specs.declared.label.EndRule.TheVariants.{Nothing, Value, M
 use Rattle.csub_core.specs.declared.status.Status.{Status}
 use Rattle.csub_core.specs.declared.status.Status.TheVariants.{Exit, Trap}
 use Rattle.csub_core.specs.Types.{Name, number_kind, MemberTree}
-use Rattle.csub_core.specs.Trees.{NamedExpr, NamedArg, value_argument, reading, variable, temporary}
+use Rattle.csub_core.specs.Trees.{NamedArg, value_argument, reading, variable, temporary}
 use Rattle.csub_core.specs.Labels.{LabelTree, enters, exits, evaluates, branches, returns, calls, AnswerTree, CallTree}
 use Rattle.csub_core.specs.Points.{ExitTree, next, on_true, on_false}
 use Rattle.csub_core.specs.Memory.{State, Answer, value, trapped, then_do, low_byte}

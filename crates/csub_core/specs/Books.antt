@@ -1,6 +1,6 @@
 -- Walking two programs together: books of facts, reached pairs and dangerous edges (Rothermel and Harrold, ACM TOSEM
 -- 6(2), 1997), and claims that are closed.
-use Rattle.std.specs.Prelude.{ℕ, ◌≡◌, ◌⊎◌, List, Option, Some, slice_get, take}
+use Rattle.std.specs.Prelude.{ℕ, ◌≡◌, ◌⊎◌, List, Some, slice_get, take}
 use Rattle.csub_core.specs.Types.{Name}
 use Rattle.csub_core.specs.Labels.{CallTree, calls, PointLabel}
 use Rattle.csub_core.specs.Points.{PointTree, entry, exit, ExitTree, next}

@@ -1,7 +1,7 @@
 -- The memory of named cells.
 use Rattle.std.specs.Prelude.{ℕ, ℤ, List, [], ◌∷◌, ◌++◌, Bool, true, false, ◌&&◌, Option, Some, None, nat_eq, if◌then◌else◌}
 use Rattle.csub_core.specs.Types.{Name, TypeTree, number_type, number_kind, MemberTree}
-use Rattle.csub_core.specs.Trees.{OwnerTree, global_owner, local_owner, Variable, object, temporary}
+use Rattle.csub_core.specs.Trees.{global_owner, local_owner, Variable, object, temporary}
 use Rattle.csub_core.specs.Flows.{name_eq}
 use Rattle.csub_core.specs.Memory.{Memory}
 

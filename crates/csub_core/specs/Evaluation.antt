@@ -1,12 +1,12 @@
 -- What places and expressions give, over any memory: operands from left to right, with side effects at once.
-use Rattle.std.specs.Prelude.{ℕ, ℤ, pos, List, [], ◌∷◌, Option, Some, None}
+use Rattle.std.specs.Prelude.{ℤ, pos}
 use Rattle.csub_lex.specs.declared.operator.BinOp.{BinOp}
 use Rattle.csub_lex.specs.declared.operator.BinOp.TheVariants.{Shl, Shr}
 use Rattle.csub_types.specs.declared.kind.IntKind.{IntKind}
 use Rattle.csub_types.specs.Kinds.{convert, promote}
 use Rattle.csub_types.specs.Arithmetic.{binary}
-use Rattle.csub_core.specs.Trees.{PlaceTree, variable, ExprTree, constant, reading, operation, input_byte, output_byte, ArgTree, value_argument}
-use Rattle.csub_core.specs.Memory.{State, Answer, value, trapped, then_do, given, found, Memory, get_byte, put_byte, low_byte}
+use Rattle.csub_core.specs.Trees.{PlaceTree, variable, ExprTree, constant, reading, operation, input_byte, output_byte}
+use Rattle.csub_core.specs.Memory.{State, Answer, value, then_do, given, found, Memory, get_byte, put_byte, low_byte}
 
 -- a right operand in its kind; the count of a shift stays as it is (C11 6.5.7)
 abbrev pub right_operand : BinOp → IntKind → ℤ → ℤ

@@ -1,15 +1,14 @@
 -- The points and edges of a program, and the record of functions between a program and all that runs or walks it.
-use Rattle.std.specs.Prelude.{ℕ, ℤ, ◌≡◌, List, [], ◌∷◌, ◌++◌, map, Bool, true, false, Option, Some, None, find, IsTrue, if◌then◌else◌}
+use Rattle.std.specs.Prelude.{ℤ, List, [], ◌∷◌, ◌++◌, map, Bool, Option, Some, None, find, if◌then◌else◌}
 use Rattle.std.specs.Option.{option_map}
 use Rattle.std.specs.List.{flat_map}
 use Rattle.std.specs.Cmp.Lexicographic.{pointwise}
 use Rattle.std.specs.Prelude.{nat_eq}
-use Rattle.csub_lex.specs.declared.span.Span.{Span}
 use Rattle.csub_types.specs.declared.kind.IntKind.{IntKind}
 use Rattle.csub_core.specs.declared.label.EndRule.{EndRule}
 use Rattle.csub_core.specs.declared.label.EndRule.TheVariants.{Nothing, Value, Main, Start}
 use Rattle.csub_core.specs.Types.{Name}
-use Rattle.csub_core.specs.Labels.{LabelTree, enters, exits, Initial, PointLabel}
+use Rattle.csub_core.specs.Labels.{enters, exits, PointLabel}
 use Rattle.csub_core.specs.Syntax.{FunctionTree, ProgramTree}
 use Rattle.csub_core.specs.Points.{PointTree, entry, exit, at, point_eq, ExitTree, next, exit_eq, on_default}
 use Rattle.csub_core.specs.Successors.{Way, Node, Around, way, enter_list, nodes_list}

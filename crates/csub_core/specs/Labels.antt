@@ -1,5 +1,5 @@
 -- Labels: what is done at a point. Two statements count as the same exactly where their labels are equal.
-use Rattle.std.specs.Prelude.{ℕ, ℤ, List, [], map, Option, Some, None}
+use Rattle.std.specs.Prelude.{ℕ, ℤ, List, map, Option}
 use Rattle.std.specs.Option.{option_map}
 use Rattle.csub_types.specs.declared.kind.IntKind.{IntKind}
 use Rattle.csub_core.specs.Types.{Name, MemberTree, member_tree}

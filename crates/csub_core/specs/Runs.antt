@@ -1,5 +1,5 @@
 -- Turns and runs over the record of functions of a program.
-use Rattle.std.specs.Prelude.{ℕ, zero, suc, ◌+◌, ◌<◌, ℤ, ◌≡◌, List, [], ◌∷◌, Bool, Option, Some, None, length, if◌then◌else◌}
+use Rattle.std.specs.Prelude.{ℕ, zero, suc, ◌+◌, ℤ, List, [], ◌∷◌, Option, Some, None, length, if◌then◌else◌}
 use Rattle.std.specs.List.{list_any}
 use Rattle.std.specs.Ordering.{int_eq}
 use Rattle.csub_core.specs.declared.status.Status.{Status}
@@ -8,7 +8,7 @@ use Rattle.csub_core.specs.Types.{Name}
 use Rattle.csub_core.specs.Labels.{LabelTree, enters, exits, evaluates, branches, returns, calls, PointLabel}
 use Rattle.csub_core.specs.Points.{PointTree, entry, ExitTree, next, on_case, on_default}
 use Rattle.csub_core.specs.Flows.{Flow, Edge, start_name}
-use Rattle.csub_core.specs.Cells.{Cells, Cell, Inner, Root, global_root, local_root, temp_root, Content, number, written}
+use Rattle.csub_core.specs.Cells.{Cells, Inner, Root, global_root, local_root, temp_root, Content, number, written}
 use Rattle.csub_core.specs.Acts.{Store, Outcome, leaves, gives, pushes, pops, ends, act}
 
 -- a frame: its function, its point, and what the function returned, if it did

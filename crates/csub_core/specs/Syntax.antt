@@ -4,7 +4,7 @@ use Rattle.std.specs.Option.{option_map}
 use Rattle.csub_lex.specs.declared.span.Span.{Span}
 use Rattle.csub_types.specs.declared.kind.IntKind.{IntKind}
 use Rattle.csub_core.specs.Types.{Name, TypeTree, type_tree, MemberTree, member_tree}
-use Rattle.csub_core.specs.Labels.{LabelTree, CallTree, calls, label_tree, call_tree}
+use Rattle.csub_core.specs.Labels.{LabelTree, calls, label_tree, call_tree}
 use Rattle.csub_core.specs.declared.function.RCall.{RCall}
 use Rattle.csub_core.specs.declared.function.RPart.{RPart}
 use Rattle.csub_core.specs.declared.function.RStmt.{RStmt, Parts, Block', If', Row_of-RStmt, end_of-RStmt, more_of-RStmt, Held-RStmt-If-2, None', Some'}
