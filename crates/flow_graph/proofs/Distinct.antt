@@ -3,7 +3,7 @@ use Rattle.std.proofs.Common.{◌≡◌, ℕ, zero, suc, ◌+◌, List, [], ◌�
 use Rattle.std.specs.List.{range_with_len}
 use Rattle.std.proofs.lemmas.List.{map-append}
 use Rattle.csub_core.specs.Points.{PointTree, entry, exit, at}
-use Rattle.csub_core.specs.Syntax.{Stage, PartTree, StmtTree, StmtTrees, ElseTree, parts, block, conditional, no_stmt, more_stmts, no_else, else_stmt, FunctionTree}
+use Rattle.csub_core.specs.Syntax.{PartTree, StmtTree, StmtTrees, ElseTree, parts, block, conditional, no_stmt, more_stmts, no_else, else_stmt, FunctionTree}
 use Rattle.csub_core.specs.Successors as points
 use Rattle.csub_core.specs.Successors.{Way, Node, Around}
 use Rattle.csub_core.specs.Flows.{function_nodes, to_exit}

@@ -1,12 +1,11 @@
 -- The numbers of edges.
-use Rattle.std.proofs.Common.{◌≡◌, List, [], ◌∷◌, ◌++◌, ◌∙◌, zero, suc, arith, map, refl, ap, sym, ℕ, ◌+◌, ◌-◌, ◌<◌, ◌≤◌, length, get_or, Option, Some, None, ◌⊎◌, ⊎_elim}
+use Rattle.std.proofs.Common.{◌≡◌, List, [], ◌∷◌, ◌∙◌, zero, suc, arith, map, refl, ap, sym, ℕ, ◌+◌, ◌-◌, ◌<◌, ◌≤◌, length, Some, ⊎_elim}
 use Rattle.std.specs.Prelude.{replicate}
 use Rattle.std.specs.List.{slice_get, flat_map, sum_by}
-use Rattle.std.specs.Option.{option_map}
 use Rattle.std.proofs.lemmas.List.{length-append, length-map, length-replicate}
 use Rattle.std.proofs.lemmas.List.Sums.{sum_by-cons}
-use Rattle.std.proofs.lemmas.Option.{slice_get-map, slice_get_within, same_Some, slice_get-get_or}
-use Rattle.csub_core.specs.Flows.{PlacedNode, Edge, edges_from, edge_list, point_list}
+use Rattle.std.proofs.lemmas.Option.{slice_get_within, same_Some}
+use Rattle.csub_core.specs.Flows.{PlacedNode, Edge, edges_from}
 use Rattle.flow_graph.specs.declared.node.GraphPoint.{GraphPoint}
 use Rattle.flow_graph.specs.Graph.{way_count, firsts_of, sources_of}
 use Rattle.flow_graph.proofs.Lists.{slice_get-left, slice_get-right, slice_get_cases_append, rest_of, head_or}

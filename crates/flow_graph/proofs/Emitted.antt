@@ -1,19 +1,16 @@
 -- Points that are appended last first, one after another.
-use Rattle.std.proofs.Common.{◌≡◌, List, [], ◌∷◌, ◌++◌, ◌∙◌, reverse, zero, suc, arith, map, refl, ap, sym, subst, ℕ, ◌+◌, ◌-◌, ◌<◌, ◌≤◌, length, get_or, drop, Option, Some, None, append_assoc, rules}
+use Rattle.std.proofs.Common.{◌≡◌, List, [], ◌∷◌, ◌++◌, ◌∙◌, reverse, suc, arith, map, refl, ap, sym, subst, ℕ, ◌+◌, ◌<◌, length, get_or, drop, Option, Some, None, append_assoc}
 use Rattle.std.specs.Option.{option_map}
 use Rattle.std.proofs.lemmas.List.{reverse-append}
 use Rattle.csub_lex.specs.declared.span.Span.{Span}
-use Rattle.std.specs.declared.alloc.Global.{Global}
-use Rattle.std.specs.declared.boxed.Box.{Box}
-use Rattle.csub_core.specs.declared.function.RStmt.{RStmt, If}
 use Rattle.csub_core.specs.declared.function.RPart.{RPart}
 use Rattle.csub_core.specs.declared.function.RCall.{RCall}
 use Rattle.csub_core.specs.Labels.{LabelTree, enters, exits, evaluates, branches, returns, calls, label_tree}
 use Rattle.csub_core.specs.Points.{at, next}
-use Rattle.csub_core.specs.Syntax.{Stage, PartTree, StmtTree, StmtTrees, ElseTree, conditional, no_else, else_stmt, more_stmts, stmt_tree, part_tree, call_stage, own_stage}
-use Rattle.csub_core.specs.Successors.{Way, Around, way, leaving, own_ways, last_ways, test_ways}
-use Rattle.flow_graph.specs.Numbers.{Numbered, count, count_list, count_parts, enter, enter_list, enter_else, enter_part, enter_parts, part_numbered, parts_numbered, numbered, list_numbered, else_numbered, past_label}
-use Rattle.flow_graph.proofs.Rows.{lines_from, lines_from-back, parts_from, parts_from-back}
+use Rattle.csub_core.specs.Syntax.{Stage, PartTree, part_tree, call_stage, own_stage}
+use Rattle.csub_core.specs.Successors.{Way, Around, way, own_ways, last_ways}
+use Rattle.flow_graph.specs.Numbers.{Numbered, count_parts, enter_part, enter_parts, part_numbered, parts_numbered, past_label}
+use Rattle.flow_graph.proofs.Rows.{parts_from, parts_from-back}
 
 -- a part by the stages before its last and the last
 pub last_stage : (cs : PartTree) (s : Stage) (k first : ℕ) (path : List ℕ) (i : ℕ) (ways : List (Way ℕ)) (own : ℕ) → own ≡ first + length cs → part_numbered (cs ++ s ∷ []) k first path i ways ≡ part_numbered cs k first path i (way next own ∷ []) ++ record { point = at path i (k + length cs); label = s.label; span = s.span; ways = ways } ∷ []
@@ -78,21 +75,6 @@ stages_ways cs span (Some label) first path i past returned =
 -- the points of a part that is no test
 pub part_ways : (p : RPart) (first : ℕ) (path : List ℕ) (i past returned : ℕ) → part_numbered (part_tree p) 0 first path i (way next (past_label (option_map label_tree p.main) past returned) ∷ []) ≡ part_numbered (part_tree p) 0 first path i (last_ways (part_tree p) past returned)
 part_ways p first path i past returned = stages_ways p.calls.items p.span (option_map label_tree p.main) first path i past returned
-
--- what an `if` stands for
-pub stmt_tree-If-none : (test : RPart) (then : Box RStmt Global) → stmt_tree (If test then None) ≡ conditional (part_tree test) (stmt_tree then.value) no_else
-stmt_tree-If-none test then = search rules
-
-pub stmt_tree-If-some : (test : RPart) (then other : Box RStmt Global) → stmt_tree (If test then (Some other)) ≡ conditional (part_tree test) (stmt_tree then.value) (else_stmt (stmt_tree other.value))
-stmt_tree-If-some test then other = search rules
-
--- the points of an `if` are appended in three steps
-pub if_emitted : (s : StmtTree) (p : PartTree) (t : StmtTree) (e : ElseTree) (first on_true on_false : ℕ) (path : List ℕ) (a : Around ℕ) (old one two new : List Numbered) → s ≡ conditional p t e → first + length p ≡ on_true → on_true + count t ≡ on_false → one ≡ old ++ reverse (else_numbered e on_false (path ++ 1 ∷ []) a) → two ≡ one ++ reverse (numbered t on_true (path ++ 0 ∷ []) a) → new ≡ two ++ reverse (part_numbered p 0 first path 0 (test_ways (enter t on_true a) (enter_else e on_false a))) → new ≡ old ++ reverse (numbered s first path a)
-if_emitted s p t e first on_true on_false path a old one two new is f g emitted_else emitted_then emitted_test =
-    let inside = two_appended (numbered t on_true (path ++ 0 ∷ []) a) (else_numbered e on_false (path ++ 1 ∷ []) a) old one two emitted_else emitted_then in
-    let whole = two_appended (part_numbered p 0 first path 0 (test_ways (enter t on_true a) (enter_else e on_false a))) (numbered t on_true (path ++ 0 ∷ []) a ++ else_numbered e on_false (path ++ 1 ∷ []) a) old two new inside emitted_test in
-    let of = λ (m n : ℕ). old ++ reverse (part_numbered p 0 first path 0 (test_ways (enter t m a) (enter_else e n a)) ++ (numbered t m (path ++ 0 ∷ []) a ++ else_numbered e n (path ++ 1 ∷ []) a)) in
-    whole ∙ ap (λ n. of on_true n) (sym g) ∙ ap (λ m. of m (m + count t)) (sym f) ∙ ap (λ x. old ++ reverse (numbered x first path a)) (sym is)
 
 -- the parts from a place on, by those from the next place on
 pub record PartsFrom (ps : List RPart) (j i : ℕ) (x : RPart) (first onward : ℕ) (path : List ℕ) (a : Around ℕ) (begin : ℕ) (old middle new : List Numbered) : Type 0 where

@@ -1,14 +1,12 @@
 -- No point has two ways out with one exit label.
-use Rattle.std.proofs.Common.{◌≡◌, Bool, true, false, cond, List, [], ◌∷◌, ◌++◌, ◌∙◌, zero, suc, arith, map, refl, ap, sym, subst, ℕ, ℤ, ◌+◌, ◌<◌, length, Option, Some, None, rules}
+use Rattle.std.proofs.Common.{◌≡◌, true, cond, List, [], ◌∷◌, ◌++◌, ◌∙◌, zero, suc, refl, ap, sym, subst, ℕ, ◌+◌, Some, None}
 use Rattle.std.specs.List.{slice_get, find}
-use Rattle.std.specs.Ordering.{int_eq}
-use Rattle.std.specs.Cmp.Lexicographic.{pointwise}
 use Rattle.std.specs.Cmp.{signed_Decides}
 use Rattle.std.specs.Cmp.Rules.{signed_items}
 use Rattle.std.proofs.lemmas.Option.{same_Some}
 use Rattle.csub_core.specs.Labels.{LabelTree, enters, exits, evaluates, branches, returns, calls}
-use Rattle.csub_core.specs.Points.{PointTree, entry, exit, at, ExitTree, next, on_true, on_false, on_case, on_default, exit_eq}
-use Rattle.csub_core.specs.Syntax.{Stage, PartTree, StmtTree, StmtTrees, ElseTree, parts, block, conditional, no_stmt, more_stmts, no_else, else_stmt, FunctionTree}
+use Rattle.csub_core.specs.Points.{at, ExitTree, next, on_true, on_false, on_case, on_default, exit_eq}
+use Rattle.csub_core.specs.Syntax.{PartTree, StmtTree, StmtTrees, ElseTree, parts, block, conditional, no_stmt, more_stmts, no_else, else_stmt, FunctionTree}
 use Rattle.csub_core.specs.Successors as points
 use Rattle.csub_core.specs.Successors.{Way, Node, Around, way}
 use Rattle.csub_core.specs.Flows.{function_nodes, to_exit}

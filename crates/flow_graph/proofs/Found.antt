@@ -1,18 +1,15 @@
 -- In a valid program a point is found by its function's name and its place.
-use Rattle.std.proofs.Common.{rules, ◌≡◌, Bool, true, false, cond, List, [], ◌∷◌, ◌++◌, ◌∙◌, zero, suc, arith, map, refl, ap, sym, ℕ, ◌+◌, ◌<◌, length, get_or, Option, Some, None, ◌⊎◌, ⊎_elim, nat_eq}
+use Rattle.std.proofs.Common.{rules, ◌≡◌, Bool, true, false, cond, List, [], ◌∷◌, ◌∙◌, zero, suc, arith, map, refl, ap, sym, ℕ, ◌+◌, get_or, Some, ⊎_elim, nat_eq}
 use Rattle.std.specs.Prelude.{◌≢◌, AllPairs, ◌&&◌}
-use Rattle.std.specs.List.{slice_get, find, range_with_len}
-use Rattle.std.specs.Option.{option_map}
-use Rattle.std.specs.Cmp.Lexicographic.{pointwise, same_text, other_text}
+use Rattle.std.specs.List.{slice_get, range_with_len}
+use Rattle.std.specs.Cmp.Lexicographic.{pointwise, same_text}
 use Rattle.std.proofs.lemmas.Option.{slice_get-map, slice_get_within, same_Some, slice_get-get_or}
-use Rattle.csub_core.specs.Types.{Name}
 use Rattle.csub_core.specs.Points.{PointTree, entry, exit, at, point_eq}
 use Rattle.csub_core.specs.Syntax.{FunctionTree, ProgramTree}
 use Rattle.csub_core.specs.Successors.{Node}
 use Rattle.csub_core.specs.Flows.{function_nodes, PlacedNode, placed, point_list, name_eq, function_of, node_in, node_of}
-use Rattle.csub_core.specs.Numbers.{name_at}
 use Rattle.flow_graph.specs.Numbers.{count_function}
-use Rattle.flow_graph.proofs.Lists.{slice_get_cases_append, range_at, Made, made_of, rest_of, head_or}
+use Rattle.flow_graph.proofs.Lists.{slice_get_cases_append, range_at, made_of, rest_of}
 use Rattle.flow_graph.proofs.Distinct.{number_of, numbers, function_places}
 
 and_left : (a b : Bool) → (a && b) ≡ true → a ≡ true

@@ -1,8 +1,8 @@
 -- How many points there are, by names and by numbers.
-use Rattle.std.proofs.Common.{◌≡◌, List, [], ◌∷◌, ◌++◌, ◌∙◌, suc, arith, map, refl, ap, sym, ℕ, ◌+◌, length}
+use Rattle.std.proofs.Common.{◌≡◌, List, [], ◌∷◌, ◌++◌, ◌∙◌, suc, arith, refl, ap, ℕ, ◌+◌, length}
 use Rattle.std.proofs.lemmas.List.{length-append}
 use Rattle.csub_core.specs.Labels.{enters, exits}
-use Rattle.csub_core.specs.Syntax.{Stage, PartTree, StmtTree, StmtTrees, ElseTree, parts, block, conditional, no_stmt, more_stmts, no_else, else_stmt, FunctionTree}
+use Rattle.csub_core.specs.Syntax.{PartTree, StmtTree, StmtTrees, ElseTree, parts, block, conditional, no_stmt, more_stmts, no_else, else_stmt, FunctionTree}
 use Rattle.csub_core.specs.Successors as points
 use Rattle.csub_core.specs.Flows.{function_nodes, to_exit, end_rule}
 use Rattle.csub_core.specs.Points.{PointTree, entry, exit, at, next}

@@ -1,26 +1,26 @@
 -- What stands in a graph at a number.
-use Rattle.std.proofs.Common.{◌≡◌, Bool, true, false, cond, List, [], ◌∷◌, ◌++◌, ◌∙◌, zero, suc, arith, map, refl, ap, sym, subst, ℕ, ◌+◌, ◌-◌, ◌<◌, ◌≤◌, length, get_or, Option, Some, None}
-use Rattle.std.specs.List.{slice_get, find, flat_map, sum_by}
+use Rattle.std.proofs.Common.{◌≡◌, Bool, true, false, cond, List, [], ◌∷◌, ◌∙◌, zero, suc, arith, map, refl, ap, sym, subst, ℕ, ◌+◌, ◌-◌, ◌<◌, ◌≤◌, length, get_or, Option, Some, None}
+use Rattle.std.specs.List.{slice_get, find, sum_by}
 use Rattle.std.specs.Option.{option_map, option_and_then}
 use Rattle.std.proofs.lemmas.List.{length-map}
 use Rattle.std.proofs.lemmas.List.Sums.{sum_by-cons}
 use Rattle.std.proofs.lemmas.Simd.{map-map}
-use Rattle.std.proofs.lemmas.Option.{slice_get-map, slice_get_within, same_Some, slice_get-get_or}
+use Rattle.std.proofs.lemmas.Option.{slice_get-map, same_Some, slice_get-get_or}
 use Rattle.csub_core.specs.Types.{Name}
-use Rattle.csub_core.specs.Labels.{LabelTree, label_tree}
+use Rattle.csub_core.specs.Labels.{label_tree}
 use Rattle.csub_core.specs.Points.{PointTree, entry, exit, point_tree, ExitTree, exit_tree, exit_eq}
 use Rattle.csub_core.specs.Syntax.{FunctionTree, ProgramTree}
-use Rattle.csub_core.specs.Successors.{Way, Node, way}
+use Rattle.csub_core.specs.Successors.{Way}
 use Rattle.csub_core.specs.Flows as flows
 use Rattle.csub_core.specs.Flows.{PlacedNode, point_list, Edge, edges_from, edge_list, labelled, name_eq, flow_of}
 use Rattle.csub_core.specs.Numbers.{Site, site, site_of, site_at, edge_at, name_at}
 use Rattle.flow_graph.specs.declared.node.GraphWay.{GraphWay}
 use Rattle.flow_graph.specs.declared.node.GraphPoint.{GraphPoint}
 use Rattle.flow_graph.specs.declared.node.GraphFunction.{GraphFunction}
-use Rattle.flow_graph.specs.Graph.{Tables, NamedPoint, NamedFunction, way_at, point_at, function_at, way_of, node_of, point_of, function_of, way_count, edge_count, point_count, function_count, IsGraphOf, firsts_of, sources_of}
+use Rattle.flow_graph.specs.Graph.{Tables, NamedPoint, NamedFunction, way_at, point_at, function_at, way_of, point_of, function_of, way_count, edge_count, point_count, function_count, IsGraphOf, firsts_of, sources_of}
 use Rattle.flow_graph.proofs.Lists.{find-map, Made, made_of}
 use Rattle.flow_graph.proofs.Found.{found, point_placed}
-use Rattle.flow_graph.proofs.Exits.{exit_same, FoundByExit, AllFound-at, function_ways_found}
+use Rattle.flow_graph.proofs.Exits.{exit_same, AllFound-at, function_ways_found}
 use Rattle.flow_graph.proofs.EdgePlaces.{edge_place, firsts-length, sources-length, source}
 
 -- an element that was read
@@ -137,6 +137,7 @@ module _ (P : ProgramTree) (t : Tables) (g : IsGraphOf t P) where
       counted : (ps : List GraphPoint) → map way_count ps ≡ map (λ (d : NamedPoint). length d.node.ways) (map (point_at P) ps)
       counted [] = refl
       counted (p ∷ ps) = ap (λ n. n ∷ map way_count ps) (sym (length-map p.node.ways.items (way_at P))) ∙ ap (λ l. length (map (way_at P) p.node.ways.items) ∷ l) (counted ps)
+
       counted' : (ms : List PlacedNode) → map (λ (d : NamedPoint). length d.node.ways) (map point_of ms) ≡ map (λ (m : PlacedNode). length m.node.ways) ms
       counted' [] = refl
       counted' (m ∷ ms) = ap (λ n. n ∷ map (λ (d : NamedPoint). length d.node.ways) (map point_of ms)) (length-map m.node.ways (way_of m.function)) ∙ ap (λ l. length m.node.ways ∷ l) (counted' ms)
@@ -156,8 +157,8 @@ module _ (P : ProgramTree) (t : Tables) (g : IsGraphOf t P) where
       let m = point_made n p e in
       let node = m.value in
       let v =
-          made_of (way_of node.function) (slice_get node.node.ways i) (way_at P w)
-          (sym (slice_get-map (way_of node.function) node.node.ways i) ∙ ap (λ (d : NamedPoint). slice_get d.node.ways i) m.gives ∙ slice_get-map (way_at P) p.node.ways.items i ∙ ap (option_map (way_at P)) h) in
+      made_of (way_of node.function) (slice_get node.node.ways i) (way_at P w)
+      (sym (slice_get-map (way_of node.function) node.node.ways i) ∙ ap (λ (d : NamedPoint). slice_get d.node.ways i) m.gives ∙ slice_get-map (way_at P) p.node.ways.items i ∙ ap (option_map (way_at P)) h) in
       let x : Edge = record { function = node.function; from = node.node.point; exit = v.value.exit } in
       let of = λ (u : Way PointTree). let y : Edge = record { function = node.function; from = node.node.point; exit = u.exit } in y in
       let there = slice_get-map of node.node.ways i ∙ ap (option_map of) v.is in

@@ -1,6 +1,6 @@
 -- The points by numbers are the points by places: where each number of a list of points is told to be its point, each
 -- way out leads by number to the point to which it leads by name.
-use Rattle.std.proofs.Common.{◌≡◌, List, [], ◌∷◌, ◌++◌, ◌∙◌, suc, arith, map, refl, ap, sym, subst, ℕ, ◌+◌, length, Option, Some, append_assoc, append-nil, add_assoc}
+use Rattle.std.proofs.Common.{◌≡◌, List, [], ◌∷◌, ◌++◌, ◌∙◌, arith, map, refl, ap, sym, subst, ℕ, ◌+◌, length, Option, Some, append_assoc, append-nil}
 use Rattle.std.proofs.lemmas.List.{map-append}
 use Rattle.csub_core.specs.Types.{Name}
 use Rattle.csub_core.specs.Labels.{LabelTree, enters, exits, evaluates, branches, returns, calls}
@@ -10,9 +10,9 @@ use Rattle.csub_core.specs.Successors as points
 use Rattle.csub_core.specs.Successors.{Way, Node, Around, way, leaving, own_ways, last_ways, test_ways}
 use Rattle.csub_core.specs.Flows.{function_nodes, to_exit, end_rule}
 use Rattle.csub_core.specs.Numbers.{Site, site}
-use Rattle.flow_graph.specs.Numbers.{Numbered, count, count_list, count_else, count_parts, count_function, enter, enter_list, enter_else, enter_part, enter_parts, ways_before, part_numbered, parts_numbered, numbered, list_numbered, else_numbered, exit_number, by_exit, function_numbered}
+use Rattle.flow_graph.specs.Numbers.{Numbered, count, count_list, enter, enter_list, enter_else, enter_part, enter_parts, part_numbered, parts_numbered, numbered, list_numbered, else_numbered, exit_number, by_exit, function_numbered}
 use Rattle.flow_graph.specs.Graph.{NamedNode, way_of, node_of}
-use Rattle.flow_graph.proofs.Lengths.{part_nodes-length, parts_nodes-length, nodes_list-length, nodes-length}
+use Rattle.flow_graph.proofs.Lengths.{part_nodes-length, nodes_list-length, nodes-length}
 
 module _ (at_number : ℕ → Option Site) (f : Name) where
   -- a point with what its numbers are
@@ -133,7 +133,7 @@ module _ (at_number : ℕ → Option Site) (f : Name) where
         let in_else = else_same e (first + length p + count t) (path ++ 1 ∷ []) (λ q. name (1 ∷ q)) a b (deeper path 1 name named) m other_held in
         let named_here = λ (k : ℕ). named [] 0 k ∙ ap (λ q. at q 0 k) (append-nil path) in
         let same_ways : map way_named ways ≡ map (way_of f) ways' =
-            ap (λ x. way on_true x ∷ way on_false (at_number begin_else) ∷ []) in_then.begins ∙ ap (λ y. way on_true (Some (site f begin_then')) ∷ way on_false y ∷ []) in_else.begins in
+        ap (λ x. way on_true x ∷ way on_false (at_number begin_else) ∷ []) in_then.begins ∙ ap (λ y. way on_true (Some (site f begin_then')) ∷ way on_false y ∷ []) in_else.begins in
         record {
           begins = enter_part_same p 0 first a.leave b.leave name ways' m.leave test_held;
           points =

@@ -1,7 +1,7 @@
 -- What a vector of statements, parts or calls stands for from a place on.
-use Rattle.std.proofs.Common.{◌≡◌, List, [], ◌∷◌, ◌++◌, ◌∙◌, reverse, zero, suc, arith, map, refl, ap, sym, ℕ, ◌+◌, ◌-◌, ◌<◌, ◌≤◌, length, get_or, drop, add-one, drop-cons, rules}
+use Rattle.std.proofs.Common.{◌≡◌, List, [], ◌∷◌, ◌∙◌, zero, suc, arith, map, refl, ap, sym, ℕ, ◌+◌, ◌-◌, ◌<◌, ◌≤◌, length, get_or, drop, add-one, drop-cons}
 use Rattle.std.proofs.Math.ListN.{drop_of_length-le}
-use Rattle.csub_core.specs.declared.function.RStmt.{RStmt, Row_of-RStmt, end_of-RStmt, more_of-RStmt, items-the_row-RStmt, the_lemmas}
+use Rattle.csub_core.specs.declared.function.RStmt.{RStmt, Row_of-RStmt, end_of-RStmt, more_of-RStmt, items-the_row-RStmt}
 use Rattle.csub_core.specs.declared.function.RPart.{RPart}
 use Rattle.csub_core.specs.Syntax.{StmtTrees, more_stmts, no_stmt, stmt_tree, row_trees, stmts_of, part_tree}
 use Rattle.flow_graph.specs.Numbers.{count, count_parts, count_list}

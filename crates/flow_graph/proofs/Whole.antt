@@ -1,26 +1,25 @@
 -- The lists of a program by numbers are its functions and its points.
-use Rattle.std.proofs.Common.{◌≡◌, List, [], ◌∷◌, ◌++◌, ◌∙◌, zero, suc, arith, map, refl, ap, sym, ℕ, ◌+◌, ◌<◌, ◌≤◌, ◌^◌, length, Option, Some, None, All, add_assoc}
-use Rattle.std.specs.List.{slice_get, flat_map, sum_by}
+use Rattle.std.proofs.Common.{◌≡◌, List, [], ◌∷◌, ◌++◌, ◌∙◌, suc, arith, map, refl, ap, sym, ℕ, ◌+◌, ◌<◌, length, Option, Some, None, All, add_assoc}
+use Rattle.std.specs.List.{slice_get, sum_by}
 use Rattle.std.specs.Option.{option_map, IsSome}
 use Rattle.std.proofs.lemmas.List.{map-append, length-map, length-append}
 use Rattle.std.proofs.lemmas.List.Sums.{sum_by-cons}
 use Rattle.std.proofs.lemmas.List.Concat.{length-flat_map}
 use Rattle.std.proofs.lemmas.List.Elements.{All-nil, All-cons, All-head, All-tail, All-same}
-use Rattle.std.proofs.lemmas.Option.{slice_get-map, slice_get_within, same_Some}
+use Rattle.std.proofs.lemmas.Option.{slice_get-map, slice_get_within}
 use Rattle.std.proofs.lemmas.Simd.{map-map}
 use Rattle.csub_core.specs.Types.{Name}
 use Rattle.csub_core.specs.Labels.{label_tree}
-use Rattle.csub_core.specs.Points.{PointTree, entry, exit, point_tree}
+use Rattle.csub_core.specs.Points.{PointTree, entry, point_tree}
 use Rattle.csub_core.specs.Syntax.{FunctionTree, ProgramTree}
-use Rattle.csub_core.specs.Successors.{Way, Node, way}
-use Rattle.csub_core.specs.Flows.{function_nodes, PlacedNode, placed, point_list, edges_from, edge_list, Edge}
+use Rattle.csub_core.specs.Successors.{Node}
+use Rattle.csub_core.specs.Flows.{function_nodes, PlacedNode, placed, point_list, edges_from, edge_list}
 use Rattle.csub_core.specs.Numbers.{Site, site, site_of, site_at, name_at}
 use Rattle.csub_core.specs.Valid.{IsValid}
-use Rattle.flow_graph.specs.declared.node.GraphWay.{GraphWay}
 use Rattle.flow_graph.specs.declared.node.GraphPoint.{GraphPoint}
 use Rattle.flow_graph.specs.declared.node.GraphFunction.{GraphFunction}
 use Rattle.flow_graph.specs.Numbers.{Numbered, NumberedPoint, NumberedFunction, numbered_point, numbered_function, numbered_way, of_function, exit_number, count_function, count_program, function_numbered, program_numbered, functions_numbered}
-use Rattle.flow_graph.specs.Graph.{Tables, NamedNode, NamedPoint, NamedFunction, way_at, point_at, function_at, way_of, node_of, point_of, function_of, way_count, edge_count, point_count, function_count, IsGraphOf, IsClosed}
+use Rattle.flow_graph.specs.Graph.{NamedNode, NamedPoint, NamedFunction, way_at, point_at, function_at, way_of, node_of, point_of, function_of, way_count, IsGraphOf, IsClosed}
 use Rattle.flow_graph.proofs.Lengths.{function_nodes-length}
 use Rattle.flow_graph.proofs.Numbering.{way_named, node_named, Held, function_same}
 use Rattle.flow_graph.proofs.Lists.{slice_get-left, slice_get-right}
@@ -68,7 +67,7 @@ module _ (P : ProgramTree) where
       let one_on = λ (k : ℕ). let e : f + 1 + k ≡ f + suc k = omega arith in e in
       let later_names = λ (k : ℕ) (h : FunctionTree) (e : slice_get rest k ≡ Some h). ap (name_at P) (one_on k) ∙ names (suc k) h e in
       let later_sites =
-          λ (k : ℕ) (m : PlacedNode) (e : slice_get (point_list rest) k ≡ Some m). ap (site_at P) (add_assoc first (count_function g) k) ∙ sites (count_function g + k) m (slice_get-right mine (point_list rest) (count_function g) k (count_function g + k) long refl ∙ e) in
+      λ (k : ℕ) (m : PlacedNode) (e : slice_get (point_list rest) k ≡ Some m). ap (site_at P) (add_assoc first (count_function g) k) ∙ sites (count_function g + k) m (slice_get-right mine (point_list rest) (count_function g) k (count_function g + k) long refl ∙ e) in
       let later = program_same rest (f + 1) (first + count_function g) later_names later_sites in
       let zero_on : f ≡ f + 0 = omega arith in
       let name = ap (name_at P) zero_on ∙ names 0 g refl in

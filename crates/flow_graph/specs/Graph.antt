@@ -56,12 +56,12 @@ abbrev pub point_at : ProgramTree → GraphPoint → NamedPoint
 point_at P p = record {
   function = name_at P p.function;
   node =
-    record {
-      point = point_tree p.node.point;
-      label = label_tree p.node.label;
-      span = p.node.span;
-      ways = map (way_at P) p.node.ways.items;
-    };
+      record {
+        point = point_tree p.node.point;
+        label = label_tree p.node.label;
+        span = p.node.span;
+        ways = map (way_at P) p.node.ways.items;
+      };
 }
 
 abbrev pub function_at : ProgramTree → GraphFunction → NamedFunction

@@ -1,11 +1,11 @@
 -- The points of a program by their numbers, counted in the order of the text from a first number: what the inner
 -- functions of the builder say of themselves. What the whole graph is stands in `Graph`.
-use Rattle.std.specs.Prelude.{ℕ, ◌+◌, List, [], ◌∷◌, ◌++◌, map, length, Option, Some, None}
+use Rattle.std.specs.Prelude.{ℕ, ◌+◌, List, [], ◌∷◌, ◌++◌, map, length, Option, Some}
 use Rattle.csub_lex.specs.declared.span.Span.{Span}
 use Rattle.csub_core.specs.Types.{Name}
 use Rattle.csub_core.specs.Labels.{LabelTree, enters, exits, label_tree, returns}
 use Rattle.csub_core.specs.Points.{PointTree, entry, exit, at, point_tree, exit_tree, next}
-use Rattle.csub_core.specs.Syntax.{Stage, PartTree, StmtTree, StmtTrees, ElseTree, parts, block, conditional, no_stmt, more_stmts, no_else, else_stmt, FunctionTree, ProgramTree}
+use Rattle.csub_core.specs.Syntax.{PartTree, StmtTree, StmtTrees, ElseTree, parts, block, conditional, no_stmt, more_stmts, no_else, else_stmt, FunctionTree, ProgramTree}
 use Rattle.csub_core.specs.Successors.{Way, Around, way, leaving, last_ways, test_ways}
 use Rattle.csub_core.specs.Flows.{end_rule}
 use Rattle.flow_graph.specs.declared.node.GraphWay.{GraphWay}
@@ -143,7 +143,7 @@ by_exit f start = record { leave = exit_number f start; returned = exit_number f
 abbrev pub function_numbered : FunctionTree → ℕ → List Numbered
 function_numbered f start =
     (record { point = entry; label = enters; span = f.span; ways = way next (enter_list f.body (start + 1) (by_exit f start)) ∷ [] }
-     ∷ list_numbered f.body 0 (start + 1) [] (by_exit f start))
+    ∷ list_numbered f.body 0 (start + 1) [] (by_exit f start))
     ++ record { point = exit; label = exits (end_rule f.name f.result); span = f.span; ways = [] } ∷ []
 
 -- a point with the number of its function

@@ -5,7 +5,7 @@ ghost use Rattle.csub_core.specs.Syntax.{function_tree};
 ghost use Rattle.flow_graph.specs.Numbers.{numbered_node, numbered_point, numbered_function, of_function, count_function, count_program, function_numbered, program_numbered, functions_numbered};
 
 use crate::count::count_all;
-use crate::emit::{emit_list, Onward};
+use crate::emit::{Onward, emit_list};
 use crate::node::{GraphFunction, GraphNode, GraphPoint, one_way};
 use csub_core::{EndRule, Function, IntKind, Label, Point, Text};
 use std::alloc::{AllocError, Global};
@@ -36,7 +36,11 @@ fn end_rule(name: &Text, result_kind: Option<IntKind>) -> EndRule
 }
 
 /// The points of a function, its entry having the number `start`.
-fn list_function(alloc: Global, function: &Function, start: u32) -> Result<Vec<GraphNode>, AllocError>
+fn list_function(
+    alloc: Global,
+    function: &Function,
+    start: u32,
+) -> Result<Vec<GraphNode>, AllocError>
     requires { start + count_function (function_tree function.now) < 2 ^ 30 }
     ensures { IfOk result (λ made. map numbered_node made.items ≡ function_numbered (function_tree function.now) start) }
 {
@@ -66,7 +70,11 @@ fn list_function(alloc: Global, function: &Function, start: u32) -> Result<Vec<G
 }
 
 /// Appends the points of the function with a number.
-fn append(points: &mut Vec<GraphPoint>, function: u32, nodes: Vec<GraphNode>) -> Result<(), AllocError>
+fn append(
+    points: &mut Vec<GraphPoint>,
+    function: u32,
+    nodes: Vec<GraphNode>,
+) -> Result<(), AllocError>
     ensures { IfOk result (λ _. map numbered_point points.new.items ≡ map numbered_point points.old.items ++ map (of_function function) (map numbered_node nodes.items)) }
 {
     for node in nodes {

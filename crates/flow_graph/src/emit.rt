@@ -6,7 +6,7 @@ ghost use Rattle.csub_core.specs.Syntax.{call_stage, part_tree, stmt_tree, stmts
 ghost use Rattle.flow_graph.specs.Numbers.{numbered_way, numbered_node, around, count, count_parts, count_list, enter, enter_part, enter_parts, enter_list, past_label, part_numbered, parts_numbered, numbered, list_numbered};
 
 use crate::node::{GraphNode, GraphWay, inner_path, one_way, point_at, step, test_ways};
-use csub_core::{copy_call, copy_label, Label, RCall, RPart, RStmt};
+use csub_core::{Label, RCall, RPart, RStmt, copy_call, copy_label};
 use std::alloc::{AllocError, Global};
 
 /// Where control goes from a statement: past its end, and at a return.
@@ -28,7 +28,15 @@ pub struct Begin {
 }
 
 /// Appends the calls of a part, last first; the number behind the last is `end`, and its ways out are `ways`.
-fn emit_calls(alloc: Global, calls: &[RCall], path: &[u32], part: u32, end: u32, ways: Vec<GraphWay>, out: &mut Vec<GraphNode>) -> Result<u32, AllocError>
+fn emit_calls(
+    alloc: Global,
+    calls: &[RCall],
+    path: &[u32],
+    part: u32,
+    end: u32,
+    ways: Vec<GraphWay>,
+    out: &mut Vec<GraphNode>,
+) -> Result<u32, AllocError>
     requires { length calls.now ≤ end }
     ensures first { IfOk result (λ first. first + length calls.now ≡ end) }
     ensures nodes { IfOk result (λ first. map numbered_node out.new.items ≡ map numbered_node out.old.items ++ reverse (part_numbered (map call_stage calls.now) 0 first path.now part (map numbered_way ways.items))) }
@@ -50,7 +58,15 @@ fn emit_calls(alloc: Global, calls: &[RCall], path: &[u32], part: u32, end: u32,
 }
 
 /// Appends the stages of a part, last first; the number behind the last is `end`, and its ways out are `ways`.
-fn emit_stages(alloc: Global, part: &RPart, path: &[u32], index: u32, end: u32, ways: Vec<GraphWay>, out: &mut Vec<GraphNode>) -> Result<u32, AllocError>
+fn emit_stages(
+    alloc: Global,
+    part: &RPart,
+    path: &[u32],
+    index: u32,
+    end: u32,
+    ways: Vec<GraphWay>,
+    out: &mut Vec<GraphNode>,
+) -> Result<u32, AllocError>
     requires { length (part_tree part.now) ≤ end }
     ensures first { IfOk result (λ first. first + length (part_tree part.now) ≡ end) }
     ensures nodes { IfOk result (λ first. map numbered_node out.new.items ≡ map numbered_node out.old.items ++ reverse (part_numbered (part_tree part.now) 0 first path.now index (map numbered_way ways.items))) }
@@ -74,7 +90,16 @@ fn emit_stages(alloc: Global, part: &RPart, path: &[u32], index: u32, end: u32, 
 }
 
 /// Appends the points of a part as [`emit_stages`] does; a part without points begins with what is past it.
-fn emit_part(alloc: Global, part: &RPart, path: &[u32], index: u32, end: u32, ways: Vec<GraphWay>, past: u32, out: &mut Vec<GraphNode>) -> Result<Begin, AllocError>
+fn emit_part(
+    alloc: Global,
+    part: &RPart,
+    path: &[u32],
+    index: u32,
+    end: u32,
+    ways: Vec<GraphWay>,
+    past: u32,
+    out: &mut Vec<GraphNode>,
+) -> Result<Begin, AllocError>
     requires { length (part_tree part.now) ≤ end }
     ensures first { IfOk result (λ begin. begin.first + length (part_tree part.now) ≡ end) }
     ensures enter { IfOk result (λ begin. begin.enter ≡ enter_part (part_tree part.now) begin.first past) }
@@ -96,7 +121,14 @@ fn past_part(part: &RPart, past: u32, returned: u32) -> u32
 }
 
 /// Appends the points of the parts of a statement, last first.
-fn emit_parts(alloc: Global, parts: &[RPart], path: &[u32], end: u32, onward: Onward, out: &mut Vec<GraphNode>) -> Result<Begin, AllocError>
+fn emit_parts(
+    alloc: Global,
+    parts: &[RPart],
+    path: &[u32],
+    end: u32,
+    onward: Onward,
+    out: &mut Vec<GraphNode>,
+) -> Result<Begin, AllocError>
     requires { count_parts (map part_tree parts.now) ≤ end }
     ensures first { IfOk result (λ begin. begin.first + count_parts (map part_tree parts.now) ≡ end) }
     ensures enter { IfOk result (λ begin. begin.enter ≡ enter_parts (map part_tree parts.now) begin.first onward.leave) }
@@ -116,7 +148,14 @@ fn emit_parts(alloc: Global, parts: &[RPart], path: &[u32], end: u32, onward: On
 
 /// Appends the points of the statement at `path`, last first; the number behind its last point is `end`.
 #[cycle(emit)]
-fn emit(alloc: Global, stmt: &RStmt, path: &[u32], end: u32, onward: Onward, out: &mut Vec<GraphNode>) -> Result<Begin, AllocError>
+fn emit(
+    alloc: Global,
+    stmt: &RStmt,
+    path: &[u32],
+    end: u32,
+    onward: Onward,
+    out: &mut Vec<GraphNode>,
+) -> Result<Begin, AllocError>
     requires { count (stmt_tree stmt.now) ≤ end }
     ensures first { IfOk result (λ begin. begin.first + count (stmt_tree stmt.now) ≡ end) }
     ensures enter { IfOk result (λ begin. begin.enter ≡ enter (stmt_tree stmt.now) begin.first (around onward)) }
@@ -147,7 +186,14 @@ fn emit(alloc: Global, stmt: &RStmt, path: &[u32], end: u32, onward: Onward, out
 
 /// Appends the points of the lines of the list at `path`, last first; the number behind its last point is `end`.
 #[cycle(emit)]
-pub fn emit_list(alloc: Global, stmts: &[RStmt], path: &[u32], end: u32, onward: Onward, out: &mut Vec<GraphNode>) -> Result<Begin, AllocError>
+pub fn emit_list(
+    alloc: Global,
+    stmts: &[RStmt],
+    path: &[u32],
+    end: u32,
+    onward: Onward,
+    out: &mut Vec<GraphNode>,
+) -> Result<Begin, AllocError>
     requires { count_list (stmts_of (map stmt_tree stmts.now)) ≤ end }
     ensures first { IfOk result (λ begin. begin.first + count_list (stmts_of (map stmt_tree stmts.now)) ≡ end) }
     ensures enter { IfOk result (λ begin. begin.enter ≡ enter_list (stmts_of (map stmt_tree stmts.now)) begin.first (around onward)) }

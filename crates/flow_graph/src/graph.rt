@@ -9,8 +9,8 @@ ghost use Rattle.csub_core.specs.Flows.{PlacedNode, Edge, point_list, edge_list,
 ghost use Rattle.csub_core.specs.Numbers.{Site, site, site_at, edge_at as edge_at', name_at};
 ghost use Rattle.flow_graph.specs.Graph.{IsGraphOf, point_count, edge_count, function_count};
 
-use crate::build::{list_points, Listed};
-use crate::edges::{number_edges, EdgeNumbers};
+use crate::build::{Listed, list_points};
+use crate::edges::{EdgeNumbers, number_edges};
 use crate::node::{GraphFunction, GraphPoint};
 use crate::search::{find_function, find_way};
 use csub_core::{ExitLabel, Label, Point, Program, Span, Text};
@@ -191,7 +191,8 @@ impl Graph {
         ensures to_within { result.to < point_count self.now }
     {
         let from = self.sources[edge as usize];
-        let way = &self.points[from as usize].node.ways[(edge - self.firsts[from as usize]) as usize];
+        let way = &self.points[from as usize].node.ways[(edge
+            - self.firsts[from as usize]) as usize];
         EdgeEnds {
             from,
             exit: &way.exit,

@@ -10,8 +10,8 @@ mod build;
 mod count;
 mod edges;
 mod emit;
-pub mod graph;
-pub mod node;
+mod graph;
+mod node;
 mod search;
 
 pub use graph::{EdgeEnds, Graph};

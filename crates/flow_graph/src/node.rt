@@ -62,7 +62,11 @@ pub fn one_way(alloc: Global, to: u32) -> Result<Vec<GraphWay>, AllocError>
 }
 
 /// The ways out of a test.
-pub fn test_ways(alloc: Global, when_true: u32, when_false: u32) -> Result<Vec<GraphWay>, AllocError>
+pub fn test_ways(
+    alloc: Global,
+    when_true: u32,
+    when_false: u32,
+) -> Result<Vec<GraphWay>, AllocError>
     ensures { IfOk result (λ made. map numbered_way made.items ≡ test_ways' when_true when_false) }
 {
     let mut made = Vec::new(alloc);

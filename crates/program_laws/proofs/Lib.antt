@@ -5,4 +5,5 @@ pub mod Nodes
 pub mod Standing
 pub mod Labelled
 pub mod Turns
+pub mod Written
 pub mod Decided

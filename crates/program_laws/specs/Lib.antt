@@ -1,4 +1,5 @@
 pub mod Outcomes
 pub mod Flows
 pub mod Lost
+pub mod Bounds
 pub mod Decided

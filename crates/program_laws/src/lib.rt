@@ -1,19 +1,20 @@
 //! Laws of the definitions of `csub_core`: what holds of every valid program, of every act and of every label.
 //!
 //! Each law is the contract of a function without parameters, whose body does nothing: [`never_lost`] says that a run
-//! of a valid program never gets stuck, [`flows`] what lockstep asks of a program, [`outcomes`] which outcomes a label
+//! of a valid program never gets stuck, [`bounds`] what bounds its results, [`flows`] what lockstep asks of a program, [`outcomes`] which outcomes a label
 //! may have, and [`decided_labels`] that labels can be compared.
 #![tactic(auto)]
 
 ghost use Rattle.std.specs.Prelude.{ℕ, ℤ, Option};
 ghost use Rattle.csub_core.specs.Labels.{LabelTree, PointLabel};
 ghost use Rattle.csub_core.specs.Syntax.{ProgramTree};
-ghost use Rattle.csub_core.specs.Flows.{flow_of};
+ghost use Rattle.csub_core.specs.Flows.{Flow, flow_of};
 ghost use Rattle.csub_core.specs.Acts.{Store, act};
 ghost use Rattle.csub_core.specs.Valid.{IsValid};
 ghost use Rattle.program_laws.specs.Outcomes.{Fits};
 ghost use Rattle.program_laws.specs.Flows.{IsFlow};
 ghost use Rattle.program_laws.specs.Lost.{NeverLost, HasResults};
+ghost use Rattle.program_laws.specs.Bounds.{RunsAreBounded};
 ghost use Rattle.program_laws.specs.Decided.{Decided};
 
 /// A run of a valid program is never lost, so that it has results within every budget of turns.
@@ -35,4 +36,9 @@ pub fn outcomes()
 /// Two labels are equal or not.
 pub fn decided_labels()
     ensures { (a b : PointLabel) → Decided a b }
+{}
+
+/// The results of a run are bounded: its turns by its budget, its output by what a run may write.
+pub fn bounds()
+    ensures { (P : Flow) → RunsAreBounded P }
 {}

@@ -1,12 +1,8 @@
-use Rattle.std.proofs.Common.{rules, arith, ◌≡◌, ◌∙◌, ◌++◌, ◌∷◌, [], ◌+◌, ◌-◌, ◌<◌, ap, sym, map, Some, None, length, reverse}
-use Rattle.csub_core.specs.declared.function.RStmt.{If, the_lemmas}
+use Rattle.std.proofs.Common.{rules, arith, ◌-◌, ◌<◌, ap, length}
+use Rattle.csub_core.specs.declared.function.RStmt.{the_lemmas}
 use denote.Param.Weighed.{at_most}
 use Rattle.csub_core.proofs.function.RStmt.TheLaws.{the_size}
-use Rattle.csub_core.specs.Syntax.{stmt_tree, part_tree, no_else, else_stmt}
-use Rattle.csub_core.specs.Successors.{test_ways}
-use Rattle.flow_graph.specs.Numbers.{around, numbered_node, numbered, part_numbered, enter}
 use Rattle.flow_graph.proofs.Rows.{row_trees-list, room_back}
-use Rattle.flow_graph.proofs.Emitted.{if_emitted, stmt_tree-If-none, stmt_tree-If-some}
 use Rattle.flow_graph.proofs.emit.+emit.Goals as goal
 
 pub emit-emit_list-requires : goal.emit-emit_list-requires

@@ -1,11 +1,10 @@
-use Rattle.std.proofs.Common.{◌≡◌, ◌+◌, ◌-◌, ◌++◌, ◌∙◌, ◌∷◌, List, [], ap, sym, subst, map, length, reverse, arith}
+use Rattle.std.proofs.Common.{◌≡◌, ◌+◌, ◌-◌, ◌++◌, ◌∙◌, ◌∷◌, [], ap, sym, map, length, reverse}
 use Rattle.std.proofs.lemmas.List.{map-append}
 use Rattle.std.specs.Option.{option_map}
 use Rattle.csub_core.specs.Labels.{LabelTree, label_tree}
-use Rattle.csub_core.specs.Points.{PointTree, at, next, point_tree}
+use Rattle.csub_core.specs.Points.{PointTree, at}
 use Rattle.csub_core.specs.Syntax.{Stage, call_stage, own_stage}
-use Rattle.csub_core.specs.Successors.{way}
-use Rattle.flow_graph.specs.Numbers.{Numbered, numbered_node, numbered_way, part_numbered}
+use Rattle.flow_graph.specs.Numbers.{numbered_node, numbered_way, part_numbered}
 use Rattle.flow_graph.proofs.Emitted.{stages_emitted, call_count}
 use Rattle.flow_graph.proofs.emit.emit_stages.Goals as goal
 
@@ -24,13 +23,13 @@ returns-in_ok-first-in-Some-clause-nodes c =
     let own : c.args.end - 1 ≡ first + length calls = sym c.in_ok-first-in-Some.ensures.first ∙ ap (λ n. first + n) counted in
     let point = c.in_ok-point_at-in-Some.ensures ∙ ap (at path c.args.index) (c.in_ok-step-in-Some.ensures ∙ counted) in
     let pushed =
-        ap (map numbered_node) c.in_ok-push-in-Some.ensures.items
-        ∙ map-append numbered_node old _
-        ∙ ap (λ p. of p (label_tree c.in_ok-copy_label-in-Some.field-0)) point
-        ∙ ap (λ l. of (at path c.args.index (length calls)) l) c.in_ok-copy_label-in-Some.ensures in
+    ap (map numbered_node) c.in_ok-push-in-Some.ensures.items
+    ∙ map-append numbered_node old _
+    ∙ ap (λ p. of p (label_tree c.in_ok-copy_label-in-Some.field-0)) point
+    ∙ ap (λ l. of (at path c.args.index (length calls)) l) c.in_ok-copy_label-in-Some.ensures in
     let emitted =
-        c.in_ok-first-in-Some.ensures.nodes
-        ∙ ap (λ cs. map numbered_node c.push.new.self.items ++ reverse (part_numbered (map call_stage cs) 0 first path c.args.index (map numbered_way c.in_ok-onward-in-Some.onward.items))) c.as_slice-calls.ensures.value
-        ∙ ap (λ w. map numbered_node c.push.new.self.items ++ reverse (part_numbered calls 0 first path c.args.index w)) c.in_ok-onward-in-Some.ensures in
+    c.in_ok-first-in-Some.ensures.nodes
+    ∙ ap (λ cs. map numbered_node c.push.new.self.items ++ reverse (part_numbered (map call_stage cs) 0 first path c.args.index (map numbered_way c.in_ok-onward-in-Some.onward.items))) c.as_slice-calls.ensures.value
+    ∙ ap (λ w. map numbered_node c.push.new.self.items ++ reverse (part_numbered calls 0 first path c.args.index w)) c.in_ok-onward-in-Some.ensures in
     stages_emitted calls s first (c.args.end - 1) path c.args.index ways (map numbered_node old) (map numbered_node c.push.new.self.items) (map numbered_node new) own pushed emitted
     ∙ ap (λ m. map numbered_node old ++ reverse (part_numbered (calls ++ own_stage part.span (option_map label_tree m)) 0 first path c.args.index ways)) (sym c.in-Some.is)

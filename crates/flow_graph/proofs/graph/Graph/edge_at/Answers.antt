@@ -1,8 +1,8 @@
-use Rattle.std.proofs.Common.{◌≡◌, ◌∙◌, ◌<◌, ◌≤◌, ◌+◌, ◌-◌, ap, sym, subst, refl, length, rules, arith, All}
+use Rattle.std.proofs.Common.{◌≡◌, ◌∙◌, ◌<◌, ◌+◌, ◌-◌, ap, sym, subst, length, rules, arith, All}
 use Rattle.std.specs.Vec.{vec_len}
 use Rattle.std.proofs.lemmas.Option.{slice_get_within}
 use Rattle.std.proofs.lemmas.List.Elements.{All-get_or}
-use Rattle.flow_graph.specs.Graph.{point_count, edge_count, way_count}
+use Rattle.flow_graph.specs.Graph.{point_count, edge_count}
 use Rattle.flow_graph.proofs.EdgePlaces.{firsts-length, sources-length}
 use Rattle.flow_graph.proofs.Looked.{at_read, read_point, read_first, edge_read, edge_within, edge_looked}
 use Rattle.flow_graph.proofs.graph.Graph.edge_at.Goals as goal

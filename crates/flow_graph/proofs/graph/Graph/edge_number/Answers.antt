@@ -1,4 +1,4 @@
-use Rattle.std.proofs.Common.{◌≡◌, ◌∙◌, ◌<◌, ◌≤◌, ◌+◌, ap, sym, subst, refl, None, Some, length, rules, arith}
+use Rattle.std.proofs.Common.{◌≡◌, ◌∙◌, ◌<◌, ◌+◌, ap, sym, subst, refl, None, length, rules, arith}
 use Rattle.std.specs.Vec.{vec_len}
 use Rattle.std.specs.List.{slice_get, find}
 use Rattle.csub_core.specs.Points.{exit_tree, exit_eq}
@@ -33,7 +33,7 @@ returns-in-Some-clause-number c =
     let within : c.in-Some.way < way_count c.index.result.now = subst (λ l. c.in-Some.way < length l) c.as_slice-ways.ensures.value c.in-Some.ensures.within in
     let there = some_at c.index.result.now.node.ways.items c.in-Some.way within in
     let found =
-        sym (ap (λ l. slice_get l c.in-Some.way) c.as_slice-ways.ensures.value) ∙ c.in-Some.ensures.found ∙ ap (find (λ w. exit_eq (exit_tree w.exit) (exit_tree c.args.exit.now))) c.as_slice-ways.ensures.value in
+    sym (ap (λ l. slice_get l c.in-Some.way) c.as_slice-ways.ensures.value) ∙ c.in-Some.ensures.found ∙ ap (find (λ w. exit_eq (exit_tree w.exit) (exit_tree c.args.exit.now))) c.as_slice-ways.ensures.value in
     λ P s g h. number_looked P c.args.self.now g c.args.point c.in-Some.way c.index-in-Some.result.now (c.index-in-Some.result.now + c.in-Some.way) c.index.result.now there.0 s (exit_tree c.args.exit.now) read first there.1 found refl h
 
 pub returns-in-Some-clause-within : goal.returns-in-Some-clause-within

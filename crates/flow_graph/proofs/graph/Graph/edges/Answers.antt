@@ -1,6 +1,5 @@
-use Rattle.std.proofs.Common.{◌≡◌, ◌∙◌, ◌<◌, ◌^◌, ap, sym, subst, rules, arith, length}
-use Rattle.std.specs.List.{sum_by}
-use Rattle.flow_graph.specs.Graph.{Tables, way_count, edge_count}
+use Rattle.std.proofs.Common.{◌≡◌, ◌∙◌, ap, rules, arith, length}
+use Rattle.flow_graph.specs.Graph.{edge_count}
 use Rattle.flow_graph.proofs.EdgePlaces.{sources-length}
 use Rattle.flow_graph.proofs.Whole.{edges_listed}
 use Rattle.flow_graph.proofs.graph.Graph.edges.Goals as goal

@@ -1,4 +1,4 @@
-use Rattle.std.proofs.Common.{◌≡◌, ◌∙◌, ap, sym, Option, Some, None}
+use Rattle.std.proofs.Common.{◌∙◌, ap, sym, Some, None}
 use Rattle.std.specs.List.{slice_get, find}
 use Rattle.std.specs.Option.{option_and_then}
 use Rattle.csub_core.specs.Flows.{name_eq}
@@ -11,7 +11,7 @@ returns-in-Some-clause-found c =
     let functions = c.as_slice.ensures.value ∙ ap (λ (x : Tables). x.0) c.self.view_is in
     let o = Some c.in-Some.function in
     let found =
-        ap (λ fs. option_and_then (slice_get fs) o) (sym functions) ∙ c.in-Some.ensures.found ∙ ap (find (λ f. name_eq f.name c.args.name.now)) functions in
+    ap (λ fs. option_and_then (slice_get fs) o) (sym functions) ∙ c.in-Some.ensures.found ∙ ap (find (λ f. name_eq f.name c.args.name.now)) functions in
     λ P g. find_looked P c.args.self.now g o c.args.name.now found
 
 pub returns-in-None-clause-found : goal.returns-in-None-clause-found

@@ -1,5 +1,5 @@
-use Rattle.std.proofs.Common.{◌≡◌, ◌∙◌, ap, sym, subst, None, Some, get_or}
-use Rattle.std.specs.List.{slice_get, find}
+use Rattle.std.proofs.Common.{◌∙◌, ap, sym, None, Some, get_or}
+use Rattle.std.specs.List.{find}
 use Rattle.std.proofs.lemmas.Option.{slice_get-get_or}
 use Rattle.csub_core.specs.Points.{exit_tree, exit_eq}
 use Rattle.flow_graph.proofs.Looked.{read_point, follow_looked}

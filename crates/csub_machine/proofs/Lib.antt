@@ -1,0 +1,14 @@
+pub mod Same
+pub mod Keys
+pub mod Enters
+pub mod Adds
+pub mod MomentLemmas
+pub mod RunLemmas
+pub mod EdgeLemmas
+pub mod RowLemmas
+pub mod FrameLemmas
+pub mod ExitsOnce
+pub mod Once
+pub mod BeginLemmas
+pub mod GraphLemmas
+pub mod WholeLemmas

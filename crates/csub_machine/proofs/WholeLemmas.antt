@@ -1,0 +1,51 @@
+-- A whole run.
+use Rattle.std.proofs.Common.{◌≡◌, ◌≤◌, ◌∙◌, ℕ, ◌-◌, Some, refl, sym, ap, subst}
+use Rattle.std.proofs.Math.Nat.{add-sub_of_le}
+use Rattle.std.proofs.lemmas.Option.{same_Some}
+use Rattle.csub_core.specs.declared.status.Status.{Status}
+use Rattle.csub_core.specs.declared.status.Status.TheVariants.{Turns}
+use Rattle.csub_core.specs.Flows.{flow_of}
+use Rattle.csub_core.specs.Runs.{Moment, running, ended, nowhere, after, Results, results_at, run_of}
+use Rattle.csub_machine.specs.Places.{tree_of}
+use Rattle.csub_machine.specs.Moments.{Seen, moment_of, IsRunningAt, IsRunning, status_at, status_of, output_of, turns_of, crossed_of, results_of}
+use Rattle.csub_machine.proofs.MomentLemmas.{after_ended}
+
+abbrev pub asked : Seen → ℕ → Seen
+asked m n = record { program = m.program; input = m.input; done = n }
+
+pub fresh_is : (m : Seen) → m.done ≡ 0 → m ≡ asked m 0
+fresh_is m e = ap (asked m) e
+
+pub fresh_runs : (m : Seen) → m.done ≡ 0 → IsRunning m
+fresh_runs m e = subst (λ n. IsRunning (asked m n)) (sym e) tt
+
+-- the results that a moment shows with a status
+abbrev shown : ℕ → Status → Moment → Results
+shown k status x = record { status = status; output = output_of x; turns = turns_of k x; crossed = crossed_of x }
+
+running_results : (k : ℕ) (x : Moment) → IsRunningAt x → results_at k x ≡ Some (shown k Turns x)
+running_results k (running es at) h = refl
+running_results k (ended es n t s) h = absurd h
+running_results k nowhere h = absurd h
+
+pub results_running : (m : Seen) → IsRunning m → run_of (flow_of (tree_of m.program)) m.input m.done ≡ Some (results_of Turns m)
+results_running m h = running_results m.done (moment_of m) h
+
+ended_results : (m : Seen) (b : ℕ) (status : Status) (x : Moment) → moment_of m ≡ x → status_at x ≡ Some status → m.done ≤ b
+    → results_at b (moment_of (asked m b)) ≡ Some (shown b status (moment_of (asked m b)))
+ended_results m b status (running es at) e h l = absurd (let f : ⊥ = cc in f)
+ended_results m b status nowhere e h l = absurd (let f : ⊥ = cc in f)
+ended_results m b status (ended es n t s) e h l =
+    let F = flow_of (tree_of m.program) in
+    let later : after F m.input b ≡ ended es n t s = ap (after F m.input) (sym (add-sub_of_le l)) ∙ after_ended F m.input m.done (b - m.done) es n t s e in
+    ap (results_at b) later ∙ ap (λ (u : Status). Some (shown b u (ended es n t s))) (same_Some t status h) ∙ ap (λ (x : Moment). Some (shown b status x)) (sym later)
+
+pub results_ended : (m : Seen) (b : ℕ) (status : Status) → status_of m ≡ Some status → m.done ≤ b → run_of (flow_of (tree_of m.program)) m.input b ≡ Some (results_of status (asked m b))
+results_ended m b status h l = ended_results m b status (moment_of m) refl h l
+
+-- where a run ends after k turns, the rest of its budget changes nothing
+pub whole_ended : (first m last : Seen) (k b : ℕ) (status : Status) → m ≡ asked first k → last ≡ asked m b → status_of m ≡ Some status → k ≤ b
+    → run_of (flow_of (tree_of first.program)) first.input b ≡ Some (results_of status last)
+whole_ended first m last k b status e g h l =
+    results_ended (asked first k) b status (ap status_of (sym e) ∙ h) l
+    ∙ ap (λ (x : Seen). Some (results_of status x)) (sym (g ∙ ap (λ (x : Seen). asked x b) e))

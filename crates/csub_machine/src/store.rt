@@ -1,0 +1,117 @@
+//! The input, the output and the cells of a run, and what is done to them.
+ghost use Rattle.std.specs.Prelude.{◌≡◌, ◌≤◌, length, [], IfOk, OnOk};
+ghost use Rattle.csub_core.specs.Trees.{reading, variable, temporary};
+ghost use Rattle.csub_core.specs.Memory.{get_byte, put_byte, value};
+ghost use Rattle.csub_core.specs.Evaluation.{eval};
+ghost use Rattle.csub_core.specs.Cells.{named, temp_root};
+ghost use Rattle.csub_core.specs.Runs.{put_result};
+ghost use Rattle.csub_machine.specs.Named.{cell_seen};
+ghost use Rattle.csub_machine.specs.States.{state_of, no_cells, Gives, same, nothing, OnlyAdds};
+
+use crate::cells::{CellName, Content, Root, content_at, set_content};
+use crate::stop::Stop;
+use csub_core::{IntKind, Trap};
+use csub_types::kind::convert;
+use std::alloc::{AllocError, Global};
+use std::collections::BTreeMap;
+
+/// How many bytes a run may write.
+const MOST_OUTPUT: usize = 16_384;
+
+/// The input with a place in it, what was written, and the cells.
+#[derive(Drop)]
+pub struct Store {
+    /// Where cells and output take their memory.
+    pub alloc: Global,
+    /// The whole input.
+    pub input: Vec<u8>,
+    /// How many bytes of the input were read.
+    pub place: usize,
+    /// What was written.
+    pub output: Vec<u8>,
+    /// The cells that were written.
+    pub cells: BTreeMap<CellName, Content>,
+}
+
+/// A store with this input, in which nothing was read or written. An `Err` is want of memory.
+pub fn make_store(alloc: Global, input: &[u8]) -> Result<Store, AllocError>
+    ensures state { IfOk result (λ store. state_of store ≡ record { input = input.now; output = []; cells = no_cells }) }
+    ensures input { IfOk result (λ store. store.input.items ≡ input.now) }
+{
+    let copy = input.to_vec(alloc)?;
+    Ok(Store {
+        alloc,
+        input: copy,
+        place: 0,
+        output: Vec::new(alloc),
+        cells: BTreeMap::new(alloc),
+    })
+}
+
+/// The next byte of the input, or -1 at its end (C11 7.21.7.6).
+pub fn next_byte(store: &mut Store) -> i64
+    ensures value { get_byte (state_of store.old) (state_of store.old).input ≡ value result (state_of store.new) }
+    ensures kept { OnlyAdds store.old store.new }
+{
+    if store.place < store.input.len() {
+        let byte = store.input[store.place];
+        store.place += 1;
+        i64::from(byte)
+    } else {
+        -1
+    }
+}
+
+/// Writes a byte; past 16,384 bytes it is the trap `flood`.
+pub fn write_byte(store: &mut Store, byte: u8) -> Result<(), Stop>
+    ensures value { Gives nothing (put_byte byte (state_of store.old)) result (state_of store.new) }
+    ensures kept { OnlyAdds store.old store.new }
+{
+    if store.output.len() < MOST_OUTPUT {
+        store.output.push(byte)?;
+        Ok(())
+    } else {
+        Err(Stop::Trap(Trap::Flood))
+    }
+}
+
+/// The cell of a temporary of the frame at a height.
+fn temporary(alloc: Global, height: u32, number: u32) -> CellName
+    ensures { cell_seen result ≡ record { root = temp_root height number; path = [] } }
+{
+    CellName {
+        root: Root::Temp(height, number),
+        path: Vec::new(alloc),
+    }
+}
+
+/// The number in a temporary, in its kind.
+pub fn fetch_temporary(store: &Store, height: u32, number: u32, kind: IntKind) -> Result<i64, Stop>
+    ensures { Gives same (eval (named height) (reading (variable (temporary number kind))) (state_of store.now)) result (state_of store.now) }
+{
+    let cell = temporary(store.alloc, height, number);
+    match content_at(&store.cells, &cell) {
+        Some(Content::Number(value)) => Ok(convert(kind, *value)),
+        Some(Content::Reference(_, _)) | None => Err(Stop::Trap(Trap::Unset)),
+    }
+}
+
+/// A result goes into the temporary of the call, where there are both. An `Err` is want of memory.
+pub fn put_result(
+    store: &mut Store,
+    height: u32,
+    temp: Option<u32>,
+    given: Option<i64>,
+) -> Result<(), AllocError>
+    ensures value { OnOk result (state_of store.new ≡ put_result height temp given (state_of store.old)) }
+    ensures kept { OnlyAdds store.old store.new }
+{
+    let Some(number) = temp else {
+        return Ok(());
+    };
+    let Some(value) = given else {
+        return Ok(());
+    };
+    let cell = temporary(store.alloc, height, number);
+    set_content(&mut store.cells, cell, Content::Number(value))
+}

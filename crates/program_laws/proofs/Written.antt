@@ -1,0 +1,201 @@
+-- No run writes more than a run may, nor takes more turns than its budget.
+use Rattle.std.proofs.Common.{◌≡◌, ℕ, zero, suc, ◌+◌, ◌-◌, ◌<◌, ◌≤◌, ℤ, pos, List, [], ◌∷◌, ◌++◌, length, Bool, true, false, Option, Some, None, Result, Ok, Err, nat_lt, nat_le, int_eq, refl, sym, ap, subst, arith, length-append, if◌then◌else◌}
+use Rattle.std.proofs.lemmas.Bool.{ltb-true}
+use Rattle.csub_lex.specs.declared.operator.BinOp.{BinOp}
+use Rattle.csub_types.specs.declared.kind.IntKind.{IntKind}
+use Rattle.csub_types.specs.declared.kind.IntKind.TheVariants.{Int}
+use Rattle.csub_types.specs.declared.trap.Trap.{Trap as TrapKind}
+use Rattle.csub_types.specs.declared.trap.Trap.TheVariants.{Depth, Flood}
+use Rattle.csub_types.specs.Kinds.{convert}
+use Rattle.csub_core.specs.declared.label.EndRule.{EndRule}
+use Rattle.csub_core.specs.declared.label.EndRule.TheVariants.{Nothing, Value, Main, Start}
+use Rattle.csub_core.specs.declared.status.Status.{Status}
+use Rattle.csub_core.specs.declared.status.Status.TheVariants.{Exit, Trap, Turns}
+use Rattle.csub_core.specs.Types.{Name, MemberTree, number_kind}
+use Rattle.csub_core.specs.Trees.{NamedPlace, NamedExpr, NamedArg, constant, reading, variable, temporary, operation, input_byte, output_byte, value_argument}
+use Rattle.csub_core.specs.Labels.{LabelTree, enters, exits, evaluates, branches, returns, calls, CallTree, PointLabel}
+use Rattle.csub_core.specs.Points.{PointTree, ExitTree, next, on_true, on_false}
+use Rattle.csub_core.specs.Flows.{Flow, Edge}
+use Rattle.csub_core.specs.Memory.{State, Answer, value, trapped, then_do, given, found, get_byte, put_byte, low_byte, most_output}
+use Rattle.csub_core.specs.Evaluation.{fetch, locate, eval, computed}
+use Rattle.csub_core.specs.Cells.{Spot, Content, number, named, entered}
+use Rattle.csub_core.specs.Acts.{Store, Outcome, leaves, gives, pushes, pops, ends, after_value, argument_content, argument_contents, most_frames, act_call, act_exit, act_return, act}
+use Rattle.csub_core.specs.Runs.{Frame, Standing, Turn, goes, stops, lost, cross, put_result, come_back, come_back_to, pop, follow, turn_at, turn_of, turn, Moment, running, ended, nowhere, after_turn, go_on, after, results_at, Results, run_of}
+use Rattle.program_laws.specs.Bounds.{IsBounded, RunsAreBounded}
+
+-- what was written is no more than a run may write
+abbrev IsShort : Store → Type 0
+IsShort s = length s.output ≤ most_output
+
+abbrev LeavesShort : {X : Type 0} → Answer X Store → Type 0
+LeavesShort (value v s) = IsShort s
+LeavesShort (trapped t s) = IsShort s
+
+short_then : {X Y : Type 0} (a : Answer X Store) (go : X → Store → Answer Y Store) → LeavesShort a → ((v : X) (s : Store) → IsShort s → LeavesShort (go v s)) → LeavesShort (then_do a go)
+short_then (value v s) go short each = each v s short
+short_then (trapped t s) go short each = short
+
+short_pick : (b : ℕ) (s : Store) (small : Bool) → nat_lt (length s.output) most_output ≡ small → IsShort s →
+    LeavesShort {X = Unit {0}} (if small then value tt (record s { output = s.output ++ b ∷ [] }) else trapped Flood s)
+short_pick b s true is short =
+    let below : length s.output < most_output = ltb-true (length s.output) most_output is in
+    let grown : length (s.output ++ b ∷ []) ≡ length s.output + 1 = length-append s.output (b ∷ []) in
+    subst (λ n. n ≤ most_output) (sym grown) (omega (arith, below))
+short_pick b s false is short = short
+
+short_put : (b : ℕ) (s : Store) → IsShort s → LeavesShort {X = Unit {0}} (put_byte b s)
+short_put b s short = short_pick b s (nat_lt (length s.output) most_output) refl short
+
+short_found : {X : Type 0} (o : Option X) (s : Store) → IsShort s → LeavesShort (found o s)
+short_found None s short = short
+short_found (Some v) s short = short
+
+short_given : (r : Result ℤ TrapKind) (s : Store) → IsShort s → LeavesShort (given r s)
+short_given (Ok v) s short = short
+short_given (Err t) s short = short
+
+short_fetch : (h : ℕ) (l : Spot) (s : Store) → IsShort s → LeavesShort (fetch (named h) l s)
+short_fetch h l s short = short_then (found ((named h).read l s.cells) s) _ (short_found ((named h).read l s.cells) s short) (λ v t below. below)
+
+short_locate : (h : ℕ) (p : NamedPlace) (s : Store) → IsShort s → LeavesShort (locate (named h) p s)
+short_locate h (variable v) s short = short_found ((named h).stand v s.cells) s short
+
+short_input : (s : Store) (left : List ℕ) → IsShort s → LeavesShort (get_byte s left)
+short_input s [] short = short
+short_input s (b ∷ rest) short = short
+
+short_eval : (h : ℕ) (e : NamedExpr) (s : Store) → IsShort s → LeavesShort (eval (named h) e s)
+short_eval h (constant k v) s short = short
+short_eval h (reading p) s short = short_then (locate (named h) p s) _ (short_locate h p s short) (short_fetch h)
+short_eval h (operation op k a b) s short =
+    short_then (eval (named h) a s) _ (short_eval h a s short)
+    (λ v t below. short_then (eval (named h) b t) _ (short_eval h b t below) (λ w u under. short_given _ u under))
+short_eval h input_byte s short = short_input s s.input short
+short_eval h (output_byte e) s short =
+    short_then (eval (named h) e s) _ (short_eval h e s short) (λ v t below. short_then (put_byte (low_byte v) t) _ (short_put (low_byte v) t below) (λ x u under. under))
+
+-- what an act leaves
+abbrev EndsShort : Outcome → Type 0
+EndsShort (leaves x r s) = IsShort s
+EndsShort (gives v s) = IsShort s
+EndsShort (pushes g s) = IsShort s
+EndsShort (pops r s) = IsShort s
+EndsShort (ends t s) = IsShort s
+
+short_after : {X : Type 0} (a : Answer X Store) (go : X → Store → Outcome) → LeavesShort a → ((v : X) (s : Store) → IsShort s → EndsShort (go v s)) → EndsShort (after_value a go)
+short_after (value v s) go short each = each v s short
+short_after (trapped t s) go short each = short
+
+short_argument : (h : ℕ) (p : MemberTree) (a : NamedArg) (s : Store) → IsShort s → LeavesShort (argument_content h p a s)
+short_argument h p (value_argument e) s short = short_then (eval (named h) e s) _ (short_eval h e s short) (λ v t below. below)
+
+short_arguments : (h : ℕ) (params : List MemberTree) (args : List NamedArg) (s : Store) → IsShort s → LeavesShort (argument_contents h params args s)
+short_arguments h [] args s short = short
+short_arguments h (p ∷ params) [] s short = short
+short_arguments h (p ∷ params) (a ∷ args) s short =
+    short_then (argument_content h p a s) _ (short_argument h p a s short)
+    (λ c t below. short_then (argument_contents h params args t) _ (short_arguments h params args t below) (λ cs u under. under))
+
+short_push : (deep : Bool) (g : Name) (s t : Store) → IsShort s → IsShort t → EndsShort (if deep then ends (Trap Depth) s else pushes g t)
+short_push true g s t short below = short
+short_push false g s t short below = below
+
+short_exit : (rule : EndRule) (n : ℕ) (r : Option ℤ) (s : Store) → IsShort s → EndsShort (act_exit rule n r s)
+short_exit Nothing n r s short = short
+short_exit Value n None s short = short
+short_exit Value n (Some v) s short = short
+short_exit Main n None s short = short
+short_exit Main n (Some v) s short = short
+short_exit Start n r s short =
+    short_after (eval (named (n - 1)) (reading (variable (temporary 1 Int))) s) _ (short_eval (n - 1) (reading (variable (temporary 1 Int))) s short) (λ v t below. below)
+
+short_act : (l : LabelTree) (n : ℕ) (r : Option ℤ) (s : Store) → IsShort s → EndsShort (act l n r s)
+short_act enters n r s short = short
+short_act (exits rule) n r s short = short_exit rule n r s short
+short_act (evaluates e) n r s short = short_after (eval (named (n - 1)) e s) _ (short_eval (n - 1) e s short) (λ v t below. below)
+short_act (branches e) n r s short = short_after (eval (named (n - 1)) e s) _ (short_eval (n - 1) e s short) (λ v t below. below)
+short_act (returns None) n r s short = short
+short_act (returns (Some a)) n r s short = short_after (eval (named (n - 1)) a.value s) _ (short_eval (n - 1) a.value s short) (λ v t below. below)
+short_act (calls c) n r s short =
+    short_after (argument_contents (n - 1) c.params c.args s) _ (short_arguments (n - 1) c.params c.args s short)
+    (λ cs t below. short_push (nat_le most_frames n) c.callee t (record t { cells = entered n c.params cs t.cells }) below below)
+
+-- where a turn comes to
+abbrev TurnsShort : Turn → Type 0
+TurnsShort (goes c at) = IsShort at.store
+TurnsShort (stops t s) = IsShort s
+TurnsShort lost = Unit {0}
+
+short_cross : (top : Frame) (below : List Frame) (x : ExitTree) (r : Option ℤ) (s : Store) (to : Option PointTree) → IsShort s → TurnsShort (cross top below x r s to)
+short_cross top below x r s None short = tt
+short_cross top below x r s (Some q) short = short
+
+short_result : (h : ℕ) (t : Option ℕ) (r : Option ℤ) (s : Store) → IsShort s → IsShort (put_result h t r s)
+short_result h None r s short = short
+short_result h (Some k) None s short = short
+short_result h (Some k) (Some v) s short = short
+
+short_back_to : (f : Frame) (below : List Frame) (r : Option ℤ) (s : Store) (l : LabelTree) (to : Option PointTree) → IsShort s → TurnsShort (come_back_to f below r s l to)
+short_back_to f below r s (calls c) to short =
+    short_cross f below next f.result (put_result (length below) c.temp r s) to (short_result (length below) c.temp r s short)
+short_back_to f below r s enters to short = tt
+short_back_to f below r s (exits rule) to short = tt
+short_back_to f below r s (evaluates e) to short = tt
+short_back_to f below r s (branches e) to short = tt
+short_back_to f below r s (returns answer) to short = tt
+
+short_back : (f : Frame) (below : List Frame) (r : Option ℤ) (s : Store) (l : Option PointLabel) (to : Option PointTree) → IsShort s → TurnsShort (come_back f below r s l to)
+short_back f below r s None to short = tt
+short_back f below r s (Some l) to short = short_back_to f below r s l.tree to short
+
+short_pop : (P : Flow) (below : List Frame) (r : Option ℤ) (s : Store) → IsShort s → TurnsShort (pop P below r s)
+short_pop P [] r s short = tt
+short_pop P (f ∷ below) r s short = short_back f below r s (P.label f.function f.point) (P.succ f.function f.point next) short
+
+short_follow : (P : Flow) (top : Frame) (below : List Frame) (o : Outcome) → EndsShort o → TurnsShort (follow P top below o)
+short_follow P top below (leaves x r s) short = short_cross top below x r s (P.succ top.function top.point x) short
+short_follow P top below (gives v s) short = short_cross top below _ top.result s _ short
+short_follow P top below (pushes g s) short = short
+short_follow P top below (pops r s) short = short_pop P below r s short
+short_follow P top below (ends t s) short = short
+
+short_turn_at : (P : Flow) (top : Frame) (below : List Frame) (s : Store) (l : Option PointLabel) → IsShort s → TurnsShort (turn_at P top below s l)
+short_turn_at P top below s None short = tt
+short_turn_at P top below s (Some l) short =
+    short_follow P top below (act l.tree (length below + 1) top.result s) (short_act l.tree (length below + 1) top.result s short)
+
+short_turn : (P : Flow) (frames : List Frame) (s : Store) → IsShort s → TurnsShort (turn_of P frames s)
+short_turn P [] s short = tt
+short_turn P (top ∷ below) s short = short_turn_at P top below s (P.label top.function top.point) short
+
+-- a moment after k turns: what was written is short, and a run that has ended took no more turns
+abbrev IsBoundedAt : ℕ → Moment → Type 0
+IsBoundedAt k (running es at) = IsShort at.store
+IsBoundedAt k (ended es n t s) = IsShort s × (n ≤ k)
+IsBoundedAt k nowhere = Unit {0}
+
+bounded_turn : (k : ℕ) (es : List Edge) (t : Turn) → TurnsShort t → IsBoundedAt (suc k) (after_turn k es t)
+bounded_turn k es (goes c at) short = short
+bounded_turn k es (stops t s) short = (short, omega arith)
+bounded_turn k es lost short = tt
+
+bounded_on : (P : Flow) (k : ℕ) (m : Moment) → IsBoundedAt k m → IsBoundedAt (suc k) (go_on P k m)
+bounded_on P k (running es at) short = bounded_turn k es (turn P at) (short_turn P at.frames at.store short)
+bounded_on P k (ended es n t s) h = (h.0, omega (arith, h.1))
+bounded_on P k nowhere h = tt
+
+bounded_after : (P : Flow) (input : List ℕ) (k : ℕ) → IsBoundedAt k (after P input k)
+bounded_after P input zero = omega arith
+bounded_after P input (suc k) = bounded_on P k (after P input k) (bounded_after P input k)
+
+bounded_results : (k : ℕ) (m : Moment) (r : Results) → IsBoundedAt k m → results_at k m ≡ Some r → IsBounded k r
+bounded_results k (running es at) r h is =
+    let same : record { status = Turns; output = at.store.output; turns = k; crossed = es } ≡ r = cc in
+    subst (IsBounded k) same (record { turns = omega arith; output = h })
+bounded_results k (ended es n t s) r h is =
+    let same : record { status = t; output = s.output; turns = n; crossed = es } ≡ r = cc in
+    subst (IsBounded k) same (record { turns = h.1; output = h.0 })
+bounded_results k nowhere r h is = absurd (cc)
+
+pub bounded : (P : Flow) → RunsAreBounded P
+bounded P input budget r is = bounded_results budget (after P input budget) r (bounded_after P input budget) is

@@ -1,0 +1,131 @@
+-- The program of a small source is valid.
+use Rattle.std.proofs.Common.{◌≡◌, ◌≢◌, ℕ, ◌+◌, ◌*◌, ◌<◌, ◌≤◌, List, [], ◌∷◌, ◌++◌, length, Option, Some, None, refl, sym, ap, subst, ◌∙◌, arith, length-append, pos, lit≤}
+use Rattle.std.specs.Prelude.{map, All, AllPairs}
+use Rattle.std.specs.List.{flat_map}
+use Rattle.std.proofs.lemmas.List.{length-map}
+use Rattle.std.proofs.lemmas.List.Elements.{All-cons, All-nil}
+use Rattle.std.proofs.lemmas.List.Kept.{AllPairs-cons}
+use Rattle.std.proofs.lemmas.Int.{ints}
+use Rattle.csub_lex.specs.declared.span.Span.{Span}
+use Rattle.csub_types.specs.declared.kind.IntKind.TheVariants.{Int}
+use Rattle.csub_types.specs.Kinds.{IsOf}
+use Rattle.csub_core.specs.Types.{Name}
+use Rattle.csub_core.specs.Syntax.{PartTree, StmtTree, StmtTrees, stmts_of, FunctionTree, ProgramTree}
+use Rattle.csub_core.specs.Points.{PointTree}
+use Rattle.csub_core.specs.Points as points
+use Rattle.csub_core.specs.Labels.{exits}
+use Rattle.csub_core.specs.Successors.{Node, nodes_list}
+use Rattle.csub_core.specs.Flows.{to_exit, end_rule, function_nodes, PlacedNode, placed, point_list, edges_from, edge_list}
+use Rattle.csub_core.specs.Valid.{IsStmt, AreStmts, IsElse, IsPart, IsValid}
+use Rattle.csub_core.specs.declared.valid.role.Role.TheVariants.{Whole, Test}
+use Rattle.read_small.specs.declared.plain.Plain.{Plain}
+use Rattle.read_small.specs.declared.plain.Plain.TheVariants.{Writes, Gives}
+use Rattle.read_small.specs.declared.token.Fixed.TheVariants.{Main, CloseBrace}
+use Rattle.read_small.specs.Lines.{Line, plain, test, Word, word, plain_words, braced_words, else_words, line_words, program_words}
+use Rattle.read_small.specs.Meaning.{span_at, own_part, plain_stmt, block_of, else_of, line_stmt, start_function, main_function, program_of}
+use Rattle.read_small.specs.Small.{IsSmall}
+use Rattle.read_small.proofs.Weights.{weight, weight-append, AreKinds, kinds_split, Holds, holds}
+use Rattle.read_small.proofs.Counts.{ways_of, ways_of-append, Counted, counted_many, counted_line}
+
+-- a byte is an `int`
+byte_int : (n : ℕ) → n ≤ 255 → IsOf Int (pos n)
+byte_int n h = (omega (arith, ints), omega (arith, ints))
+
+-- ---- the statements
+
+one_part : (P : ProgramTree) (f : FunctionTree) (p : PartTree) → IsPart P f Whole 1 p → All (λ q. IsPart P f Whole 1 q) (p ∷ [])
+one_part P f p h = All-cons (λ q. IsPart P f Whole 1 q) p [] h (All-nil (λ q. IsPart P f Whole 1 q))
+
+module _ (P : ProgramTree) (span : Span) (body : List StmtTree) where
+  abbrev own : FunctionTree
+  own = main_function span body
+
+  valid_plain : (p : Plain) → AreKinds (plain_words p) → IsStmt P own (plain_stmt p)
+  valid_plain (Writes at n) h = one_part P own _ (byte_int n h.1.1.0)
+  valid_plain (Gives at n) h = one_part P own _ (refl, byte_int n h.1.0)
+
+  valid_many : {L : Type 0} (words : L → List Word) (stmt : L → StmtTree) → ((x : L) → AreKinds (words x) → IsStmt P own (stmt x)) → (xs : List L) → AreKinds (flat_map words xs) → AreStmts P own (stmts_of (map stmt xs))
+  valid_many words stmt one [] h = tt
+  valid_many words stmt one (x ∷ xs) h = let kinds = kinds_split (words x) (flat_map words xs) h in (one x kinds.0, valid_many words stmt one xs kinds.1)
+
+  valid_block : (ps : List Plain) → AreKinds (braced_words ps) → IsStmt P own (block_of ps)
+  valid_block ps h = valid_many plain_words plain_stmt valid_plain ps (kinds_split (flat_map plain_words ps) (word CloseBrace ∷ []) h.1).0
+
+  valid_else : (other : Option (List Plain)) → AreKinds (else_words other) → IsElse P own (else_of other)
+  valid_else None h = tt
+  valid_else (Some ps) h = valid_block ps h.1
+
+  valid_line : (l : Line) → AreKinds (line_words l) → IsStmt P own (line_stmt l)
+  valid_line (plain p) h = valid_plain p h
+  valid_line (test at n ps other) h =
+      let rest = kinds_split (braced_words ps) (else_words other) h.1.1.1.1.1.1.1.1 in
+      ((refl, tt, byte_int n h.1.1.1.1.1.1.0), valid_block ps rest.0, valid_else other rest.1)
+
+-- ---- points and edges
+
+placed_ways : (f : Name) (ns : List (Node PointTree)) (rest : List PlacedNode) → length (flat_map edges_from (map (placed f) ns ++ rest)) ≡ ways_of ns + length (flat_map edges_from rest)
+placed_ways f [] rest = omega arith
+placed_ways f (n ∷ ns) rest =
+    let first = length-append (edges_from (placed f n)) (flat_map edges_from (map (placed f) ns ++ rest)) in
+    let ways : length (edges_from (placed f n)) ≡ length n.ways = length-map n.ways _ in
+    omega (arith, first, ways, placed_ways f ns rest)
+
+abbrev last_node : Span → List StmtTree → Node PointTree
+last_node span body = record { point = points.exit; label = exits (end_rule (main_function span body).name (main_function span body).result); span = span; ways = [] }
+
+-- the points of `main`: those of its body, its entry and its exit
+main_points : (span : Span) (body : List StmtTree) → length (function_nodes (main_function span body)) ≡ length (nodes_list (stmts_of body) 0 points.at to_exit) + 2
+main_points span body = omega (arith, length-append (nodes_list (stmts_of body) 0 points.at to_exit) (last_node span body ∷ []))
+
+main_ways : (span : Span) (body : List StmtTree) → ways_of (function_nodes (main_function span body)) ≡ ways_of (nodes_list (stmts_of body) 0 points.at to_exit) + 1
+main_ways span body = omega (arith, ways_of-append (nodes_list (stmts_of body) 0 points.at to_exit) (last_node span body ∷ []))
+
+abbrev start_of : ℕ → FunctionTree
+start_of place = start_function (span_at place Main)
+
+abbrev main_of : ℕ → List Line → FunctionTree
+main_of place lines = main_function (span_at place Main) (map line_stmt lines)
+
+points_of : (place : ℕ) (lines : List Line) → length (point_list (program_of place lines)) ≡ length (nodes_list (stmts_of (map line_stmt lines)) 0 points.at to_exit) + 5
+points_of place lines =
+    let main_nodes : List (Node PointTree) = function_nodes (main_of place lines) in
+    omega (arith, main_points (span_at place Main) (map line_stmt lines), length-append (map (placed (main_of place lines).name) main_nodes) [], length-map main_nodes (placed (main_of place lines).name))
+
+edges_of : (place : ℕ) (lines : List Line) → length (edge_list (program_of place lines)) ≡ ways_of (nodes_list (stmts_of (map line_stmt lines)) 0 points.at to_exit) + 3
+edges_of place lines =
+    let main_nodes : List (Node PointTree) = function_nodes (main_of place lines) in
+    let main_edges = placed_ways (main_of place lines).name main_nodes [] in
+    let all_edges = placed_ways (start_of place).name (function_nodes (start_of place)) (map (placed (main_of place lines).name) main_nodes ++ []) in
+    omega (arith, main_ways (span_at place Main) (map line_stmt lines), main_edges, all_edges)
+
+-- ---- the program
+
+two : (R : FunctionTree → Type 0) (f g : FunctionTree) → R f → R g → All R (f ∷ g ∷ [])
+two R f g hf hg = All-cons R f (g ∷ []) hf (All-cons R g [] hg (All-nil R))
+
+valid_program : (place : ℕ) (lines : List Line) → AreKinds (program_words place lines) → weight (program_words place lines) ≤ 65536 → IsValid (program_of place lines)
+valid_program place lines kinds fits =
+    let P : ProgramTree = program_of place lines in
+    let f = start_of place in
+    let g = main_of place lines in
+    let inner = kinds_split (flat_map line_words lines) (word CloseBrace ∷ []) kinds.1.1.1.1.1.1 in
+    let counted : Counted (nodes_list (stmts_of (map line_stmt lines)) 0 points.at to_exit) (weight (flat_map line_words lines)) = counted_many line_words line_stmt counted_line lines 0 points.at to_exit inner.0 in
+    let bytes = weight-append (flat_map line_words lines) (word CloseBrace ∷ []) in
+    record {
+      start = record { name = refl; params = refl; result = refl; body = refl; locals = refl; temps = refl };
+      main = (refl, refl);
+      distinct = AllPairs-cons (λ a b. a.name ≢ b.name) f (g ∷ []) (All-cons (λ b. f.name ≢ b.name) g [] (λ same. omega (arith, ap length same)) (All-nil (λ b. f.name ≢ b.name)))
+          (AllPairs-cons (λ a b. a.name ≢ b.name) g [] (All-nil (λ b. g.name ≢ b.name)) (λ i j d lt none. absurd (omega arith)));
+      bodies = two (λ h. AreStmts P h h.body) f g (one_part P f _ (record { defined = (refl, refl); no_argument = refl; no_parameter = refl; temp = refl; few = omega arith }), tt)
+          (valid_many P (span_at place Main) (map line_stmt lines) line_words line_stmt (valid_line P (span_at place Main) (map line_stmt lines)) lines inner.0);
+      plain = two (λ h. (h.params ≡ []) × (h.locals ≡ [])) f g (refl, refl) (refl, refl);
+      functions = omega arith;
+      points = omega (arith, points_of place lines, counted.points, bytes, fits);
+      edges = omega (arith, edges_of place lines, counted.ways, bytes, fits);
+      frames = two (λ h. h.temps ≤ 4096) f g (omega arith) (omega arith);
+    }
+
+pub small_valid : (source : List ℕ) (P : ProgramTree) → IsSmall source P → IsValid P
+small_valid source P small =
+    let held = holds 0 source (program_words small.at small.lines) small.tokens small.cut small.spelled in
+    subst IsValid (sym small.meant) (valid_program small.at small.lines held.kinds (omega (arith, held.fits, small.size)))

@@ -1,0 +1,76 @@
+-- The program that a small source means: `#start`, which calls `main`, and `main`.
+use Rattle.std.specs.Prelude.{ℕ, ◌+◌, ℤ, pos, List, [], ◌∷◌, length, map, Option, Some, None, codes}
+use Rattle.csub_lex.specs.declared.span.Span.{Span}
+use Rattle.csub_lex.specs.declared.operator.BinOp.TheVariants.{Eq}
+use Rattle.csub_types.specs.declared.kind.IntKind.TheVariants.{Int}
+use Rattle.csub_core.specs.Trees.{NamedExpr, constant, operation, input_byte, output_byte}
+use Rattle.csub_core.specs.Labels.{LabelTree, evaluates, branches, returns, calls}
+use Rattle.csub_core.specs.Syntax.{PartTree, StmtTree, parts, block, conditional, ElseTree, no_else, else_stmt, stmts_of, FunctionTree, ProgramTree}
+use Rattle.csub_core.specs.Flows.{start_name, main_name}
+use Rattle.read_small.specs.declared.token.Fixed.{Fixed}
+use Rattle.read_small.specs.declared.token.Fixed.TheVariants as fixed
+use Rattle.read_small.specs.declared.plain.Plain.{Plain}
+use Rattle.read_small.specs.declared.plain.Plain.TheVariants.{Writes, Gives}
+use Rattle.read_small.specs.Tokens.{fixed_spelling}
+use Rattle.read_small.specs.Lines.{Line, plain, test}
+
+-- where a token stands that begins at a place
+abbrev pub span_at : ℕ → Fixed → Span
+span_at at f = record { start = at; end = at + length (fixed_spelling f) }
+
+abbrev pub int_constant : ℕ → NamedExpr
+int_constant n = constant Int (pos n)
+
+-- a part without calls
+abbrev pub own_part : LabelTree → Span → PartTree
+own_part label span = record { label = label; span = span } ∷ []
+
+-- `putchar(n);` writes the byte n, and `return n;` gives the `int` n; each is named by its first token
+abbrev pub plain_stmt : Plain → StmtTree
+plain_stmt (Writes at n) = parts (own_part (evaluates (output_byte (int_constant n))) (span_at at fixed.Putchar) ∷ [])
+plain_stmt (Gives at n) = parts (own_part (returns (Some (record { kind = Int; value = int_constant n }))) (span_at at fixed.Return) ∷ [])
+
+abbrev pub block_of : List Plain → StmtTree
+block_of lines = block (stmts_of (map plain_stmt lines))
+
+-- `getchar() == n`, which is named by `getchar`
+abbrev pub test_part : ℕ → ℕ → PartTree
+test_part at n = own_part (branches (operation Eq Int input_byte (int_constant n))) (span_at at fixed.Getchar)
+
+abbrev pub else_of : Option (List Plain) → ElseTree
+else_of None = no_else
+else_of (Some lines) = else_stmt (block_of lines)
+
+abbrev pub line_stmt : Line → StmtTree
+line_stmt (plain p) = plain_stmt p
+line_stmt (test at n lines other) = conditional (test_part at n) (block_of lines) (else_of other)
+
+-- `#start` calls `main`, without arguments, and takes what it gives
+abbrev pub start_function : Span → FunctionTree
+start_function span = record {
+  name = start_name;
+  params = [];
+  result = None;
+  body = stmts_of (parts (own_part (calls (record { callee = main_name; params = []; result = Some Int; args = []; temp = Some 1 })) span ∷ []) ∷ []);
+  span = span;
+  locals = [];
+  temps = 1;
+}
+
+abbrev pub main_function : Span → List StmtTree → FunctionTree
+main_function span body = record {
+  name = main_name;
+  params = [];
+  result = Some Int;
+  body = stmts_of body;
+  span = span;
+  locals = [];
+  temps = 0;
+}
+
+-- the program of a body whose function's name `main` stands at a place
+abbrev pub program_at : ℕ → List StmtTree → ProgramTree
+program_at at body = start_function (span_at at fixed.Main) ∷ main_function (span_at at fixed.Main) body ∷ []
+
+abbrev pub program_of : ℕ → List Line → ProgramTree
+program_of at lines = program_at at (map line_stmt lines)

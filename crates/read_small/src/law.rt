@@ -1,0 +1,8 @@
+//! The law of small sources.
+ghost use Rattle.read_small.specs.Small.{IsOneProgram};
+
+/// A small source means one program alone. The function does nothing: the law is its contract.
+pub fn a_small_source_is_one_program()
+    ensures { IsOneProgram }
+{
+}

@@ -1,0 +1,36 @@
+-- The lengths of a history's lines.
+use Rattle.std.proofs.Common.{◌≡◌, ◌≢◌, ℕ, zero, suc, ◌+◌, ◌*◌, ◌<◌, ◌≤◌, List, [], ◌∷◌, ◌++◌, length, codes, refl, sym, ap, ◌∙◌, arith, length-append, append_assoc}
+use Rattle.std.specs.Fmt.{decimal}
+use Rattle.std.specs.List.{flat_map}
+use Rattle.std.specs.Int.{w32, to_be_bytes}
+use Rattle.hex.specs.Hex.{encode_lower, lower_digits}
+use Rattle.hex.proofs.HexLemmas.{length-encode_with}
+use Rattle.sha2.specs.Sha256.{sha256, digest_bytes}
+use Rattle.line_text.specs.Bytes.{bytes_or_dash}
+use Rattle.line_text.specs.Lines.{text_of_lines}
+use Rattle.line_text.specs.Words.{line_of_words}
+use Rattle.test_history.specs.Histories.{EntryParts, HistoryParts}
+use Rattle.test_history.specs.HistoryTexts.{entry_lines, first_lines, end_line, text_before_end, history_text, status_words, words_or_dash, crossed_numbers, value_line}
+
+pub length-bytes_or_dash : (bytes : List ℕ) → 0 < length bytes → length (bytes_or_dash bytes) ≡ 2 * length bytes
+length-bytes_or_dash [] some = absurd (omega arith)
+length-bytes_or_dash (byte ∷ more) some = length-encode_with lower_digits (byte ∷ more)
+
+-- a digest has 32 bytes
+pub length-sha256 : (bytes : List ℕ) → length (sha256 bytes) ≡ 32
+unfolding sha256 digest_bytes
+length-sha256 bytes = refl
+
+length-four : (a b c d : List ℕ) → length (text_of_lines (a ∷ b ∷ c ∷ d ∷ [])) ≡ 4 + length a + length b + length c + length d
+length-four a b c d = simp length-append (omega arith)
+
+length-parts : (first entries end : List ℕ) → length ((first ++ entries) ++ text_of_lines (end ∷ [])) ≡ length first + length entries + length end + 1
+length-parts first entries end = simp length-append (omega arith)
+
+pub length-history_text : (history : HistoryParts) → length (history_text history)
+    ≡ 108 + 2 * length history.digest + length (decimal history.edges) + length (decimal (length history.entries)) + length (text_of_lines (flat_map entry_lines history.entries))
+length-history_text history =
+    let first = length-four (codes "dejavu history 1") (value_line (codes "source") (encode_lower history.digest))
+    (value_line (codes "edges") (decimal history.edges)) (value_line (codes "tests") (decimal (length history.entries))) in
+    length-parts (text_of_lines (first_lines history)) (text_of_lines (flat_map entry_lines history.entries)) (end_line (text_before_end history))
+    ∙ omega (arith, first, length-encode_with lower_digits history.digest, length-encode_with lower_digits (sha256 (text_before_end history)), length-sha256 (text_before_end history))

@@ -1,0 +1,3 @@
+pub mod CrossedLemmas
+pub mod LengthLemmas
+pub mod TextLemmas

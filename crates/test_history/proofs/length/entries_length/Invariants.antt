@@ -1,0 +1,11 @@
+use Rattle.std.proofs.Common.{◌≡◌, ◌+◌, ◌*◌, ◌≤◌, length, drop}
+use Rattle.std.specs.List.{flat_map}
+use Rattle.line_text.specs.Lines.{text_of_lines}
+use Rattle.test_history.specs.HistoryTexts.{entry_lines}
+use Rattle.test_history.proofs.length.entries_length.Given as goal
+
+abbrev pub invariant-loop-entry : goal.invariant-loop-entry
+invariant-loop-entry l = record {
+  exact : l.length + length (text_of_lines (flat_map entry_lines (drop l.entry-index l.entries))) ≡ length (text_of_lines (flat_map entry_lines l.entries));
+  small : l.length ≤ 400000 * l.entry-index;
+}

@@ -1,0 +1,82 @@
+-- The text of a history, version 1.
+use Rattle.std.specs.Prelude.{ℕ, Bool, List, [], ◌∷◌, ◌++◌, length, map, filter, codes}
+use Rattle.std.specs.Fmt.{decimal}
+use Rattle.std.specs.List.{flat_map, range_with_len}
+use Rattle.hex.specs.Hex.{encode_lower}
+use Rattle.sha2.specs.Sha256.{sha256}
+use Rattle.line_text.specs.Bytes.{bytes_or_dash}
+use Rattle.line_text.specs.Lines.{text_of_lines}
+use Rattle.line_text.specs.Words.{line_of_words}
+use Rattle.csub_types.specs.declared.trap.Trap.{Trap}
+use Rattle.csub_types.specs.declared.trap.Trap.TheVariants.{Overflow, Divide, Shift, Bounds, Unset, Flood, Depth, Missing}
+use Rattle.csub_core.specs.declared.status.Status.{Status}
+use Rattle.csub_core.specs.declared.status.Status.TheVariants as status
+use Rattle.edge_trace.specs.Rows.{has}
+use Rattle.test_history.specs.Histories.{EntryParts, HistoryParts}
+
+-- the name of a trap
+abbrev pub trap_name : Trap → List ℕ
+trap_name Overflow = codes "overflow"
+trap_name Divide = codes "divide"
+trap_name Shift = codes "shift"
+trap_name Bounds = codes "bounds"
+trap_name Unset = codes "unset"
+trap_name Flood = codes "flood"
+trap_name Depth = codes "depth"
+trap_name Missing = codes "missing"
+
+-- the words for how a run ended: `exit N`, `trap NAME` or `turns`
+abbrev pub status_words : Status → List (List ℕ)
+status_words (status.Exit n) = codes "exit" ∷ decimal n ∷ []
+status_words (status.Trap trap) = codes "trap" ∷ trap_name trap ∷ []
+status_words status.Turns = codes "turns" ∷ []
+
+-- the numbers of a row: those below its bound that are in it, rising
+abbrev pub crossed_numbers : List Bool → List ℕ
+crossed_numbers row = filter (has row) (range_with_len 0 (length row))
+
+-- the words for numbers: each in decimal, or `-` where there are none
+abbrev pub words_or_dash : List ℕ → List (List ℕ)
+words_or_dash [] = codes "-" ∷ []
+words_or_dash (number ∷ more) = decimal number ∷ map decimal more
+
+-- the line of one value: its word, and the value's
+abbrev pub value_line : List ℕ → List ℕ → List ℕ
+value_line word value = line_of_words (word ∷ value ∷ [])
+
+-- the seven lines of an entry
+abbrev pub entry_lines : EntryParts → List (List ℕ)
+entry_lines entry =
+    value_line (codes "test") entry.test.name
+    ∷ value_line (codes "budget") (decimal entry.test.budget)
+    ∷ value_line (codes "input") (bytes_or_dash entry.test.input)
+    ∷ line_of_words (codes "status" ∷ status_words entry.status)
+    ∷ value_line (codes "turns") (decimal entry.turns)
+    ∷ value_line (codes "output") (bytes_or_dash entry.output)
+    ∷ line_of_words (codes "crossed" ∷ words_or_dash (crossed_numbers entry.crossed))
+    ∷ []
+
+-- the four lines before the entries
+abbrev pub first_lines : HistoryParts → List (List ℕ)
+first_lines history =
+    codes "dejavu history 1"
+    ∷ value_line (codes "source") (encode_lower history.digest)
+    ∷ value_line (codes "edges") (decimal history.edges)
+    ∷ value_line (codes "tests") (decimal (length history.entries))
+    ∷ []
+
+-- all that stands before the line `end`: the first lines, and those of each entry in order
+abbrev pub text_before_end : HistoryParts → List ℕ
+text_before_end history = text_of_lines (first_lines history) ++ text_of_lines (flat_map entry_lines history.entries)
+
+-- the line `end`, with the SHA-256 digest of all that stands before it
+abbrev pub end_line : List ℕ → List ℕ
+end_line before = value_line (codes "end") (encode_lower (sha256 before))
+
+-- the text of a history
+abbrev pub history_text : HistoryParts → List ℕ
+history_text history = text_before_end history ++ text_of_lines (end_line (text_before_end history) ∷ [])
+
+-- the greatest number of bytes of a history's text
+abbrev pub most_history_bytes : ℕ
+most_history_bytes = 134217728

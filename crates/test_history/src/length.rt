@@ -1,0 +1,123 @@
+// How long the text of a history is, found without writing it.
+ghost use Rattle.std.specs.Prelude.{◌≡◌, ◌≤◌, ◌+◌, ◌*◌, ◌∷◌, length, codes, All};
+ghost use Rattle.std.specs.Fmt.{decimal};
+ghost use Rattle.std.specs.List.{flat_map};
+ghost use Rattle.csub_core.specs.Valid.{most_edges};
+ghost use Rattle.line_text.specs.Bytes.{bytes_or_dash};
+ghost use Rattle.line_text.specs.Lines.{text_of_lines};
+ghost use Rattle.line_text.specs.Words.{line_of_words};
+ghost use Rattle.test_suite.specs.Suites.{most_tests};
+ghost use Rattle.test_history.specs.Histories.{IsEntryWithin, IsHistoryWithin};
+ghost use Rattle.test_history.specs.HistoryTexts.{history_text, entry_lines, status_words, words_or_dash, crossed_numbers};
+
+use crate::entry::Entry;
+use crate::history::History;
+use crate::lines::name_of_trap;
+use csub_core::Status;
+use edge_trace::EdgeRow;
+use itoa::Buffer;
+
+// `dejavu history 1`, `source`, `edges`, `tests` and `end`, with what stands between words and lines.
+const FRAME_BYTES: u64 = 17 + 8 + 7 + 7 + 5;
+
+// The digits of the sum.
+const SUM_BYTES: u64 = 64;
+
+// `test`, `budget`, `input`, `turns` and `output`, each with a space, and the newlines of seven lines.
+const ENTRY_BYTES: u64 = 5 + 7 + 6 + 6 + 7 + 7;
+
+/// The number of bytes of a history's text.
+pub fn text_length(history: &History) -> u64
+    requires { IsHistoryWithin history.now }
+    ensures { result ≡ length (history_text history.now) }
+{
+    let entries = history.entries();
+    FRAME_BYTES
+        + SUM_BYTES
+        + 2 * history.digest().len() as u64
+        + decimal_length(u64::from(history.edges()))
+        + decimal_length(entries.len() as u64)
+        + entries_length(entries)
+}
+
+fn entries_length(entries: &[Entry]) -> u64
+    requires few { length entries.now ≤ most_tests }
+    requires within { All IsEntryWithin entries.now }
+    requires rows { All (λ entry. length entry.crossed ≤ most_edges) entries.now }
+    ensures exact { result ≡ length (text_of_lines (flat_map entry_lines entries.now)) }
+    ensures small { result ≤ 4000000000 }
+{
+    let mut length = 0;
+    for entry in entries {
+        length += entry_length(entry);
+    }
+    length
+}
+
+fn entry_length(entry: &Entry) -> u64
+    requires within { IsEntryWithin entry.now }
+    requires edges { length entry.now.crossed ≤ most_edges }
+    ensures exact { result ≡ length (text_of_lines (entry_lines entry.now)) }
+    ensures small { result ≤ 400000 }
+{
+    ENTRY_BYTES
+        + entry.test().name().bytes().len() as u64
+        + decimal_length(u64::from(entry.test().budget()))
+        + bytes_length(entry.test().input())
+        + status_length(entry.status())
+        + decimal_length(u64::from(entry.turns()))
+        + bytes_length(entry.output())
+        + crossed_length(entry.crossed())
+}
+
+// A number in decimal.
+fn decimal_length(number: u64) -> u64
+    ensures exact { result ≡ length (decimal number) }
+    ensures small { result ≤ 20 }
+{
+    let mut buffer = Buffer::new();
+    buffer.format(number).len() as u64
+}
+
+// Bytes as a word.
+fn bytes_length(bytes: &[u8]) -> u64
+    ensures exact { result ≡ length (bytes_or_dash bytes.now) }
+    ensures small { result ≤ 1 + 2 * length bytes.now }
+{
+    if bytes.is_empty() {
+        1
+    } else {
+        2 * bytes.len() as u64
+    }
+}
+
+// The line of a status.
+fn status_length(status: Status) -> u64
+    ensures exact { result ≡ length (line_of_words (codes "status" ∷ status_words status)) }
+    ensures small { result ≤ 32 }
+{
+    match status {
+        Status::Exit(number) => 12 + decimal_length(u64::from(number)),
+        Status::Trap(trap) => 12 + name_of_trap(trap).len() as u64,
+        Status::Turns => 12,
+    }
+}
+
+// The line of the crossed edges.
+fn crossed_length(crossed: &EdgeRow) -> u64
+    requires { length crossed.now ≤ most_edges }
+    ensures exact { result
+        ≡ length (line_of_words (codes "crossed" ∷ words_or_dash (crossed_numbers crossed.now))) }
+    ensures small { result ≤ 300000 }
+{
+    if crossed.count() == 0 {
+        return 9;
+    }
+    let mut length = 7;
+    for edge in 0..crossed.edges() {
+        if crossed.has(edge) {
+            length += 1 + decimal_length(u64::from(edge));
+        }
+    }
+    length
+}

@@ -1,0 +1,29 @@
+//! Histories: what a suite's tests gave on one source, and the text that keeps it.
+//!
+//! A history holds the SHA-256 digest of a source, the number of edges of its program, and for each
+//! test an entry: the test, how its run ended, the number of its turns, its output and the edges that
+//! it crossed. `specs/HistoryTexts.antt` says which text that is. What is promised:
+//!
+//! - [`write_history`] gives exactly that text, or says how long it would be where it is too long for
+//!   the format: its contract has both, and refuses for no other cause than memory.
+//! - [`digest_of`] is SHA-256 (FIPS 180-4).
+//! - A [`History`] has in every entry a row of its own number of edges: `History::new` asks for it and
+//!   `History::entries` tells it.
+#![tactic(auto)]
+
+mod digest;
+mod entry;
+mod error;
+mod history;
+mod length;
+mod lines;
+mod writer;
+
+pub use digest::digest_of;
+pub use entry::Entry;
+pub use error::HistoryTextError;
+pub use history::History;
+pub use writer::write_history;
+
+#[cfg(test)]
+mod tests;

@@ -1,0 +1,110 @@
+// The lines of a history.
+ghost use Rattle.std.specs.Prelude.{◌≡◌, ◌++◌, ◌∷◌, [], OnOk, codes};
+ghost use Rattle.std.specs.Fmt.{decimal};
+ghost use Rattle.hex.specs.Hex.{encode_lower};
+ghost use Rattle.line_text.specs.Bytes.{bytes_or_dash};
+ghost use Rattle.line_text.specs.Words.{line_of_words};
+ghost use Rattle.test_history.specs.HistoryTexts.{trap_name, status_words, crossed_numbers, words_or_dash, value_line};
+
+use csub_core::{Status, Trap};
+use edge_trace::EdgeRow;
+use line_text::{push_bytes_or_dash, push_decimal, push_hex};
+use std::alloc::AllocError;
+
+/// The word for a trap.
+pub fn name_of_trap(trap: Trap) -> &'static [u8]
+    ensures { result.now ≡ trap_name trap }
+{
+    match trap {
+        Trap::Overflow => b"overflow",
+        Trap::Divide => b"divide",
+        Trap::Shift => b"shift",
+        Trap::Bounds => b"bounds",
+        Trap::Unset => b"unset",
+        Trap::Flood => b"flood",
+        Trap::Depth => b"depth",
+        Trap::Missing => b"missing",
+    }
+}
+
+/// Appends the line of a word and a value that is text already.
+pub fn push_text_line(text: &mut Vec<u8>, word: &[u8], value: &[u8]) -> Result<(), AllocError>
+    ensures { OnOk result (text.new.items ≡ text.old.items ++ value_line word.now value.now ++ 10 ∷ []) }
+{
+    text.extend_from_slice(word)?;
+    text.push(b' ')?;
+    text.extend_from_slice(value)?;
+    text.push(b'\n')?;
+    Ok(())
+}
+
+/// Appends the line of a word and a number in decimal.
+pub fn push_number_line(text: &mut Vec<u8>, word: &[u8], number: u64) -> Result<(), AllocError>
+    ensures { OnOk result (text.new.items ≡ text.old.items ++ value_line word.now (decimal number) ++ 10 ∷ []) }
+{
+    text.extend_from_slice(word)?;
+    text.push(b' ')?;
+    push_decimal(text, number)?;
+    text.push(b'\n')?;
+    Ok(())
+}
+
+/// Appends the line of a word and some bytes: hexadecimal, or `-` where there are none.
+pub fn push_bytes_line(text: &mut Vec<u8>, word: &[u8], bytes: &[u8]) -> Result<(), AllocError>
+    ensures { OnOk result
+        (text.new.items ≡ text.old.items ++ value_line word.now (bytes_or_dash bytes.now) ++ 10 ∷ []) }
+{
+    text.extend_from_slice(word)?;
+    text.push(b' ')?;
+    push_bytes_or_dash(text, bytes)?;
+    text.push(b'\n')?;
+    Ok(())
+}
+
+/// Appends the line of a word and a digest in hexadecimal.
+pub fn push_digest_line(
+    text: &mut Vec<u8>,
+    word: &[u8],
+    digest: &[u8; 32],
+) -> Result<(), AllocError>
+    ensures { OnOk result
+        (text.new.items ≡ text.old.items ++ value_line word.now (encode_lower digest.now) ++ 10 ∷ []) }
+{
+    text.extend_from_slice(word)?;
+    text.push(b' ')?;
+    push_hex(text, digest)?;
+    text.push(b'\n')?;
+    Ok(())
+}
+
+/// Appends the line `status exit N`, `status trap NAME` or `status turns`.
+pub fn push_status_line(text: &mut Vec<u8>, status: Status) -> Result<(), AllocError>
+    ensures { OnOk result
+        (text.new.items ≡ text.old.items ++ line_of_words (codes "status" ∷ status_words status) ++ 10 ∷ []) }
+{
+    match status {
+        Status::Exit(number) => push_number_line(text, b"status exit", u64::from(number)),
+        Status::Trap(trap) => push_text_line(text, b"status trap", name_of_trap(trap)),
+        Status::Turns => text.extend_from_slice(b"status turns\n"),
+    }
+}
+
+/// Appends the line of the crossed edges: their numbers, rising, or `-` where there are none.
+pub fn push_crossed_line(text: &mut Vec<u8>, crossed: &EdgeRow) -> Result<(), AllocError>
+    ensures { OnOk result (text.new.items ≡ text.old.items
+        ++ line_of_words (codes "crossed" ∷ words_or_dash (crossed_numbers crossed.now)) ++ 10 ∷ []) }
+{
+    if crossed.count() == 0 {
+        text.extend_from_slice(b"crossed -\n")?;
+        return Ok(());
+    }
+    text.extend_from_slice(b"crossed")?;
+    for edge in 0..crossed.edges() {
+        if crossed.has(edge) {
+            text.push(b' ')?;
+            push_decimal(text, u64::from(edge))?;
+        }
+    }
+    text.push(b'\n')?;
+    Ok(())
+}
