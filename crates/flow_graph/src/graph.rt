@@ -44,6 +44,7 @@ impl Model for Graph {
 }
 
 /// An edge: its source point, its exit label and the point to which it leads.
+#[derive(Clone, Copy)]
 pub struct EdgeEnds<'a> {
     /// The number of the source point.
     pub from: u32,

@@ -1,17 +1,17 @@
 -- What is spelled so is read.
-use Rattle.std.proofs.Common.{◌≡◌, ℕ, zero, suc, ◌+◌, ◌<◌, List, [], ◌∷◌, ◌++◌, length, Option, Some, None, Bool, true, false, refl, sym, ap, subst, ◌∙◌, arith, append_assoc}
+use Rattle.std.proofs.Common.{◌≡◌, ℕ, zero, suc, ◌<◌, List, [], ◌∷◌, ◌++◌, length, Option, Some, None, false, refl, subst, arith, append_assoc}
 use Rattle.std.specs.Prelude.{map}
 use Rattle.std.specs.List.{flat_map}
-use Rattle.csub_core.specs.Syntax.{StmtTree, ElseTree, conditional, ProgramTree}
+use Rattle.csub_core.specs.Syntax.{StmtTree}
 use Rattle.read_small.specs.declared.token.Fixed.{Fixed}
 use Rattle.read_small.specs.declared.token.Fixed.TheVariants.{Int, Main, Void, If, Else, Getchar, Putchar, Return, Open, Close, OpenBrace, CloseBrace, Semicolon, Equal}
 use Rattle.read_small.specs.declared.token.Token.{Token}
 use Rattle.read_small.specs.declared.plain.Plain.{Plain}
 use Rattle.read_small.specs.declared.plain.Plain.TheVariants.{Writes, Gives}
 use Rattle.read_small.specs.Lines.{Line, plain, test, Word, word, word_at, number, plain_words, braced_words, else_words, line_words, program_words}
-use Rattle.read_small.specs.Meaning.{plain_stmt, block_of, test_part, else_of, line_stmt, program_at, program_of}
-use Rattle.read_small.specs.Descent.{Answer, ◌>>=◌, begins, rest, place, expect, number_at, writes_at, gives_at, plain_at, stmt_at, many_at, braced_at, else_at, test_at, if_at, line_at, head_at, program_from, same_fixed}
-use Rattle.read_small.proofs.Took.{Took, at_word, took_split, took_length, took_begins, took_expect, behind, took_rest, took_place, took_other, took_number}
+use Rattle.read_small.specs.Meaning.{plain_stmt, block_of, else_of, line_stmt, program_of}
+use Rattle.read_small.specs.Descent.{Answer, begins, rest, writes_at, gives_at, plain_at, stmt_at, many_at, braced_at, else_at, test_at, if_at, line_at, head_at, program_from, same_fixed}
+use Rattle.read_small.proofs.Took.{Took, took_split, took_length, took_begins, took_expect, behind, took_rest, took_place, took_other, took_number}
 
 abbrev pub writes_words : ℕ → List Word
 writes_words n = word Open ∷ number n ∷ word Close ∷ word Semicolon ∷ []

@@ -1,5 +1,5 @@
 -- A text is cut in one way, and step by step.
-use Rattle.std.proofs.Common.{◌≡◌, ◌≢◌, ℕ, zero, suc, ◌+◌, ◌-◌, ◌<◌, ◌≤◌, List, [], ◌∷◌, ◌++◌, length, take, drop, Bool, true, false, refl, sym, ap, subst, ◌∙◌, arith, append_assoc}
+use Rattle.std.proofs.Common.{◌≡◌, ℕ, ◌+◌, List, [], ◌∷◌, ◌++◌, length, take, Bool, true, false, refl, sym, ap, subst, ◌∙◌, arith}
 use Rattle.std.specs.Prelude.{◌&&◌}
 use Rattle.std.specs.List.{list_all}
 use Rattle.std.proofs.lemmas.List.{append_cancel_left, take_at}
@@ -89,9 +89,9 @@ kind_is_one k j rest others hk hj e ek ej =
     let text = spelling k ++ rest in
     let size : length (spelling k) ≡ length (spelling j) = size_is_one text (length (spelling k)) (length (spelling j)) (size_of_token k text rest hk refl ek) (size_of_token j text others hj e ej) in
     let same : spelling k ≡ spelling j =
-        sym (take_at (spelling k) rest (length (spelling k)) refl)
-        ∙ ap (take (length (spelling k))) e
-        ∙ take_at (spelling j) others (length (spelling k)) (sym size) in
+    sym (take_at (spelling k) rest (length (spelling k)) refl)
+    ∙ ap (take (length (spelling k))) e
+    ∙ take_at (spelling j) others (length (spelling k)) (sym size) in
     let left : spelling k ++ rest ≡ spelling k ++ others = e ∙ ap (λ (v : List ℕ). v ++ others) (sym same) in
     (spelling_injective k j hk hj same, append_cancel_left (spelling k) rest others left)
 

@@ -4,7 +4,7 @@ use Rattle.csub_core.specs.Syntax.{ProgramTree}
 use Rattle.read_small.specs.declared.token.Token.{Token}
 use Rattle.read_small.specs.Cuts.{IsCut}
 use Rattle.read_small.specs.Lines.{program_words}
-use Rattle.read_small.specs.Small.{IsSmall, IsOneProgram}
+use Rattle.read_small.specs.Small.{IsSmall, MeansOneProgram}
 use Rattle.read_small.specs.Descent.{program_from}
 use Rattle.read_small.proofs.Took.{took_all, all_took}
 use Rattle.read_small.proofs.Complete.{complete_program}
@@ -21,7 +21,7 @@ small_read source P h ts cut =
 some_is : (P Q : ProgramTree) → Some P ≡ Some Q → P ≡ Q
 some_is P Q e = cc
 
-pub one_program : IsOneProgram
+pub one_program : MeansOneProgram
 one_program source P Q h k = some_is P Q (sym (small_read source P h h.tokens h.cut) ∙ small_read source Q k h.tokens h.cut)
 
 -- tokens that are read as a program make the source small

@@ -1,12 +1,12 @@
 -- What a test of the next token says, and a reading that did not fail.
-use Rattle.std.proofs.Common.{◌≡◌, ℕ, zero, suc, List, [], ◌∷◌, Option, Some, None, Bool, true, false, cond, refl, sym, ap, ◌∙◌, inl, inr, ◌⊎◌}
+use Rattle.std.proofs.Common.{◌≡◌, ℕ, zero, suc, List, Option, Some, None, Bool, true, false, cond, refl, sym, ap, ◌∙◌, inl, inr, ◌⊎◌}
 use Rattle.std.proofs.lemmas.Bool.{eqb-true}
 use Rattle.read_small.specs.declared.token.Fixed.{Fixed}
 use Rattle.read_small.specs.declared.token.Fixed.TheVariants.{Int, Main, Void, If, Else, Getchar, Putchar, Return, Open, Close, OpenBrace, CloseBrace, Semicolon, Equal}
 use Rattle.read_small.specs.declared.token.Kind.{Kind}
 use Rattle.read_small.specs.declared.token.Kind.TheVariants as kinds
 use Rattle.read_small.specs.declared.token.Token.{Token}
-use Rattle.read_small.specs.Descent.{◌>>=◌, fixed_code, same_fixed, kind_is, begins, rest, expect, number_of, number_at}
+use Rattle.read_small.specs.Descent.{◌>>=◌, fixed_code, same_fixed, kind_is, begins, rest, expect, number_of}
 
 pub bind_some : {A B : Type 0} (r : Option A) (f : A → Option B) (y : B) → (r >>= f) ≡ Some y → (x : A) × (r ≡ Some x) × (f x ≡ Some y)
 bind_some (Some x) f y e = (x, refl, e)

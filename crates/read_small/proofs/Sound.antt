@@ -1,18 +1,17 @@
 -- What is read is spelled so, and means what was read.
-use Rattle.std.proofs.Common.{◌≡◌, ℕ, zero, suc, ◌+◌, List, [], ◌∷◌, ◌++◌, length, Option, Some, None, Bool, true, false, refl, sym, ap, subst, ◌∙◌, inl, inr, ◌⊎◌, append_assoc}
+use Rattle.std.proofs.Common.{◌≡◌, ℕ, zero, suc, List, [], ◌∷◌, ◌++◌, length, Option, Some, None, refl, sym, ap, subst, ◌∙◌, inl, inr, append_assoc}
 use Rattle.std.specs.Prelude.{map}
 use Rattle.std.specs.List.{flat_map}
 use Rattle.csub_core.specs.Syntax.{StmtTree, ElseTree, block, conditional, no_else, else_stmt, stmts_of, ProgramTree}
-use Rattle.read_small.specs.declared.token.Fixed.{Fixed}
 use Rattle.read_small.specs.declared.token.Fixed.TheVariants.{Int, Main, Void, If, Else, Getchar, Putchar, Return, Open, Close, OpenBrace, CloseBrace, Semicolon, Equal}
 use Rattle.read_small.specs.declared.token.Token.{Token}
 use Rattle.read_small.specs.declared.plain.Plain.{Plain}
 use Rattle.read_small.specs.declared.plain.Plain.TheVariants.{Writes, Gives}
-use Rattle.read_small.specs.Lines.{Line, plain, test, Word, word, word_at, number, plain_words, braced_words, else_words, line_words, program_words}
+use Rattle.read_small.specs.Lines.{Line, plain, test, Word, word, plain_words, braced_words, else_words, line_words, program_words}
 use Rattle.read_small.specs.Meaning.{plain_stmt, block_of, test_part, else_of, line_stmt, program_at, program_of}
 use Rattle.read_small.specs.Descent.{Answer, ◌>>=◌, begins, rest, place, expect, number_at, writes_at, gives_at, plain_at, stmt_at, many_at, braced_at, else_at, test_at, if_at, line_at, head_at, at_end, program_from}
-use Rattle.read_small.proofs.Readings.{bind_some, chosen, expect_is}
-use Rattle.read_small.proofs.Took.{Took, at_word, behind, took_join, begun_took, expected_took, placed_took, number_took}
+use Rattle.read_small.proofs.Readings.{bind_some, chosen}
+use Rattle.read_small.proofs.Took.{Took, behind, took_join, begun_took, expected_took, placed_took, number_took}
 use Rattle.read_small.proofs.Complete.{writes_words, gives_words, test_words, head_words}
 
 -- what was read is the value of something that the first tokens spell
@@ -67,12 +66,12 @@ sound_plain : (ts : List Token) (p : Plain) (r : List Token) → plain_at ts ≡
 unfolding plain_at
 sound_plain ts p r h = elim (chosen (begins Putchar ts) (writes_at (place ts) (rest ts)) (expect Return ts >>= λ after. gives_at (place ts) after) (Some (p, r)) h) [
   | inl e ↦
-    let i = sound_writes (place ts) (rest ts) p r e.1 in
-    record { spelled = Writes (place ts) i.spelled; means = i.means; took = begun_took Putchar (Some (place ts)) (writes_words i.spelled) ts r e.0 refl i.took }
+      let i = sound_writes (place ts) (rest ts) p r e.1 in
+      record { spelled = Writes (place ts) i.spelled; means = i.means; took = begun_took Putchar (Some (place ts)) (writes_words i.spelled) ts r e.0 refl i.took }
   | inr e ↦
-    let a = bind_some (expect Return ts) (λ after. gives_at (place ts) after) (p, r) e.1 in
-    let i = sound_gives (place ts) a.0 p r a.2 in
-    record { spelled = Gives (place ts) i.spelled; means = i.means; took = placed_took Return (gives_words i.spelled) ts a.0 r a.1 i.took }
+      let a = bind_some (expect Return ts) (λ after. gives_at (place ts) after) (p, r) e.1 in
+      let i = sound_gives (place ts) a.0 p r a.2 in
+      record { spelled = Gives (place ts) i.spelled; means = i.means; took = placed_took Return (gives_words i.spelled) ts a.0 r a.1 i.took }
 ]
 
 pub sound_stmt : (ts : List Token) (x : StmtTree) (r : List Token) → stmt_at ts ≡ Some (x, r) → Read plain_words plain_stmt ts x r
@@ -94,15 +93,15 @@ module _ {L : Type 0} (words : L → List Word) (stmt : L → StmtTree) where
   sound_many item one (suc f) ts ys r h = elim (chosen (begins CloseBrace ts) (Some ([], rest ts)) (item ts >>= λ x. many_at item f x.1 >>= λ xs. Some (x.0 ∷ xs.0, xs.1)) (Some (ys, r)) h) [
     | inl e ↦ answer_is many_words (map stmt) ts [] ys (rest ts) r e.1 (record { spelled = []; means = refl; took = begun_took CloseBrace None [] ts (rest ts) e.0 tt refl })
     | inr e ↦
-      let a = bind_some (item ts) (λ x. many_at item f x.1 >>= λ xs. Some (x.0 ∷ xs.0, xs.1)) (ys, r) e.1 in
-      let b = bind_some (many_at item f a.0.1) (λ xs. Some (a.0.0 ∷ xs.0, xs.1)) (ys, r) a.2 in
-      let i = one ts a.0.0 a.0.1 a.1 in
-      let j = sound_many item one f a.0.1 b.0.0 b.0.1 b.1 in
-      answer_is many_words (map stmt) ts (a.0.0 ∷ b.0.0) ys b.0.1 r b.2 (record {
-        spelled = i.spelled ∷ j.spelled;
-        means = (λ k. i.means k ∷ j.means k);
-        took = subst (λ (ws : List Word). Took ws ts b.0.1) (sym (append_assoc (words i.spelled) (flat_map words j.spelled) (word CloseBrace ∷ []))) (took_join (words i.spelled) (many_words j.spelled) ts a.0.1 b.0.1 i.took j.took);
-      })
+        let a = bind_some (item ts) (λ x. many_at item f x.1 >>= λ xs. Some (x.0 ∷ xs.0, xs.1)) (ys, r) e.1 in
+        let b = bind_some (many_at item f a.0.1) (λ xs. Some (a.0.0 ∷ xs.0, xs.1)) (ys, r) a.2 in
+        let i = one ts a.0.0 a.0.1 a.1 in
+        let j = sound_many item one f a.0.1 b.0.0 b.0.1 b.1 in
+        answer_is many_words (map stmt) ts (a.0.0 ∷ b.0.0) ys b.0.1 r b.2 (record {
+          spelled = i.spelled ∷ j.spelled;
+          means = (λ k. i.means k ∷ j.means k);
+          took = subst (λ (ws : List Word). Took ws ts b.0.1) (sym (append_assoc (words i.spelled) (flat_map words j.spelled) (word CloseBrace ∷ []))) (took_join (words i.spelled) (many_words j.spelled) ts a.0.1 b.0.1 i.took j.took);
+        })
   ]
 
 sound_braced : (ts : List Token) (x : StmtTree) (r : List Token) → braced_at ts ≡ Some (x, r) → Read braced_words block_of ts x r
@@ -121,13 +120,13 @@ sound_else : (ts : List Token) (x : ElseTree) (r : List Token) → else_at ts �
 unfolding else_at
 sound_else ts x r h = elim (chosen (begins Else ts) (braced_at (rest ts) >>= λ other. Some (else_stmt other.0, other.1)) (Some (no_else, ts)) (Some (x, r)) h) [
   | inl e ↦
-    let a = bind_some (braced_at (rest ts)) (λ other. Some (else_stmt other.0, other.1)) (x, r) e.1 in
-    let i = sound_braced (rest ts) a.0.0 a.0.1 a.1 in
-    answer_is else_words else_of ts (else_stmt a.0.0) x a.0.1 r a.2 (record {
-      spelled = Some i.spelled;
-      means = ap (λ s. else_stmt s) i.means;
-      took = begun_took Else None (braced_words i.spelled) ts a.0.1 e.0 tt i.took;
-    })
+      let a = bind_some (braced_at (rest ts)) (λ other. Some (else_stmt other.0, other.1)) (x, r) e.1 in
+      let i = sound_braced (rest ts) a.0.0 a.0.1 a.1 in
+      answer_is else_words else_of ts (else_stmt a.0.0) x a.0.1 r a.2 (record {
+        spelled = Some i.spelled;
+        means = ap (λ s. else_stmt s) i.means;
+        took = begun_took Else None (braced_words i.spelled) ts a.0.1 e.0 tt i.took;
+      })
   | inr e ↦ answer_is else_words else_of ts no_else x ts r e.1 (record { spelled = None; means = refl; took = refl })
 ]
 
@@ -158,7 +157,7 @@ sound_test ts x r h =
       spelled = (place a.0, n.0.0);
       means = refl;
       took = expected_took Open w1 ts a.0 z.0 a.1 (placed_took Getchar w2 a.0 b.0 z.0 b.1 (expected_took Open w3 b.0 c.0 z.0 c.1 (expected_took Close w4 c.0 d.0 z.0 d.1
-      (expected_took Equal w5 d.0 e.0 z.0 e.1 (number_took n.0.0 (word Close ∷ []) e.0 n.0.1 z.0 n.1 (expected_took Close [] n.0.1 z.0 z.0 z.1 refl))))));
+          (expected_took Equal w5 d.0 e.0 z.0 e.1 (number_took n.0.0 (word Close ∷ []) e.0 n.0.1 z.0 n.1 (expected_took Close [] n.0.1 z.0 z.0 z.1 refl))))));
     })
 
 -- behind `if`
@@ -195,11 +194,11 @@ pub sound_line : (ts : List Token) (x : StmtTree) (r : List Token) → line_at t
 unfolding line_at
 sound_line ts x r h = elim (chosen (begins If ts) (if_at (rest ts)) (stmt_at ts) (Some (x, r)) h) [
   | inl e ↦
-    let i = sound_if (rest ts) x r e.1 in
-    record { spelled = test i.spelled.at i.spelled.byte i.spelled.lines i.spelled.other; means = i.means; took = begun_took If None (if_words i.spelled) ts r e.0 tt i.took }
+      let i = sound_if (rest ts) x r e.1 in
+      record { spelled = test i.spelled.at i.spelled.byte i.spelled.lines i.spelled.other; means = i.means; took = begun_took If None (if_words i.spelled) ts r e.0 tt i.took }
   | inr e ↦
-    let i = sound_stmt ts x r e.1 in
-    record { spelled = plain i.spelled; means = i.means; took = i.took }
+      let i = sound_stmt ts x r e.1 in
+      record { spelled = plain i.spelled; means = i.means; took = i.took }
 ]
 
 sound_head : (ts : List Token) (at : ℕ) (r : List Token) → head_at ts ≡ Some (at, r) → Read head_words identity ts at r
@@ -223,7 +222,7 @@ sound_head ts at r h =
       spelled = place a.0;
       means = refl;
       took = expected_took Int w1 ts a.0 z.0 a.1 (placed_took Main w2 a.0 b.0 z.0 b.1 (expected_took Open w3 b.0 c.0 z.0 c.1
-      (expected_took Void w4 c.0 d.0 z.0 d.1 (expected_took Close (word OpenBrace ∷ []) d.0 e.0 z.0 e.1 (expected_took OpenBrace [] e.0 z.0 z.0 z.1 refl)))));
+          (expected_took Void w4 c.0 d.0 z.0 d.1 (expected_took Close (word OpenBrace ∷ []) d.0 e.0 z.0 e.1 (expected_took OpenBrace [] e.0 z.0 z.0 z.1 refl)))));
     })
 
 -- a whole program

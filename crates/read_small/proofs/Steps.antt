@@ -1,12 +1,12 @@
 -- The loop over a source: what is cut from a place on, in front of what was cut before it.
-use Rattle.std.proofs.Common.{◌≡◌, ℕ, zero, suc, ◌+◌, ◌-◌, ◌<◌, ◌≤◌, List, [], ◌∷◌, ◌++◌, length, take, drop, get_or, Bool, true, false, refl, sym, ap, subst, ◌∙◌, arith, append_assoc, drop-cons, length-append, length-drop}
+use Rattle.std.proofs.Common.{◌≡◌, ℕ, suc, ◌+◌, ◌<◌, ◌≤◌, List, [], ◌∷◌, ◌++◌, length, drop, get_or, true, false, refl, sym, ap, subst, ◌∙◌, arith, append_assoc, drop-cons, length-append, length-drop}
 use Rattle.std.specs.List.{list_all}
 use Rattle.std.proofs.Math.ListN.{drop_of_length-le}
 use Rattle.std.proofs.lemmas.List.{drop-drop}
 use Rattle.read_small.specs.declared.token.Kind.{Kind}
 use Rattle.read_small.specs.declared.token.Token.{Token}
 use Rattle.read_small.specs.Tokens.{spelling, IsKind}
-use Rattle.read_small.specs.Cuts.{is_blank, Ends, IsFirst, IsCut}
+use Rattle.read_small.specs.Cuts.{is_blank, Ends, IsCut}
 use Rattle.read_small.proofs.Spellings.{lead}
 use Rattle.read_small.proofs.Cutting.{blank_on, blank_off, token_at, token_on, token_off, head_is, and_both, append_nil}
 

@@ -1,7 +1,6 @@
 -- Tokens that begin as words ask for, and what follows them.
-use Rattle.std.proofs.Common.{◌≡◌, ℕ, suc, ◌+◌, List, [], ◌∷◌, ◌++◌, length, Option, Some, None, Bool, true, false, refl, sym, ap, subst, ◌∙◌, arith}
+use Rattle.std.proofs.Common.{◌≡◌, ℕ, ◌+◌, List, [], ◌∷◌, ◌++◌, length, Option, Some, None, true, false, refl, sym, ap, subst, ◌∙◌, arith}
 use Rattle.read_small.specs.declared.token.Fixed.{Fixed}
-use Rattle.read_small.specs.declared.token.Kind.{Kind}
 use Rattle.read_small.specs.declared.token.Kind.TheVariants as kinds
 use Rattle.read_small.specs.declared.token.Token.{Token}
 use Rattle.read_small.specs.Lines.{Word, IsPlace, AreTokens, word, number}

@@ -1,6 +1,6 @@
 -- The program of a small source is valid.
-use Rattle.std.proofs.Common.{◌≡◌, ◌≢◌, ℕ, ◌+◌, ◌*◌, ◌<◌, ◌≤◌, List, [], ◌∷◌, ◌++◌, length, Option, Some, None, refl, sym, ap, subst, ◌∙◌, arith, length-append, pos, lit≤}
-use Rattle.std.specs.Prelude.{map, All, AllPairs}
+use Rattle.std.proofs.Common.{◌≡◌, ◌≢◌, ℕ, ◌+◌, ◌≤◌, List, [], ◌∷◌, ◌++◌, length, Option, Some, None, refl, sym, ap, subst, arith, length-append, pos}
+use Rattle.std.specs.Prelude.{map, All}
 use Rattle.std.specs.List.{flat_map}
 use Rattle.std.proofs.lemmas.List.{length-map}
 use Rattle.std.proofs.lemmas.List.Elements.{All-cons, All-nil}
@@ -10,21 +10,21 @@ use Rattle.csub_lex.specs.declared.span.Span.{Span}
 use Rattle.csub_types.specs.declared.kind.IntKind.TheVariants.{Int}
 use Rattle.csub_types.specs.Kinds.{IsOf}
 use Rattle.csub_core.specs.Types.{Name}
-use Rattle.csub_core.specs.Syntax.{PartTree, StmtTree, StmtTrees, stmts_of, FunctionTree, ProgramTree}
+use Rattle.csub_core.specs.Syntax.{PartTree, StmtTree, stmts_of, FunctionTree, ProgramTree}
 use Rattle.csub_core.specs.Points.{PointTree}
 use Rattle.csub_core.specs.Points as points
 use Rattle.csub_core.specs.Labels.{exits}
 use Rattle.csub_core.specs.Successors.{Node, nodes_list}
 use Rattle.csub_core.specs.Flows.{to_exit, end_rule, function_nodes, PlacedNode, placed, point_list, edges_from, edge_list}
 use Rattle.csub_core.specs.Valid.{IsStmt, AreStmts, IsElse, IsPart, IsValid}
-use Rattle.csub_core.specs.declared.valid.role.Role.TheVariants.{Whole, Test}
+use Rattle.csub_core.specs.declared.valid.role.Role.TheVariants.{Whole}
 use Rattle.read_small.specs.declared.plain.Plain.{Plain}
 use Rattle.read_small.specs.declared.plain.Plain.TheVariants.{Writes, Gives}
 use Rattle.read_small.specs.declared.token.Fixed.TheVariants.{Main, CloseBrace}
 use Rattle.read_small.specs.Lines.{Line, plain, test, Word, word, plain_words, braced_words, else_words, line_words, program_words}
-use Rattle.read_small.specs.Meaning.{span_at, own_part, plain_stmt, block_of, else_of, line_stmt, start_function, main_function, program_of}
+use Rattle.read_small.specs.Meaning.{span_at, plain_stmt, block_of, else_of, line_stmt, start_function, main_function, program_of}
 use Rattle.read_small.specs.Small.{IsSmall}
-use Rattle.read_small.proofs.Weights.{weight, weight-append, AreKinds, kinds_split, Holds, holds}
+use Rattle.read_small.proofs.Weights.{weight, weight-append, AreKinds, kinds_split, holds}
 use Rattle.read_small.proofs.Counts.{ways_of, ways_of-append, Counted, counted_many, counted_line}
 
 -- a byte is an `int`

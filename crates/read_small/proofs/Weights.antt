@@ -1,11 +1,10 @@
 -- How many bytes the tokens of a text have, and that its numbers are those of a byte.
-use Rattle.std.proofs.Common.{◌≡◌, ℕ, ◌+◌, ◌*◌, ◌<◌, ◌≤◌, List, [], ◌∷◌, ◌++◌, length, refl, sym, ap, subst, ◌∙◌, arith, length-append}
+use Rattle.std.proofs.Common.{◌≡◌, ℕ, ◌+◌, ◌<◌, ◌≤◌, List, [], ◌∷◌, ◌++◌, length, ap, subst, ◌∙◌, arith, length-append}
 use Rattle.std.specs.Fmt.{decimal}
 use Rattle.std.proofs.lemmas.Fmt.{decimal_nonempty}
-use Rattle.read_small.specs.declared.token.Kind.{Kind}
 use Rattle.read_small.specs.declared.token.Token.{Token}
 use Rattle.read_small.specs.Tokens.{spelling, IsKind}
-use Rattle.read_small.specs.Cuts.{IsFirst, IsCut}
+use Rattle.read_small.specs.Cuts.{IsCut}
 use Rattle.read_small.specs.Lines.{Word, AreTokens}
 
 -- the bytes of words
@@ -42,7 +41,7 @@ holds from text (w ∷ ws) [] cut are = absurd are
 holds from text (w ∷ ws) (t ∷ ts) (rest, f, cut) are =
     let more = holds (t.at + length (spelling t.kind)) rest ws ts cut are.2 in
     let whole : length text ≡ length f.before + (length (spelling t.kind) + length rest) =
-        ap length f.parts ∙ length-append f.before (spelling t.kind ++ rest) ∙ ap (λ n. length f.before + n) (length-append (spelling t.kind) rest) in
+    ap length f.parts ∙ length-append f.before (spelling t.kind ++ rest) ∙ ap (λ n. length f.before + n) (length-append (spelling t.kind) rest) in
     let same : length (spelling t.kind) ≡ length (spelling w.kind) = ap (λ k. length (spelling k)) are.0 in
     record {
       fits = omega (arith, more.fits, whole, same);

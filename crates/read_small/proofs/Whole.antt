@@ -1,5 +1,5 @@
 -- The descent over tokens is exact.
-use Rattle.std.proofs.Common.{◌≡◌, ℕ, ◌<◌, List, length, Some, ap, arith}
+use Rattle.std.proofs.Common.{◌≡◌, ◌<◌, List, length, Some}
 use Rattle.csub_core.specs.Syntax.{StmtTree}
 use Rattle.read_small.specs.declared.token.Token.{Token}
 use Rattle.read_small.specs.Descent.{stmt_at, line_at}

@@ -1,6 +1,6 @@
 -- The descent over tokens as a function of their list. It is not what a small source is (that is Small): the functions of
 -- the code are proved to give it, and proofs/ ties it to Lines and Meaning.
-use Rattle.std.specs.Prelude.{ℕ, zero, suc, ◌≡◌, List, [], ◌∷◌, length, Option, Some, None, Bool, true, false, ◌==◌, if◌then◌else◌}
+use Rattle.std.specs.Prelude.{ℕ, zero, suc, ◌≡◌, List, [], ◌∷◌, length, Option, Some, None, Bool, false, ◌==◌, if◌then◌else◌}
 use Rattle.csub_core.specs.Syntax.{StmtTree, block, conditional, ElseTree, no_else, else_stmt, stmts_of, ProgramTree, stmt_tree}
 use Rattle.csub_core.specs.declared.function.RStmt.{RStmt}
 use Rattle.read_small.specs.declared.token.Fixed.{Fixed}
@@ -16,6 +16,7 @@ use Rattle.read_small.specs.Meaning.{plain_stmt, test_part, program_at}
 abbrev pub Answer : Type 0 → Type 0
 Answer A = Option (A × List Token)
 
+-- reads on behind what was read, and stops where it was refused
 infixl 10 ◌>>=◌
 abbrev pub ◌>>=◌ : {A B : Type 0} → Option A → (A → Option B) → Option B
 None >>= f = None
@@ -31,6 +32,7 @@ abbrev pub else_view : Option RStmt → ElseTree
 else_view None = no_else
 else_view (Some s) = else_stmt (stmt_tree s)
 
+-- tokens by number, so that a test of two computes
 abbrev pub fixed_code : Fixed → ℕ
 fixed_code Int = 0
 fixed_code Main = 1
@@ -77,6 +79,7 @@ abbrev pub number_of : Kind → List Token → Answer ℕ
 number_of (kinds.Fixed f) ts = None
 number_of (kinds.Number n) ts = Some (n, ts)
 
+-- a number
 unfoldable pub number_at : List Token → Answer ℕ
 number_at [] = None
 number_at (t ∷ ts) = number_of t.kind ts
@@ -97,6 +100,7 @@ gives_at at ts = do
   end ← expect Semicolon n.1
   Some (Gives at n.0, end)
 
+-- a plain line
 unfoldable pub plain_at : List Token → Answer Plain
 plain_at ts = if begins Putchar ts then writes_at (place ts) (rest ts) else (expect Return ts >>= λ after. gives_at (place ts) after)
 
@@ -110,12 +114,14 @@ module _ (item : List Token → Answer StmtTree) where
   many_at zero ts = None
   many_at (suc fuel) ts = if begins CloseBrace ts then Some ([], rest ts) else (item ts >>= λ x. many_at fuel x.1 >>= λ xs. Some (x.0 ∷ xs.0, xs.1))
 
+-- plain lines in braces
 unfoldable pub braced_at : List Token → Answer StmtTree
 braced_at ts = do
   inner ← expect OpenBrace ts
   lines ← many_at stmt_at (suc (length inner)) inner
   Some (block (stmts_of lines.0), lines.1)
 
+-- an `else`, if it comes next
 unfoldable pub else_at : List Token → Answer ElseTree
 else_at ts = if begins Else ts then (braced_at (rest ts) >>= λ other. Some (else_stmt other.0, other.1)) else Some (no_else, ts)
 
@@ -139,6 +145,7 @@ if_at ts = do
   other ← else_at lines.1
   Some (conditional (test_part tested.0.0 tested.0.1) lines.0 other.0, other.1)
 
+-- a line
 unfoldable pub line_at : List Token → Answer StmtTree
 line_at ts = if begins If ts then if_at (rest ts) else stmt_at ts
 
@@ -153,6 +160,7 @@ head_at ts = do
   body ← expect OpenBrace brace
   Some (place name, body)
 
+-- no token is left
 abbrev pub at_end : {A : Type 0} → A → List Token → Option A
 at_end x [] = Some x
 at_end x (t ∷ ts) = None

@@ -24,6 +24,7 @@ pub record Word : Type 0 where
   pub kind : Kind
   pub place : Option ℕ
 
+-- a token at any place, one at a place that is told, and a number at any place
 abbrev pub word : Fixed → Word
 word f = record { kind = kinds.Fixed f; place = None }
 
@@ -33,6 +34,7 @@ word_at at f = record { kind = kinds.Fixed f; place = Some at }
 abbrev pub number : ℕ → Word
 number n = record { kind = kinds.Number n; place = None }
 
+-- `putchar(n);` and `return n;`
 abbrev pub plain_words : Plain → List Word
 plain_words (Writes at n) = word_at at Putchar ∷ word Open ∷ number n ∷ word Close ∷ word Semicolon ∷ []
 plain_words (Gives at n) = word_at at Return ∷ number n ∷ word Semicolon ∷ []
@@ -41,10 +43,12 @@ plain_words (Gives at n) = word_at at Return ∷ number n ∷ word Semicolon ∷
 abbrev pub braced_words : List Plain → List Word
 braced_words lines = word OpenBrace ∷ (flat_map plain_words lines ++ word CloseBrace ∷ [])
 
+-- nothing, or `else` and lines in braces
 abbrev pub else_words : Option (List Plain) → List Word
 else_words None = []
 else_words (Some lines) = word Else ∷ braced_words lines
 
+-- a plain line, or `if (getchar() == n)` with lines in braces, and perhaps an `else`
 abbrev pub line_words : Line → List Word
 line_words (plain p) = plain_words p
 line_words (test at n lines other) =
@@ -57,6 +61,7 @@ program_words at lines =
     word Int ∷ word_at at Main ∷ word Open ∷ word Void ∷ word Close ∷ word OpenBrace
     ∷ (flat_map line_words lines ++ word CloseBrace ∷ [])
 
+-- a place that is told is the token's
 abbrev pub IsPlace : Option ℕ → ℕ → Type 0
 IsPlace None at = Unit {0}
 IsPlace (Some place) at = at ≡ place

@@ -1,5 +1,5 @@
 -- The program that a small source means: `#start`, which calls `main`, and `main`.
-use Rattle.std.specs.Prelude.{ℕ, ◌+◌, ℤ, pos, List, [], ◌∷◌, length, map, Option, Some, None, codes}
+use Rattle.std.specs.Prelude.{ℕ, ◌+◌, pos, List, [], ◌∷◌, length, map, Option, Some, None}
 use Rattle.csub_lex.specs.declared.span.Span.{Span}
 use Rattle.csub_lex.specs.declared.operator.BinOp.TheVariants.{Eq}
 use Rattle.csub_types.specs.declared.kind.IntKind.TheVariants.{Int}
@@ -18,6 +18,7 @@ use Rattle.read_small.specs.Lines.{Line, plain, test}
 abbrev pub span_at : ℕ → Fixed → Span
 span_at at f = record { start = at; end = at + length (fixed_spelling f) }
 
+-- a number is of the kind `int` (C11 6.4.4.1p5)
 abbrev pub int_constant : ℕ → NamedExpr
 int_constant n = constant Int (pos n)
 
@@ -30,6 +31,7 @@ abbrev pub plain_stmt : Plain → StmtTree
 plain_stmt (Writes at n) = parts (own_part (evaluates (output_byte (int_constant n))) (span_at at fixed.Putchar) ∷ [])
 plain_stmt (Gives at n) = parts (own_part (returns (Some (record { kind = Int; value = int_constant n }))) (span_at at fixed.Return) ∷ [])
 
+-- lines in braces
 abbrev pub block_of : List Plain → StmtTree
 block_of lines = block (stmts_of (map plain_stmt lines))
 
@@ -37,10 +39,12 @@ block_of lines = block (stmts_of (map plain_stmt lines))
 abbrev pub test_part : ℕ → ℕ → PartTree
 test_part at n = own_part (branches (operation Eq Int input_byte (int_constant n))) (span_at at fixed.Getchar)
 
+-- what stands behind a test, if there is an `else`
 abbrev pub else_of : Option (List Plain) → ElseTree
 else_of None = no_else
 else_of (Some lines) = else_stmt (block_of lines)
 
+-- an `if` has its test, the block for equal bytes, and the one behind `else`
 abbrev pub line_stmt : Line → StmtTree
 line_stmt (plain p) = plain_stmt p
 line_stmt (test at n lines other) = conditional (test_part at n) (block_of lines) (else_of other)
@@ -57,6 +61,7 @@ start_function span = record {
   temps = 1;
 }
 
+-- `main` has no parameters and gives an `int` (C11 5.1.2.2.1)
 abbrev pub main_function : Span → List StmtTree → FunctionTree
 main_function span body = record {
   name = main_name;
@@ -72,5 +77,6 @@ main_function span body = record {
 abbrev pub program_at : ℕ → List StmtTree → ProgramTree
 program_at at body = start_function (span_at at fixed.Main) ∷ main_function (span_at at fixed.Main) body ∷ []
 
+-- the program of lines
 abbrev pub program_of : ℕ → List Line → ProgramTree
 program_of at lines = program_at at (map line_stmt lines)

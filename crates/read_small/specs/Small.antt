@@ -6,8 +6,8 @@ use Rattle.read_small.specs.Cuts.{IsCut}
 use Rattle.read_small.specs.Lines.{Line, program_words, AreTokens}
 use Rattle.read_small.specs.Meaning.{program_of}
 
--- The source is small and means the program: it has at most 65,536 bytes, it is cut into tokens, they spell some lines in
--- a `main`, and the program is what these lines mean.
+-- The source is small and means the program: it has at most 65,536 bytes, its tokens are those of some lines in a `main`
+-- whose name stands at a place, and the program is what these lines mean.
 pub record IsSmall (source : List ℕ) (program : ProgramTree) : Type 0 where
   pub size : length source ≤ 65536
   pub at : ℕ
@@ -18,5 +18,5 @@ pub record IsSmall (source : List ℕ) (program : ProgramTree) : Type 0 where
   pub meant : program ≡ program_of at lines
 
 -- A small source means one program.
-abbrev pub IsOneProgram : Type 0
-IsOneProgram = (source : List ℕ) (P Q : ProgramTree) → IsSmall source P → IsSmall source Q → P ≡ Q
+abbrev pub MeansOneProgram : Type 0
+MeansOneProgram = (source : List ℕ) (P Q : ProgramTree) → IsSmall source P → IsSmall source Q → P ≡ Q

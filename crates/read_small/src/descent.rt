@@ -78,8 +78,8 @@ fn writes(at: u16, tokens: &[Token]) -> Option<(Plain, &[Token])>
     let inner = expect(tokens, Fixed::Open)?;
     let (byte, after) = number(inner)?;
     let after = expect(after, Fixed::Close)?;
-    let end = expect(after, Fixed::Semicolon)?;
-    Some((Plain::Writes(at, byte), end))
+    let rest = expect(after, Fixed::Semicolon)?;
+    Some((Plain::Writes(at, byte), rest))
 }
 
 /// Behind `return`.

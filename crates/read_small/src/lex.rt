@@ -53,7 +53,7 @@ fn fixed_spelling(fixed: Fixed) -> &'static [u8]
 fn is_blank(byte: u8) -> bool
     ensures { result ≡ is_blank byte }
 {
-    matches!(byte, b'\t' | b'\n' | 11 | 12 | b'\r' | b' ')
+    matches!(byte, b'\t' | b'\n' | b'\x0b' | b'\x0c' | b'\r' | b' ')
 }
 
 fn is_word_byte(byte: u8) -> bool
@@ -107,7 +107,7 @@ fn token_len(text: &[u8]) -> usize
     requires { 0 < length text.now }
     ensures within { result ≤ length text.now }
     ensures ends { Ends (take result text.now) (drop result text.now) }
-    ensures cut { (k : Kind) (rest : List ℕ) → IsKind k → text.now ≡ spelling k ++ rest → Ends (spelling k) rest → result ≡ length (spelling k) }
+    ensures size { (k : Kind) (rest : List ℕ) → IsKind k → text.now ≡ spelling k ++ rest → Ends (spelling k) rest → result ≡ length (spelling k) }
 {
     let word_len = word_len(text);
     if word_len > 0 {
@@ -122,8 +122,10 @@ fn token_len(text: &[u8]) -> usize
 /// The first token of a text that begins with one.
 fn first_token(text: &[u8]) -> Option<(Kind, usize)>
     requires { 0 < length text.now }
-    ensures some { IfSome result (λ x. IsKind x.0
-        × (x.1 ≡ length (spelling x.0)) × (text.now ≡ spelling x.0 ++ drop x.1 text.now) × Ends (spelling x.0) (drop x.1 text.now)) }
+    ensures kind { IfSome result (λ x. IsKind x.0) }
+    ensures size { IfSome result (λ x. x.1 ≡ length (spelling x.0)) }
+    ensures parts { IfSome result (λ x. text.now ≡ spelling x.0 ++ drop x.1 text.now) }
+    ensures ends { IfSome result (λ x. Ends (spelling x.0) (drop x.1 text.now)) }
     ensures none { IfNone result ((k : Kind) (rest : List ℕ) → IsKind k → text.now ≡ spelling k ++ rest → Ends (spelling k) rest → ⊥) }
 {
     let len = token_len(text);

@@ -12,6 +12,8 @@ use std::alloc::{AllocError, Global};
 const MOST_BYTES: usize = 65_536;
 
 /// The program that a small source means. `None` exactly where the source is not small. An `Err` is want of memory.
+///
+/// One pass cuts the source into tokens, and one goes over the tokens; the source is not copied.
 pub fn read_small(alloc: Global, source: &[u8]) -> Result<Option<Program>, AllocError>
     ensures small { IfOk result (λ o. IfSome o (λ program. IsSmall source.now (map function_tree program))) }
     ensures other { IfOk result (λ o. IfNone o ((program : ProgramTree) → IsSmall source.now program → ⊥)) }

@@ -1,5 +1,5 @@
 -- The numbers of a row, and their line.
-use Rattle.std.proofs.Common.{◌≡◌, ◌≢◌, ℕ, zero, suc, ◌+◌, ◌-◌, ◌<◌, ◌≤◌, Bool, true, false, List, [], ◌∷◌, ◌++◌, length, map, codes, refl, sym, ap, ◌∙◌, arith, append-nil, append_assoc, length-append, cond, subst}
+use Rattle.std.proofs.Common.{◌≡◌, ◌≢◌, ℕ, suc, ◌+◌, ◌-◌, ◌<◌, ◌≤◌, Bool, true, false, List, [], ◌∷◌, ◌++◌, length, map, codes, refl, sym, ap, ◌∙◌, arith, append-nil, append_assoc, length-append, cond, subst}
 use Rattle.std.proofs.Math.Seq.{get_or-append_seam}
 use Rattle.std.proofs.lemmas.List.Sums.{sum_by-cons}
 use Rattle.std.specs.Fmt.{decimal}
@@ -16,9 +16,6 @@ spaced (number ∷ more) = 32 ∷ (decimal number ++ spaced more)
 -- the numbers of a row from one on
 abbrev pub numbers_from : List Bool → ℕ → List ℕ
 numbers_from row from = filter (has row) (range_with_len from (length row - from))
-
-pub numbers_from-all : (row : List Bool) → numbers_from row 0 ≡ crossed_numbers row
-numbers_from-all row = let whole : length row - 0 ≡ length row = omega arith in ap (λ n. filter (has row) (range_with_len 0 n)) whole
 
 pub numbers_from-in : (row : List Bool) (edge : ℕ) → edge < length row → has row edge ≡ true → numbers_from row edge ≡ edge ∷ numbers_from row (edge + 1)
 numbers_from-in row edge within is =

@@ -1,16 +1,14 @@
 -- The lengths of a history's lines.
-use Rattle.std.proofs.Common.{◌≡◌, ◌≢◌, ℕ, zero, suc, ◌+◌, ◌*◌, ◌<◌, ◌≤◌, List, [], ◌∷◌, ◌++◌, length, codes, refl, sym, ap, ◌∙◌, arith, length-append, append_assoc}
+use Rattle.std.proofs.Common.{◌≡◌, ℕ, ◌+◌, ◌*◌, ◌<◌, List, [], ◌∷◌, ◌++◌, length, codes, refl, ◌∙◌, arith, length-append}
 use Rattle.std.specs.Fmt.{decimal}
 use Rattle.std.specs.List.{flat_map}
-use Rattle.std.specs.Int.{w32, to_be_bytes}
 use Rattle.hex.specs.Hex.{encode_lower, lower_digits}
 use Rattle.hex.proofs.HexLemmas.{length-encode_with}
 use Rattle.sha2.specs.Sha256.{sha256, digest_bytes}
 use Rattle.line_text.specs.Bytes.{bytes_or_dash}
 use Rattle.line_text.specs.Lines.{text_of_lines}
-use Rattle.line_text.specs.Words.{line_of_words}
-use Rattle.test_history.specs.Histories.{EntryParts, HistoryParts}
-use Rattle.test_history.specs.HistoryTexts.{entry_lines, first_lines, end_line, text_before_end, history_text, status_words, words_or_dash, crossed_numbers, value_line}
+use Rattle.test_history.specs.Histories.{HistoryParts}
+use Rattle.test_history.specs.HistoryTexts.{entry_lines, first_lines, end_line, text_before_end, history_text, value_line}
 
 pub length-bytes_or_dash : (bytes : List ℕ) → 0 < length bytes → length (bytes_or_dash bytes) ≡ 2 * length bytes
 length-bytes_or_dash [] some = absurd (omega arith)

@@ -1,5 +1,5 @@
 -- Lines that are written one after the other.
-use Rattle.std.proofs.Common.{◌≡◌, ℕ, List, [], ◌∷◌, ◌++◌, refl, sym, ap, ◌∙◌, append-nil, append_assoc}
+use Rattle.std.proofs.Common.{◌≡◌, ℕ, List, [], ◌∷◌, ◌++◌, sym, ◌∙◌, append-nil, append_assoc}
 use Rattle.line_text.specs.Lines.{text_of_lines}
 
 -- a text after these lines were appended to it, each with its newline
@@ -13,9 +13,3 @@ with_lines-text_of_lines text (line ∷ more) =
     with_lines-text_of_lines ((text ++ line) ++ 10 ∷ []) more
     ∙ append_assoc (text ++ line) (10 ∷ []) (text_of_lines more)
     ∙ append_assoc text line (10 ∷ text_of_lines more)
-
--- the text of lines and more lines
-pub text_of_lines-append : (lines more : List (List ℕ)) → text_of_lines (lines ++ more) ≡ text_of_lines lines ++ text_of_lines more
-text_of_lines-append [] more = refl
-text_of_lines-append (line ∷ rest) more =
-    ap (λ text. line ++ 10 ∷ text) (text_of_lines-append rest more) ∙ sym (append_assoc line (10 ∷ text_of_lines rest) (text_of_lines more))

@@ -1,7 +1,7 @@
-use Rattle.std.proofs.Common.{rules, ◌≡◌, ◌<◌, suc, length, map, Some, None, sym, ap, subst, ◌∙◌}
+use Rattle.std.proofs.Common.{◌≡◌, map, Some, None, sym}
 use Rattle.csub_core.specs.Syntax.{stmt_tree}
 use Rattle.std.proofs.lemmas.List.{map_push}
-use Rattle.read_small.specs.Descent.{Reads, rest, many_at, line_at}
+use Rattle.read_small.specs.Descent.{line_at}
 use Rattle.read_small.proofs.Many.{goes, fails, ends}
 use Rattle.read_small.proofs.Whole.{line_shorter}
 use Rattle.read_small.proofs.descent.lines.Goals as goal

@@ -1,4 +1,4 @@
-use Rattle.std.proofs.Common.{◌≡◌, ◌<◌, ◌≤◌, ◌+◌, ◌-◌, ◌∷◌, ◌++◌, [], List, length, drop, get_or, true, false, arith, sym, ap, ◌∙◌, subst}
+use Rattle.std.proofs.Common.{◌≡◌, ◌+◌, ◌∷◌, ◌++◌, [], List, drop, get_or, true, false, arith, sym, ◌∙◌, subst}
 use Rattle.read_small.specs.declared.token.Token.{Token}
 use Rattle.read_small.specs.Cuts.{is_blank}
 use Rattle.read_small.proofs.Cutting.{token_at}
@@ -25,19 +25,19 @@ returns-in_default c =
 
 pub cuts-smaller : goal.cuts-smaller
 cuts-smaller c =
-    let f = c.in-Some.ensures.some in
-    let found : Found (drop c.cuts.at c.args.source.now) c.in-Some.kind c.in-Some.len = found_at c.from.result.now (drop c.cuts.at c.args.source.now) c.in-Some.kind c.in-Some.len c.from.ensures f.0 f.1 f.2 f.3 in
+    let f = c.in-Some.ensures in
+    let found : Found (drop c.cuts.at c.args.source.now) c.in-Some.kind c.in-Some.len = found_at c.from.result.now (drop c.cuts.at c.args.source.now) c.in-Some.kind c.in-Some.len c.from.ensures f.kind f.size f.parts f.ends in
     omega (arith, found_some (drop c.cuts.at c.args.source.now) c.in-Some.kind c.in-Some.len found, found_within c.args.source.now c.cuts.at c.in-Some.kind c.in-Some.len c.cuts.invariant.within found)
 
 pub cuts-preserved : goal.cuts-preserved
 cuts-preserved c =
     let source = c.args.source.now in
     let i = c.cuts.invariant in
-    let f = c.in-Some.ensures.some in
+    let f = c.in-Some.ensures in
     let k = c.in-Some.kind in
     let len = c.in-Some.len in
     let done : List Token = c.cuts.tokens.items in
-    let found : Found (drop c.cuts.at source) k len = found_at c.from.result.now (drop c.cuts.at source) k len c.from.ensures f.0 f.1 f.2 f.3 in
+    let found : Found (drop c.cuts.at source) k len = found_at c.from.result.now (drop c.cuts.at source) k len c.from.ensures f.kind f.size f.parts f.ends in
     let pushed : done ++ token_at c.cuts.at k ∷ [] ≡ c.push.new.self.items = sym c.in_ok-push.ensures.items in
     record {
       within = found_within source c.cuts.at k len i.within found;

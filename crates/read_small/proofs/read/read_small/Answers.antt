@@ -1,4 +1,4 @@
-use Rattle.std.proofs.Common.{◌≡◌, ◌≤◌, ℕ, List, length, Option, Some, None, map, IfSome, IfNone, sym, ap, ◌∙◌, subst, arith}
+use Rattle.std.proofs.Common.{◌≡◌, ℕ, List, Option, Some, None, map, IfSome, IfNone, sym, ap, ◌∙◌, subst}
 use Rattle.std.specs.Option.{IsSome}
 use Rattle.csub_core.specs.declared.function.Function.{Function}
 use Rattle.csub_core.specs.Syntax.{function_tree, ProgramTree}

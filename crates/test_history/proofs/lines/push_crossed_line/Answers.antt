@@ -1,4 +1,4 @@
-use Rattle.std.proofs.Common.{◌≡◌, ◌∙◌, ◌++◌, ◌+◌, ◌∷◌, [], codes, ap, sym, arith, append_assoc}
+use Rattle.std.proofs.Common.{◌≡◌, ◌∙◌, ◌++◌, ◌+◌, ◌∷◌, [], ap, sym, arith, append_assoc}
 use Rattle.std.specs.Fmt.{decimal}
 use Rattle.test_history.proofs.CrossedLemmas.{spaced, numbers_from, spaced-in, spaced-out, crossed_line-none, crossed_line-written}
 use Rattle.test_history.proofs.lines.push_crossed_line.Goals as goal

@@ -1,4 +1,4 @@
-use Rattle.std.proofs.Common.{◌≡◌, ◌∙◌, ◌++◌, ◌∷◌, [], codes, ap}
+use Rattle.std.proofs.Common.{◌∙◌, ◌++◌, ◌∷◌, [], codes, ap}
 use Rattle.line_text.specs.Words.{line_of_words}
 use Rattle.test_history.specs.HistoryTexts.{entry_lines, words_or_dash, crossed_numbers}
 use Rattle.test_history.proofs.TextLemmas.{with_lines-text_of_lines}

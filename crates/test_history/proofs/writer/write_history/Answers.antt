@@ -1,4 +1,4 @@
-use Rattle.std.proofs.Common.{◌≡◌, ◌≤◌, ◌∙◌, ap, length, arith}
+use Rattle.std.proofs.Common.{◌≡◌, ◌≤◌, ap, length, arith}
 use Rattle.test_history.specs.HistoryTexts.{history_text}
 use Rattle.test_history.proofs.writer.write_history.Goals as goal
 

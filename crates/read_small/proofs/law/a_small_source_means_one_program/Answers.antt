@@ -1,5 +1,5 @@
 use Rattle.read_small.proofs.OneProgram.{one_program}
-use Rattle.read_small.proofs.law.a_small_source_is_one_program.Goals as goal
+use Rattle.read_small.proofs.law.a_small_source_means_one_program.Goals as goal
 
 pub returns : goal.returns
 returns c = one_program

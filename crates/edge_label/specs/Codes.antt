@@ -1,0 +1,113 @@
+-- The code of a label: a list of numbers from which the label can be read back. A tree begins with the number of its
+-- constructor, a text and a list with their length; so no code is the beginning of another one.
+use Rattle.std.specs.Prelude.{ℕ, ℤ, pos, negsuc, List, [], ◌∷◌, ◌++◌, length, Option, Some, None}
+use Rattle.std.specs.List.{flat_map}
+use Rattle.csub_lex.specs.declared.operator.BinOp.{BinOp}
+use Rattle.csub_lex.specs.declared.operator.BinOp.TheVariants.{Mul, Div, Rem, Add, Sub, Shl, Shr, Lt, Gt, Le, Ge, Eq, Ne, BitAnd, BitXor, BitOr}
+use Rattle.csub_types.specs.declared.kind.IntKind.{IntKind}
+use Rattle.csub_types.specs.declared.kind.IntKind.TheVariants.{Char, Int, Unsigned}
+use Rattle.csub_core.specs.declared.label.EndRule.{EndRule}
+use Rattle.csub_core.specs.declared.label.EndRule.TheVariants as rule
+use Rattle.csub_core.specs.Types.{Name, TypeTree, number_type, MemberTree}
+use Rattle.csub_core.specs.Trees.{variable, constant, reading, operation, input_byte, output_byte, value_argument, OwnerTree, global_owner, local_owner, Variable, object, temporary, NamedPlace, NamedExpr, NamedArg}
+use Rattle.csub_core.specs.Labels.{AnswerTree, CallTree, LabelTree, enters, exits, evaluates, branches, returns, calls, Initial, PointLabel}
+
+abbrev pub number_code : ℕ → List ℕ
+number_code n = n ∷ []
+
+-- the sign, 0 for none, and how far the number is from 0 or from -1
+abbrev pub integer_code : ℤ → List ℕ
+integer_code (pos n) = 0 ∷ n ∷ []
+integer_code (negsuc n) = 1 ∷ n ∷ []
+
+abbrev pub name_code : Name → List ℕ
+name_code bytes = length bytes ∷ bytes
+
+abbrev pub list_code : {A : Type 0} → (A → List ℕ) → List A → List ℕ
+list_code code xs = length xs ∷ flat_map code xs
+
+abbrev pub option_code : {A : Type 0} → (A → List ℕ) → Option A → List ℕ
+option_code code None = 0 ∷ []
+option_code code (Some x) = 1 ∷ code x
+
+abbrev pub kind_number : IntKind → ℕ
+kind_number Char = 0
+kind_number Int = 1
+kind_number Unsigned = 2
+
+abbrev pub kind_code : IntKind → List ℕ
+kind_code kind = kind_number kind ∷ []
+
+abbrev pub operator_number : BinOp → ℕ
+operator_number Mul = 0
+operator_number Div = 1
+operator_number Rem = 2
+operator_number Add = 3
+operator_number Sub = 4
+operator_number Shl = 5
+operator_number Shr = 6
+operator_number Lt = 7
+operator_number Gt = 8
+operator_number Le = 9
+operator_number Ge = 10
+operator_number Eq = 11
+operator_number Ne = 12
+operator_number BitAnd = 13
+operator_number BitXor = 14
+operator_number BitOr = 15
+
+abbrev pub rule_number : EndRule → ℕ
+rule_number rule.Nothing = 0
+rule_number rule.Value = 1
+rule_number rule.Main = 2
+rule_number rule.Start = 3
+
+abbrev pub type_code : TypeTree → List ℕ
+type_code (number_type kind) = 0 ∷ kind_code kind
+
+abbrev pub member_code : MemberTree → List ℕ
+member_code member = name_code member.name ++ type_code member.ctype
+
+abbrev pub owner_code : OwnerTree → List ℕ
+owner_code (global_owner name) = 0 ∷ name_code name
+owner_code (local_owner name k) = 1 ∷ k ∷ name_code name
+
+abbrev pub variable_code : Variable → List ℕ
+variable_code (object owner ctype) = 0 ∷ (owner_code owner ++ type_code ctype)
+variable_code (temporary number kind) = 1 ∷ number ∷ kind_code kind
+
+abbrev pub place_code : NamedPlace → List ℕ
+place_code (variable v) = 0 ∷ variable_code v
+
+abbrev pub expr_code : NamedExpr → List ℕ
+expr_code (constant kind value) = 0 ∷ kind_number kind ∷ integer_code value
+expr_code (reading place) = 1 ∷ place_code place
+expr_code (operation op kind a b) = 2 ∷ operator_number op ∷ kind_number kind ∷ (expr_code a ++ expr_code b)
+expr_code input_byte = 3 ∷ []
+expr_code (output_byte e) = 4 ∷ expr_code e
+
+abbrev pub arg_code : NamedArg → List ℕ
+arg_code (value_argument e) = 0 ∷ expr_code e
+
+abbrev pub answer_code : AnswerTree → List ℕ
+answer_code answer = kind_number answer.kind ∷ expr_code answer.value
+
+abbrev pub call_code : CallTree → List ℕ
+call_code call =
+    name_code call.callee ++ (list_code member_code call.params ++ (option_code kind_code call.result
+    ++ (list_code arg_code call.args ++ option_code number_code call.temp)))
+
+abbrev pub label_code : LabelTree → List ℕ
+label_code enters = 0 ∷ []
+label_code (exits rule) = 1 ∷ rule_number rule ∷ []
+label_code (evaluates e) = 2 ∷ expr_code e
+label_code (branches e) = 3 ∷ expr_code e
+label_code (returns answer) = 4 ∷ option_code answer_code answer
+label_code (calls call) = 5 ∷ call_code call
+
+abbrev pub initial_code : Initial → List ℕ
+initial_code initial = name_code initial.name ++ list_code integer_code initial.contents
+
+-- the code of a whole label
+abbrev pub point_code : PointLabel → List ℕ
+point_code label = label_code label.tree ++ list_code initial_code label.globals

@@ -1,0 +1,5 @@
+pub mod Codes
+pub mod Numbers
+pub mod ReadBack
+pub mod Readers
+pub mod Stored

@@ -1,0 +1,19 @@
+-- Books of labels: the labels in the order of their numbers.
+use Rattle.std.specs.Prelude.{◌≡◌, ◌⊎◌, ℕ, List, [], ◌∷◌, ◌++◌, Some, slice_get}
+use Rattle.csub_core.specs.Labels.{LabelTree, PointLabel}
+
+-- the book has this number for this label
+abbrev pub HasNumber : List PointLabel → ℕ → PointLabel → Type 0
+HasNumber book n label = slice_get book n ≡ Some label
+
+-- no number changes its label
+abbrev pub KeepsNumbers : List PointLabel → List PointLabel → Type 0
+KeepsNumbers old new = (n : ℕ) (label : PointLabel) → HasNumber old n label → HasNumber new n label
+
+-- nothing but this label has a new number
+abbrev pub AddsOnly : List PointLabel → List PointLabel → PointLabel → Type 0
+AddsOnly old new label = (new ≡ old) ⊎ (new ≡ old ++ label ∷ [])
+
+-- the label of a tree that names no global
+abbrev pub bare : LabelTree → PointLabel
+bare tree = record { tree = tree; globals = [] }

@@ -1,0 +1,183 @@
+-- A label can be read back from its code, whatever follows the code: a proof, of which nothing has to be believed.
+use Rattle.std.proofs.Common.{◌≡◌, ℕ, zero, suc, ℤ, pos, negsuc, List, [], ◌∷◌, ◌++◌, length, take, drop, Option, Some, None, refl, sym, ap, ap₂, ◌∙◌, append_assoc, append-nil, subst}
+use Rattle.std.specs.List.{flat_map}
+use Rattle.csub_lex.specs.declared.operator.BinOp.{BinOp}
+use Rattle.csub_lex.specs.declared.operator.BinOp.TheVariants.{Mul, Div, Rem, Add, Sub, Shl, Shr, Lt, Gt, Le, Ge, Eq, Ne, BitAnd, BitXor, BitOr}
+use Rattle.csub_types.specs.declared.kind.IntKind.{IntKind}
+use Rattle.csub_types.specs.declared.kind.IntKind.TheVariants.{Char, Int, Unsigned}
+use Rattle.csub_core.specs.declared.label.EndRule.{EndRule}
+use Rattle.csub_core.specs.declared.label.EndRule.TheVariants as rule
+use Rattle.csub_core.specs.Types.{Name, TypeTree, number_type, MemberTree}
+use Rattle.csub_core.specs.Trees.{variable, constant, reading, operation, input_byte, output_byte, value_argument, OwnerTree, global_owner, local_owner, Variable, object, temporary, NamedPlace, NamedExpr, NamedArg}
+use Rattle.csub_core.specs.Labels.{AnswerTree, CallTree, LabelTree, enters, exits, evaluates, branches, returns, calls, Initial, PointLabel}
+use Rattle.edge_label.specs.Codes.{number_code, integer_code, name_code, list_code, option_code, kind_number, kind_code, operator_number, rule_number, type_code, member_code, owner_code, variable_code, place_code, expr_code, arg_code, answer_code, call_code, label_code, initial_code, point_code}
+use Rattle.edge_label.specs.Readers.{Reader, then, read_number, read_integer, read_name, read_times, read_list, read_option, read_kind, read_operator, read_rule, read_type, read_member, read_owner, read_variable, read_place, read_levels, read_expr, read_arg, read_answer, read_call, read_tree, read_initial, read_label, label_of}
+
+-- what a reader and the one behind it give
+then_back : {A B : Type 0} (read : Reader A) (next : A → Reader B) {codes rest : List ℕ} {x : A} {given : B × List ℕ} → read codes ≡ (x, rest) → next x rest ≡ given → then read next codes ≡ given
+unfolding then
+then_back read next first second = ap (λ r. next r.0 r.1) first ∙ second
+
+-- the same where the codes of the two stand one behind the other
+then_append : {A B : Type 0} (read : Reader A) (next : A → Reader B) (a b s : List ℕ) {x : A} {given : B × List ℕ} → ((t : List ℕ) → read (a ++ t) ≡ (x, t)) → next x (b ++ s) ≡ given
+    → then read next ((a ++ b) ++ s) ≡ given
+then_append read next a b s first second = ap (then read next) (append_assoc a b s) ∙ then_back read next (first (b ++ s)) second
+
+take_back : (bytes s : List ℕ) → take (length bytes) (bytes ++ s) ≡ bytes
+take_back [] s = refl
+take_back (b ∷ bytes) s = ap (λ xs. b ∷ xs) (take_back bytes s)
+
+drop_back : (bytes s : List ℕ) → drop (length bytes) (bytes ++ s) ≡ s
+drop_back [] s = refl
+drop_back (b ∷ bytes) s = drop_back bytes s
+
+name_back : (name : Name) (s : List ℕ) → read_name (name_code name ++ s) ≡ (name, s)
+name_back name s = then_back _ _ refl (ap₂ (λ x y. (x, y)) (take_back name s) (drop_back name s))
+
+integer_back : (z : ℤ) (s : List ℕ) → read_integer (integer_code z ++ s) ≡ (z, s)
+integer_back (pos n) s = then_back _ _ refl refl
+integer_back (negsuc n) s = then_back _ _ refl refl
+
+kind_back : (kind : IntKind) (s : List ℕ) → read_kind (kind_number kind ∷ s) ≡ (kind, s)
+kind_back Char s = refl
+kind_back Int s = refl
+kind_back Unsigned s = refl
+
+operator_back : (op : BinOp) (s : List ℕ) → read_operator (operator_number op ∷ s) ≡ (op, s)
+operator_back Mul s = refl
+operator_back Div s = refl
+operator_back Rem s = refl
+operator_back Add s = refl
+operator_back Sub s = refl
+operator_back Shl s = refl
+operator_back Shr s = refl
+operator_back Lt s = refl
+operator_back Gt s = refl
+operator_back Le s = refl
+operator_back Ge s = refl
+operator_back Eq s = refl
+operator_back Ne s = refl
+operator_back BitAnd s = refl
+operator_back BitXor s = refl
+operator_back BitOr s = refl
+
+rule_back : (r : EndRule) (s : List ℕ) → read_rule (rule_number r ∷ s) ≡ (r, s)
+rule_back rule.Nothing s = refl
+rule_back rule.Value s = refl
+rule_back rule.Main s = refl
+rule_back rule.Start s = refl
+
+module _ {A : Type 0} (code : A → List ℕ) (read : Reader A) (back : (x : A) (s : List ℕ) → read (code x ++ s) ≡ (x, s)) where
+  times_back : (xs : List A) (s : List ℕ) → read_times read (length xs) (flat_map code xs ++ s) ≡ (xs, s)
+  times_back [] s = refl
+  times_back (x ∷ xs) s = then_append _ _ (code x) (flat_map code xs) s (back x) (then_back _ _ (times_back xs s) refl)
+
+  list_back : (xs : List A) (s : List ℕ) → read_list read (list_code code xs ++ s) ≡ (xs, s)
+  list_back xs s = then_back _ _ refl (times_back xs s)
+
+  option_back : (x : Option A) (s : List ℕ) → read_option read (option_code code x ++ s) ≡ (x, s)
+  option_back None s = refl
+  option_back (Some x) s = then_back _ _ (back x s) refl
+
+type_back : (t : TypeTree) (s : List ℕ) → read_type (type_code t ++ s) ≡ (t, s)
+type_back (number_type kind) s = then_back _ _ (kind_back kind s) refl
+
+member_back : (m : MemberTree) (s : List ℕ) → read_member (member_code m ++ s) ≡ (m, s)
+member_back m s = then_append _ _ (name_code m.name) (type_code m.ctype) s (name_back m.name) (then_back _ _ (type_back m.ctype s) refl)
+
+owner_back : (owner : OwnerTree) (s : List ℕ) → read_owner (owner_code owner ++ s) ≡ (owner, s)
+owner_back (global_owner name) s = then_back _ _ (name_back name s) refl
+owner_back (local_owner name k) s = then_back _ _ refl (then_back _ _ (name_back name s) refl)
+
+variable_back : (v : Variable) (s : List ℕ) → read_variable (variable_code v ++ s) ≡ (v, s)
+variable_back (object owner ctype) s = then_append _ _ (owner_code owner) (type_code ctype) s (owner_back owner) (then_back _ _ (type_back ctype s) refl)
+variable_back (temporary number kind) s = then_back _ _ refl (then_back _ _ (kind_back kind s) refl)
+
+place_back : (place : NamedPlace) (s : List ℕ) → read_place (place_code place ++ s) ≡ (place, s)
+place_back (variable v) s = then_back _ _ (variable_back v s) refl
+
+-- an expression of at most so many levels
+HasLevels : ℕ → NamedExpr → Type 0
+HasLevels zero e = ⊥
+HasLevels (suc n) (operation op kind a b) = HasLevels n a × HasLevels n b
+HasLevels (suc n) (output_byte e) = HasLevels n e
+HasLevels (suc n) _ = Unit {0}
+
+levels_more : (n : ℕ) (e : NamedExpr) → HasLevels n e → HasLevels (suc n) e
+unfolding HasLevels
+levels_more zero e h = absurd h
+levels_more (suc n) (constant kind value) h = tt
+levels_more (suc n) (reading place) h = tt
+levels_more (suc n) (operation op kind a b) h = (levels_more n a h.0, levels_more n b h.1)
+levels_more (suc n) input_byte h = tt
+levels_more (suc n) (output_byte e) h = levels_more n e h
+
+levels_before : (before codes : List ℕ) (e : NamedExpr) → HasLevels (length codes) e → HasLevels (length (before ++ codes)) e
+levels_before [] codes e h = h
+levels_before (x ∷ before) codes e h = levels_more _ e (levels_before before codes e h)
+
+-- no expression has more levels than its code has numbers
+levels_of : (e : NamedExpr) (s : List ℕ) → HasLevels (length (expr_code e ++ s)) e
+unfolding HasLevels
+levels_of (constant kind value) s = tt
+levels_of (reading place) s = tt
+levels_of (operation op kind a b) s =
+    let same = append_assoc (expr_code a) (expr_code b) s in
+    let first = levels_before (operator_number op ∷ kind_number kind ∷ []) (expr_code a ++ (expr_code b ++ s)) a (levels_of a (expr_code b ++ s)) in
+    let second = levels_before (operator_number op ∷ kind_number kind ∷ expr_code a) (expr_code b ++ s) b (levels_of b s) in
+    subst (λ codes. HasLevels (length (operator_number op ∷ kind_number kind ∷ codes)) a × HasLevels (length (operator_number op ∷ kind_number kind ∷ codes)) b) (sym same) (first, second)
+levels_of input_byte s = tt
+levels_of (output_byte e) s = levels_of e s
+
+levels_back : (e : NamedExpr) (n : ℕ) (s : List ℕ) → HasLevels n e → read_levels n (expr_code e ++ s) ≡ (e, s)
+unfolding HasLevels
+levels_back (constant kind value) (suc n) s h = then_back _ _ (kind_back kind _) (then_back _ _ (integer_back value s) refl)
+levels_back (reading place) (suc n) s h = then_back _ _ (place_back place s) refl
+levels_back (operation op kind a b) (suc n) s h =
+    then_back _ _ (operator_back op _) (then_back _ _ (kind_back kind _)
+    (then_append _ _ (expr_code a) (expr_code b) s (λ t. levels_back a n t h.0) (then_back _ _ (levels_back b n s h.1) refl)))
+levels_back input_byte (suc n) s h = refl
+levels_back (output_byte e) (suc n) s h = then_back _ _ (levels_back e n s h) refl
+levels_back e zero s h = absurd h
+
+expr_back : (e : NamedExpr) (s : List ℕ) → read_expr (expr_code e ++ s) ≡ (e, s)
+unfolding read_expr
+expr_back e s = levels_back e (length (expr_code e ++ s)) s (levels_of e s)
+
+arg_back : (arg : NamedArg) (s : List ℕ) → read_arg (arg_code arg ++ s) ≡ (arg, s)
+arg_back (value_argument e) s = then_back _ _ (expr_back e s) refl
+
+answer_back : (answer : AnswerTree) (s : List ℕ) → read_answer (answer_code answer ++ s) ≡ (answer, s)
+answer_back answer s = then_back _ _ (kind_back answer.kind _) (then_back _ _ (expr_back answer.value s) refl)
+
+number_back : (n : ℕ) (s : List ℕ) → read_number (number_code n ++ s) ≡ (n, s)
+number_back n s = refl
+
+call_back : (call : CallTree) (s : List ℕ) → read_call (call_code call ++ s) ≡ (call, s)
+call_back call s =
+    then_append _ _ (name_code call.callee) _ s (name_back call.callee)
+    (then_append _ _ (list_code member_code call.params) _ s (list_back member_code read_member member_back call.params)
+    (then_append _ _ (option_code kind_code call.result) _ s (option_back kind_code read_kind kind_back call.result)
+    (then_append _ _ (list_code arg_code call.args) _ s (list_back arg_code read_arg arg_back call.args)
+    (then_back _ _ (option_back number_code read_number number_back call.temp s) refl))))
+
+tree_back : (tree : LabelTree) (s : List ℕ) → read_tree (label_code tree ++ s) ≡ (tree, s)
+tree_back enters s = refl
+tree_back (exits rule) s = then_back _ _ (rule_back rule s) refl
+tree_back (evaluates e) s = then_back _ _ (expr_back e s) refl
+tree_back (branches e) s = then_back _ _ (expr_back e s) refl
+tree_back (returns answer) s = then_back _ _ (option_back answer_code read_answer answer_back answer s) refl
+tree_back (calls call) s = then_back _ _ (call_back call s) refl
+
+initial_back : (initial : Initial) (s : List ℕ) → read_initial (initial_code initial ++ s) ≡ (initial, s)
+initial_back initial s =
+    then_append _ _ (name_code initial.name) _ s (name_back initial.name) (then_back _ _ (list_back integer_code read_integer integer_back initial.contents s) refl)
+
+label_back : (label : PointLabel) (s : List ℕ) → read_label (point_code label ++ s) ≡ (label, s)
+label_back label s =
+    then_append _ _ (label_code label.tree) _ s (tree_back label.tree) (then_back _ _ (list_back initial_code read_initial initial_back label.globals s) refl)
+
+-- a label is read back from its code
+pub label_of-point_code : (label : PointLabel) → label_of (point_code label) ≡ label
+unfolding label_of
+label_of-point_code label = ap (λ codes. (read_label codes).0) (sym (append-nil (point_code label))) ∙ ap (λ r. r.0) (label_back label [])

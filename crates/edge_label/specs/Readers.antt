@@ -1,0 +1,126 @@
+-- Codes read back: what label a list of numbers is the code of. Lists that are no code give some label too.
+use Rattle.std.specs.Prelude.{ℕ, zero, suc, ℤ, pos, negsuc, List, [], ◌∷◌, length, Option, Some, None, take, drop}
+use Rattle.std.proofs.Common.{get_or}
+use Rattle.csub_lex.specs.declared.operator.BinOp.{BinOp}
+use Rattle.csub_lex.specs.declared.operator.BinOp.TheVariants.{Mul, Div, Rem, Add, Sub, Shl, Shr, Lt, Gt, Le, Ge, Eq, Ne, BitAnd, BitXor, BitOr}
+use Rattle.csub_types.specs.declared.kind.IntKind.{IntKind}
+use Rattle.csub_types.specs.declared.kind.IntKind.TheVariants.{Char, Int, Unsigned}
+use Rattle.csub_core.specs.declared.label.EndRule.{EndRule}
+use Rattle.csub_core.specs.declared.label.EndRule.TheVariants as rule
+use Rattle.csub_core.specs.Types.{Name, TypeTree, number_type, MemberTree}
+use Rattle.csub_core.specs.Trees.{variable, constant, reading, operation, input_byte, output_byte, value_argument, OwnerTree, global_owner, local_owner, Variable, object, temporary, NamedPlace, NamedExpr, NamedArg}
+use Rattle.csub_core.specs.Labels.{AnswerTree, CallTree, LabelTree, enters, exits, evaluates, branches, returns, calls, Initial, PointLabel}
+
+-- a reader takes a value off the front of a list, and gives what is left
+abbrev pub Reader : Type 0 → Type 0
+Reader A = List ℕ → A × List ℕ
+
+-- a value that takes no numbers
+abbrev pub just : {A : Type 0} → A → Reader A
+just x codes = (x, codes)
+
+-- a reader, and behind it the one that its value asks for
+unfoldable pub then : {A B : Type 0} → Reader A → (A → Reader B) → Reader B
+then read next codes = let r = read codes in next r.0 r.1
+
+abbrev pub read_number : Reader ℕ
+read_number codes = (get_or codes 0 0, drop 1 codes)
+
+-- the first number tells which of the readers goes on
+abbrev pub by_number : {A : Type 0} → List (Reader A) → A → Reader A
+by_number readers other codes = get_or readers (get_or codes 0 0) (just other) (drop 1 codes)
+
+abbrev pub read_integer : Reader ℤ
+read_integer = by_number (then read_number (λ n. just (pos n)) ∷ then read_number (λ n. just (negsuc n)) ∷ []) (pos 0)
+
+abbrev pub read_name : Reader Name
+read_name = then read_number (λ n codes. (take n codes, drop n codes))
+
+abbrev pub read_times : {A : Type 0} → Reader A → ℕ → Reader (List A)
+read_times read zero = just []
+read_times read (suc n) = then read (λ x. then (read_times read n) (λ xs. just (x ∷ xs)))
+
+abbrev pub read_list : {A : Type 0} → Reader A → Reader (List A)
+read_list read = then read_number (λ n. read_times read n)
+
+abbrev pub read_option : {A : Type 0} → Reader A → Reader (Option A)
+read_option read = by_number (just None ∷ then read (λ x. just (Some x)) ∷ []) None
+
+abbrev pub read_kind : Reader IntKind
+read_kind = by_number (just Char ∷ just Int ∷ just Unsigned ∷ []) Char
+
+abbrev pub read_operator : Reader BinOp
+read_operator =
+    by_number (just Mul ∷ just Div ∷ just Rem ∷ just Add ∷ just Sub ∷ just Shl ∷ just Shr ∷ just Lt ∷ just Gt ∷ just Le ∷ just Ge ∷ just Eq ∷ just Ne
+    ∷ just BitAnd ∷ just BitXor ∷ just BitOr ∷ []) Mul
+
+abbrev pub read_rule : Reader EndRule
+read_rule = by_number (just rule.Nothing ∷ just rule.Value ∷ just rule.Main ∷ just rule.Start ∷ []) rule.Nothing
+
+abbrev pub read_type : Reader TypeTree
+read_type = by_number (then read_kind (λ kind. just (number_type kind)) ∷ []) (number_type Char)
+
+abbrev pub read_member : Reader MemberTree
+read_member = then read_name (λ name. then read_type (λ ctype. just (record { name = name; ctype = ctype })))
+
+abbrev pub read_owner : Reader OwnerTree
+read_owner =
+    by_number (then read_name (λ name. just (global_owner name))
+    ∷ then read_number (λ k. then read_name (λ name. just (local_owner name k)))
+    ∷ []) (global_owner [])
+
+abbrev pub read_variable : Reader Variable
+read_variable =
+    by_number (then read_owner (λ owner. then read_type (λ ctype. just (object owner ctype)))
+    ∷ then read_number (λ number. then read_kind (λ kind. just (temporary number kind)))
+    ∷ []) (temporary 0 Char)
+
+abbrev pub read_place : Reader NamedPlace
+read_place = by_number (then read_variable (λ v. just (variable v)) ∷ []) (variable (temporary 0 Char))
+
+-- an expression of at most so many levels
+abbrev pub read_levels : ℕ → Reader NamedExpr
+read_levels zero = just input_byte
+read_levels (suc n) =
+    by_number (then read_kind (λ kind. then read_integer (λ value. just (constant kind value)))
+    ∷ then read_place (λ place. just (reading place))
+    ∷ then read_operator (λ op. then read_kind (λ kind. then (read_levels n) (λ a. then (read_levels n) (λ b. just (operation op kind a b)))))
+    ∷ just input_byte
+    ∷ then (read_levels n) (λ e. just (output_byte e))
+    ∷ []) input_byte
+
+-- an expression has no more levels than its code has numbers
+unfoldable pub read_expr : Reader NamedExpr
+read_expr codes = read_levels (length codes) codes
+
+abbrev pub read_arg : Reader NamedArg
+read_arg = by_number (then read_expr (λ e. just (value_argument e)) ∷ []) (value_argument input_byte)
+
+abbrev pub read_answer : Reader AnswerTree
+read_answer = then read_kind (λ kind. then read_expr (λ value. just (record { kind = kind; value = value })))
+
+abbrev pub read_call : Reader CallTree
+read_call =
+    then read_name (λ callee. then (read_list read_member) (λ params. then (read_option read_kind) (λ result.
+    then (read_list read_arg) (λ args. then (read_option read_number) (λ temp.
+    just (record { callee = callee; params = params; result = result; args = args; temp = temp }))))))
+
+abbrev pub read_tree : Reader LabelTree
+read_tree =
+    by_number (just enters
+    ∷ then read_rule (λ rule. just (exits rule))
+    ∷ then read_expr (λ e. just (evaluates e))
+    ∷ then read_expr (λ e. just (branches e))
+    ∷ then (read_option read_answer) (λ answer. just (returns answer))
+    ∷ then read_call (λ call. just (calls call))
+    ∷ []) enters
+
+abbrev pub read_initial : Reader Initial
+read_initial = then read_name (λ name. then (read_list read_integer) (λ contents. just (record { name = name; contents = contents })))
+
+abbrev pub read_label : Reader PointLabel
+read_label = then read_tree (λ tree. then (read_list read_initial) (λ globals. just (record { tree = tree; globals = globals })))
+
+-- the label that a list of numbers is the code of
+unfoldable pub label_of : List ℕ → PointLabel
+label_of codes = (read_label codes).0

@@ -1,0 +1,242 @@
+//! The code of a label, number by number.
+ghost use Rattle.std.specs.Prelude.{◌≡◌, ◌++◌, [], OnOk, map, option_map};
+ghost use Rattle.csub_core.specs.Types.{type_tree, member_tree};
+ghost use Rattle.csub_core.specs.Trees.{expr_tree, arg_tree};
+ghost use Rattle.csub_core.specs.Labels.{answer_tree, call_tree, label_tree};
+ghost use Rattle.edge_label.specs.Codes.{integer_code, name_code, list_code, option_code, number_code, kind_code, kind_number, operator_number, rule_number, type_code, member_code, expr_code, arg_code, answer_code, call_code, label_code, point_code};
+ghost use Rattle.edge_label.specs.Numbers.{bare};
+
+use csub_core::{Answer, BinOp, CType, CallLabel, EndRule, IntKind, Label, Member, RArg, RExpr};
+use std::alloc::AllocError;
+
+/// Appends the code of a label whose tree names no global. An `Err` is want of memory.
+pub fn push_label(out: &mut Vec<u64>, label: &Label) -> Result<(), AllocError>
+    ensures { OnOk result (out.new.items ≡ out.old.items ++ point_code (bare (label_tree label.now))) }
+{
+    push_tree(out, label)?;
+    out.push(0)?;
+    Ok(())
+}
+
+fn push_tree(out: &mut Vec<u64>, label: &Label) -> Result<(), AllocError>
+    ensures { OnOk result (out.new.items ≡ out.old.items ++ label_code (label_tree label.now)) }
+{
+    match label {
+        Label::Entry => out.push(0)?,
+        Label::Exit(rule) => {
+            out.push(1)?;
+            out.push(rule_number(*rule))?;
+        }
+        Label::Eval(expr) => {
+            out.push(2)?;
+            push_expr(out, expr)?;
+        }
+        Label::Branch(expr) => {
+            out.push(3)?;
+            push_expr(out, expr)?;
+        }
+        Label::Return(answer) => {
+            out.push(4)?;
+            push_answer(out, answer)?;
+        }
+        Label::Call(call) => {
+            out.push(5)?;
+            push_call(out, call)?;
+        }
+    }
+    Ok(())
+}
+
+fn push_answer(out: &mut Vec<u64>, answer: &Option<Answer>) -> Result<(), AllocError>
+    ensures { OnOk result (out.new.items ≡ out.old.items ++ option_code answer_code (option_map answer_tree answer.now)) }
+{
+    match answer {
+        None => out.push(0)?,
+        Some(answer) => {
+            out.push(1)?;
+            out.push(kind_number(answer.kind))?;
+            push_expr(out, &answer.value)?;
+        }
+    }
+    Ok(())
+}
+
+fn push_call(out: &mut Vec<u64>, call: &CallLabel) -> Result<(), AllocError>
+    ensures { OnOk result (out.new.items ≡ out.old.items ++ call_code (call_tree call.now)) }
+{
+    push_name(out, call.callee.bytes())?;
+    push_members(out, &call.params)?;
+    push_result(out, call.result)?;
+    push_args(out, &call.args)?;
+    push_temp(out, call.temp)
+}
+
+fn push_result(out: &mut Vec<u64>, result_kind: Option<IntKind>) -> Result<(), AllocError>
+    ensures { OnOk result (out.new.items ≡ out.old.items ++ option_code kind_code result_kind) }
+{
+    match result_kind {
+        None => out.push(0)?,
+        Some(kind) => {
+            out.push(1)?;
+            out.push(kind_number(kind))?;
+        }
+    }
+    Ok(())
+}
+
+fn push_temp(out: &mut Vec<u64>, temp: Option<u32>) -> Result<(), AllocError>
+    ensures { OnOk result (out.new.items ≡ out.old.items ++ option_code number_code temp) }
+{
+    match temp {
+        None => out.push(0)?,
+        Some(number) => {
+            out.push(1)?;
+            out.push(u64::from(number))?;
+        }
+    }
+    Ok(())
+}
+
+fn push_members(out: &mut Vec<u64>, members: &[Member]) -> Result<(), AllocError>
+    ensures { OnOk result (out.new.items ≡ out.old.items ++ list_code member_code (map member_tree members.now)) }
+{
+    out.push(members.len() as u64)?;
+    for member in members {
+        push_member(out, member)?;
+    }
+    Ok(())
+}
+
+fn push_member(out: &mut Vec<u64>, member: &Member) -> Result<(), AllocError>
+    ensures { OnOk result (out.new.items ≡ out.old.items ++ member_code (member_tree member.now)) }
+{
+    push_name(out, member.name.bytes())?;
+    push_type(out, &member.ctype)
+}
+
+fn push_type(out: &mut Vec<u64>, ctype: &CType) -> Result<(), AllocError>
+    ensures { OnOk result (out.new.items ≡ out.old.items ++ type_code (type_tree ctype.now)) }
+{
+    match ctype {
+        CType::Num(kind) => {
+            out.push(0)?;
+            out.push(kind_number(*kind))?;
+        }
+    }
+    Ok(())
+}
+
+fn push_args(out: &mut Vec<u64>, args: &[RArg]) -> Result<(), AllocError>
+    ensures { OnOk result (out.new.items ≡ out.old.items ++ list_code arg_code (map arg_tree args.now)) }
+{
+    out.push(args.len() as u64)?;
+    for arg in args {
+        push_arg(out, arg)?;
+    }
+    Ok(())
+}
+
+fn push_arg(out: &mut Vec<u64>, arg: &RArg) -> Result<(), AllocError>
+    ensures { OnOk result (out.new.items ≡ out.old.items ++ arg_code (arg_tree arg.now)) }
+{
+    match arg {
+        RArg::Value(expr) => {
+            out.push(0)?;
+            push_expr(out, expr)
+        }
+    }
+}
+
+fn push_expr(out: &mut Vec<u64>, expr: &RExpr) -> Result<(), AllocError>
+    ensures { OnOk result (out.new.items ≡ out.old.items ++ expr_code (expr_tree expr.now)) }
+{
+    match expr {
+        RExpr::Const(kind, value) => {
+            out.push(0)?;
+            out.push(kind_number(*kind))?;
+            push_integer(out, *value)
+        }
+        RExpr::Binary(op, kind, left, right) => {
+            out.push(2)?;
+            out.push(operator_number(*op))?;
+            out.push(kind_number(*kind))?;
+            push_expr(out, left)?;
+            push_expr(out, right)
+        }
+        RExpr::Getchar => {
+            out.push(3)?;
+            Ok(())
+        }
+        RExpr::Putchar(byte) => {
+            out.push(4)?;
+            push_expr(out, byte)
+        }
+    }
+}
+
+fn push_name(out: &mut Vec<u64>, name: &[u8]) -> Result<(), AllocError>
+    ensures { OnOk result (out.new.items ≡ out.old.items ++ name_code name.now) }
+{
+    out.push(name.len() as u64)?;
+    for byte in name {
+        out.push(u64::from(*byte))?;
+    }
+    Ok(())
+}
+
+fn push_integer(out: &mut Vec<u64>, value: i64) -> Result<(), AllocError>
+    ensures { OnOk result (out.new.items ≡ out.old.items ++ integer_code value) }
+{
+    if value < 0 {
+        out.push(1)?;
+        out.push(-(value + 1) as u64)?;
+    } else {
+        out.push(0)?;
+        out.push(value as u64)?;
+    }
+    Ok(())
+}
+
+fn kind_number(kind: IntKind) -> u64
+    ensures { result ≡ kind_number kind }
+{
+    match kind {
+        IntKind::Char => 0,
+        IntKind::Int => 1,
+        IntKind::Unsigned => 2,
+    }
+}
+
+fn rule_number(rule: EndRule) -> u64
+    ensures { result ≡ rule_number rule }
+{
+    match rule {
+        EndRule::Nothing => 0,
+        EndRule::Value => 1,
+        EndRule::Main => 2,
+        EndRule::Start => 3,
+    }
+}
+
+fn operator_number(op: BinOp) -> u64
+    ensures { result ≡ operator_number op }
+{
+    match op {
+        BinOp::Mul => 0,
+        BinOp::Div => 1,
+        BinOp::Rem => 2,
+        BinOp::Add => 3,
+        BinOp::Sub => 4,
+        BinOp::Shl => 5,
+        BinOp::Shr => 6,
+        BinOp::Lt => 7,
+        BinOp::Gt => 8,
+        BinOp::Le => 9,
+        BinOp::Ge => 10,
+        BinOp::Eq => 11,
+        BinOp::Ne => 12,
+        BinOp::BitAnd => 13,
+        BinOp::BitXor => 14,
+        BinOp::BitOr => 15,
+    }
+}

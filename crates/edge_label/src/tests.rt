@@ -1,0 +1,157 @@
+//! Worked examples: which labels have one number, and how a caller asks that counts nothing.
+ghost use Rattle.std.specs.Prelude.{◌≡◌, ◌<◌, length};
+
+use crate::{LabelBook, Steps};
+use csub_core::{
+    Answer, BinOp, CType, CallLabel, EndRule, IntKind, Label, Member, RArg, RExpr, Text,
+};
+use std::alloc::{AllocError, Global};
+use std::marker::Brand;
+use std::process::Abort;
+use std::sync::ledger::{Blank, Ledger};
+
+// `7 op value`, the value a constant of the kind
+fn operation(alloc: Global, op: BinOp, kind: IntKind, value: i64) -> Result<RExpr, AllocError> {
+    let left = Box::new(alloc, RExpr::Const(IntKind::Int, 7))?;
+    let right = Box::new(alloc, RExpr::Const(kind, value))?;
+    Ok(RExpr::Binary(op, IntKind::Int, left, right))
+}
+
+// a call of a function of one parameter with one argument
+fn call(
+    alloc: Global,
+    name: &[u8],
+    param: &[u8],
+    declared: IntKind,
+    returned: Option<IntKind>,
+    arg: i64,
+    temp: Option<u32>,
+) -> Result<Label, AllocError> {
+    let mut params = Vec::new(alloc);
+    params.push(Member {
+        name: Text::new(alloc, param)?,
+        ctype: CType::Num(declared),
+    })?;
+    let mut args = Vec::new(alloc);
+    args.push(RArg::Value(RExpr::Const(IntKind::Int, arg)))?;
+    Ok(Label::Call(CallLabel {
+        callee: Text::new(alloc, name)?,
+        params,
+        result: returned,
+        args,
+        temp,
+    }))
+}
+
+fn push_plain(alloc: Global, labels: &mut Vec<Label>) -> Result<(), AllocError> {
+    labels.push(Label::Entry)?;
+    for rule in [EndRule::Nothing, EndRule::Value, EndRule::Main, EndRule::Start] {
+        labels.push(Label::Exit(rule))?;
+    }
+    labels.push(Label::Eval(RExpr::Getchar))?;
+    labels.push(Label::Branch(RExpr::Getchar))?;
+    labels.push(Label::Return(None))?;
+    for kind in [IntKind::Char, IntKind::Int] {
+        labels.push(Label::Return(Some(Answer {
+            kind,
+            value: RExpr::Getchar,
+        })))?;
+    }
+    let byte = Box::new(alloc, RExpr::Getchar)?;
+    labels.push(Label::Eval(RExpr::Putchar(byte)))?;
+    Ok(())
+}
+
+fn push_operations(alloc: Global, labels: &mut Vec<Label>) -> Result<(), AllocError> {
+    let cases = [
+        (BinOp::Add, IntKind::Int, 1),
+        (BinOp::Sub, IntKind::Int, 1),
+        (BinOp::Add, IntKind::Unsigned, 1),
+        (BinOp::Add, IntKind::Char, 1),
+        (BinOp::Add, IntKind::Int, 0),
+        (BinOp::Add, IntKind::Int, -1),
+        (BinOp::Add, IntKind::Int, -2),
+    ];
+    for (op, kind, value) in cases {
+        labels.push(Label::Eval(operation(alloc, op, kind, value)?))?;
+    }
+    Ok(())
+}
+
+fn push_calls(alloc: Global, labels: &mut Vec<Label>) -> Result<(), AllocError> {
+    let int = IntKind::Int;
+    labels.push(call(alloc, b"f", b"x", int, Some(int), 5, Some(1))?)?;
+    labels.push(call(alloc, b"g", b"x", int, Some(int), 5, Some(1))?)?;
+    labels.push(call(alloc, b"fx", b"", int, Some(int), 5, Some(1))?)?;
+    labels.push(call(alloc, b"f", b"x", IntKind::Char, Some(int), 5, Some(1))?)?;
+    labels.push(call(alloc, b"f", b"x", int, Some(IntKind::Char), 5, Some(1))?)?;
+    labels.push(call(alloc, b"f", b"x", int, None, 5, None)?)?;
+    labels.push(call(alloc, b"f", b"x", int, Some(int), 6, Some(1))?)?;
+    labels.push(call(alloc, b"f", b"x", int, Some(int), 5, Some(2))?)?;
+    Ok(())
+}
+
+// 26 labels, each other than the ones before it
+fn different(alloc: Global) -> Result<Vec<Label>, AllocError> {
+    let mut labels = Vec::new(alloc);
+    push_plain(alloc, &mut labels)?;
+    push_operations(alloc, &mut labels)?;
+    push_calls(alloc, &mut labels)?;
+    Ok(labels)
+}
+
+fn numbers(alloc: Global, book: &mut LabelBook) -> Result<Vec<u32>, AllocError> {
+    let mut numbers = Vec::new(alloc);
+    for label in &different(alloc)? {
+        numbers.push(book.intern(label)?)?;
+    }
+    Ok(numbers)
+}
+
+// Labels that differ in one part have different numbers, given from 0 on; equal ones of a second build have the same.
+#[test]
+fn a_label_has_the_number_of_its_equal_and_of_no_other(rt: HostRuntime) {
+    let mut book = LabelBook::new(rt.alloc());
+    let old = numbers(rt.alloc(), &mut book);
+    let new = numbers(rt.alloc(), &mut book);
+    let (Ok(old), Ok(new)) = (old, new) else {
+        assert!(rt; false, "no memory");
+        return;
+    };
+    assert!(rt; old.len() == 26);
+    for (place, number) in old.iter().enumerate() {
+        assert!(rt; *number as usize == place, "label {place}");
+    }
+    assert!(rt; new.as_slice() == old.as_slice());
+}
+
+fn ask<L: Ledger>(book: &LabelBook, a: u32, b: u32, blank: Blank) -> bool
+    requires name { blank.name ≡ L.name }
+    requires parts { blank.parts ≡ L.parts }
+    requires some { 0 < blank.parts }
+    requires a_given { a < length book.now }
+    requires b_given { b < length book.now }
+{
+    let mut steps: Steps<L> = Steps::new(blank);
+    book.same(a, b, &mut steps)
+}
+
+// A caller that counts nothing names the ledger itself.
+#[test]
+fn the_same_is_said_of_equal_labels_alone(rt: HostRuntime) {
+    let mut book = LabelBook::new(rt.alloc());
+    let Ok(entry) = book.intern(&Label::Entry) else {
+        assert!(rt; false, "no memory");
+        return;
+    };
+    let Ok(other) = book.intern(&Label::Return(None)) else {
+        assert!(rt; false, "no memory");
+        return;
+    };
+    let Ok(again) = book.intern(&Label::Entry) else {
+        assert!(rt; false, "no memory");
+        return;
+    };
+    assert!(rt; ask::<Brand>(&book, entry, again, Blank::new(1)));
+    assert!(rt; !ask::<Brand>(&book, entry, other, Blank::new(1)));
+}
