@@ -1,4 +1,4 @@
--- Books of labels: the labels in the order of their numbers.
+-- Books of labels. A book is seen as the list of its labels, in the order of their numbers.
 use Rattle.std.specs.Prelude.{◌≡◌, ◌⊎◌, ℕ, List, [], ◌∷◌, ◌++◌, Some, slice_get}
 use Rattle.csub_core.specs.Labels.{LabelTree, PointLabel}
 
@@ -10,7 +10,7 @@ HasNumber book n label = slice_get book n ≡ Some label
 abbrev pub KeepsNumbers : List PointLabel → List PointLabel → Type 0
 KeepsNumbers old new = (n : ℕ) (label : PointLabel) → HasNumber old n label → HasNumber new n label
 
--- nothing but this label has a new number
+-- the book is as it was, or has this label behind the others
 abbrev pub AddsOnly : List PointLabel → List PointLabel → PointLabel → Type 0
 AddsOnly old new label = (new ≡ old) ⊎ (new ≡ old ++ label ∷ [])
 

@@ -1,4 +1,4 @@
--- A label can be read back from its code, whatever follows the code: a proof, of which nothing has to be believed.
+-- A label can be read back from its code, whatever follows the code. This is a proof, and nothing in it has to be believed.
 use Rattle.std.proofs.Common.{◌≡◌, ℕ, zero, suc, ℤ, pos, negsuc, List, [], ◌∷◌, ◌++◌, length, take, drop, Option, Some, None, refl, sym, ap, ap₂, ◌∙◌, append_assoc, append-nil, subst}
 use Rattle.std.specs.List.{flat_map}
 use Rattle.csub_lex.specs.declared.operator.BinOp.{BinOp}

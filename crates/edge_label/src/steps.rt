@@ -23,6 +23,9 @@ impl<L: Ledger> Model for Steps<L> {
 
 impl<L: Ledger> Steps<L> {
     /// A count of 0, in the ledger of `blank`.
+    ///
+    /// A caller that counts nothing makes one in a function of its own over `L: Ledger`, which takes the blank: it
+    /// calls that function with `Brand` for `L` and `Blank::new(1)`, and its proof names the ledger.
     pub fn new(blank: Blank) -> Steps<L>
         requires name { blank.name ≡ L.name }
         requires parts { blank.parts ≡ L.parts }

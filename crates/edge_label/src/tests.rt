@@ -18,34 +18,41 @@ fn operation(alloc: Global, op: BinOp, kind: IntKind, value: i64) -> Result<RExp
 }
 
 // a call of a function of one parameter with one argument
-fn call(
-    alloc: Global,
-    name: &[u8],
-    param: &[u8],
+#[derive(Clone, Copy)]
+struct Case {
+    name: u8,
+    param: u8,
     declared: IntKind,
     returned: Option<IntKind>,
     arg: i64,
     temp: Option<u32>,
-) -> Result<Label, AllocError> {
+}
+
+fn call(alloc: Global, case: Case) -> Result<CallLabel, AllocError> {
     let mut params = Vec::new(alloc);
     params.push(Member {
-        name: Text::new(alloc, param)?,
-        ctype: CType::Num(declared),
+        name: Text::new(alloc, &[case.param])?,
+        ctype: CType::Num(case.declared),
     })?;
     let mut args = Vec::new(alloc);
-    args.push(RArg::Value(RExpr::Const(IntKind::Int, arg)))?;
-    Ok(Label::Call(CallLabel {
-        callee: Text::new(alloc, name)?,
+    args.push(RArg::Value(RExpr::Const(IntKind::Int, case.arg)))?;
+    Ok(CallLabel {
+        callee: Text::new(alloc, &[case.name])?,
         params,
-        result: returned,
+        result: case.returned,
         args,
-        temp,
-    }))
+        temp: case.temp,
+    })
 }
 
 fn push_plain(alloc: Global, labels: &mut Vec<Label>) -> Result<(), AllocError> {
     labels.push(Label::Entry)?;
-    for rule in [EndRule::Nothing, EndRule::Value, EndRule::Main, EndRule::Start] {
+    for rule in [
+        EndRule::Nothing,
+        EndRule::Value,
+        EndRule::Main,
+        EndRule::Start,
+    ] {
         labels.push(Label::Exit(rule))?;
     }
     labels.push(Label::Eval(RExpr::Getchar))?;
@@ -79,15 +86,29 @@ fn push_operations(alloc: Global, labels: &mut Vec<Label>) -> Result<(), AllocEr
 }
 
 fn push_calls(alloc: Global, labels: &mut Vec<Label>) -> Result<(), AllocError> {
+    let char = IntKind::Char;
     let int = IntKind::Int;
-    labels.push(call(alloc, b"f", b"x", int, Some(int), 5, Some(1))?)?;
-    labels.push(call(alloc, b"g", b"x", int, Some(int), 5, Some(1))?)?;
-    labels.push(call(alloc, b"fx", b"", int, Some(int), 5, Some(1))?)?;
-    labels.push(call(alloc, b"f", b"x", IntKind::Char, Some(int), 5, Some(1))?)?;
-    labels.push(call(alloc, b"f", b"x", int, Some(IntKind::Char), 5, Some(1))?)?;
-    labels.push(call(alloc, b"f", b"x", int, None, 5, None)?)?;
-    labels.push(call(alloc, b"f", b"x", int, Some(int), 6, Some(1))?)?;
-    labels.push(call(alloc, b"f", b"x", int, Some(int), 5, Some(2))?)?;
+    let cases = [
+        (b'f', b'x', int, Some(int), 5, Some(1)),
+        (b'g', b'x', int, Some(int), 5, Some(1)),
+        (b'f', b'y', int, Some(int), 5, Some(1)),
+        (b'f', b'x', char, Some(int), 5, Some(1)),
+        (b'f', b'x', int, Some(char), 5, Some(1)),
+        (b'f', b'x', int, None, 5, None),
+        (b'f', b'x', int, Some(int), 6, Some(1)),
+        (b'f', b'x', int, Some(int), 5, Some(2)),
+    ];
+    for (name, param, declared, returned, arg, temp) in cases {
+        let case = Case {
+            name,
+            param,
+            declared,
+            returned,
+            arg,
+            temp,
+        };
+        labels.push(Label::Call(call(alloc, case)?))?;
+    }
     Ok(())
 }
 
@@ -125,33 +146,38 @@ fn a_label_has_the_number_of_its_equal_and_of_no_other(rt: HostRuntime) {
     assert!(rt; new.as_slice() == old.as_slice());
 }
 
-fn ask<L: Ledger>(book: &LabelBook, a: u32, b: u32, blank: Blank) -> bool
+// what is said of a label and its equal, and of it and another one
+fn ask<L: Ledger>(
+    book: &LabelBook,
+    label: u32,
+    equal: u32,
+    other: u32,
+    blank: Blank,
+) -> (bool, bool)
     requires name { blank.name ≡ L.name }
     requires parts { blank.parts ≡ L.parts }
     requires some { 0 < blank.parts }
-    requires a_given { a < length book.now }
-    requires b_given { b < length book.now }
+    requires label_given { label < length book.now }
+    requires equal_given { equal < length book.now }
+    requires other_given { other < length book.now }
 {
     let mut steps: Steps<L> = Steps::new(blank);
-    book.same(a, b, &mut steps)
+    let first = book.same(label, equal, &mut steps);
+    let second = book.same(label, other, &mut steps);
+    (first, second)
 }
 
 // A caller that counts nothing names the ledger itself.
 #[test]
 fn the_same_is_said_of_equal_labels_alone(rt: HostRuntime) {
     let mut book = LabelBook::new(rt.alloc());
-    let Ok(entry) = book.intern(&Label::Entry) else {
+    let entry = book.intern(&Label::Entry);
+    let other = book.intern(&Label::Return(None));
+    let again = book.intern(&Label::Entry);
+    let (Ok(entry), Ok(other), Ok(again)) = (entry, other, again) else {
         assert!(rt; false, "no memory");
         return;
     };
-    let Ok(other) = book.intern(&Label::Return(None)) else {
-        assert!(rt; false, "no memory");
-        return;
-    };
-    let Ok(again) = book.intern(&Label::Entry) else {
-        assert!(rt; false, "no memory");
-        return;
-    };
-    assert!(rt; ask::<Brand>(&book, entry, again, Blank::new(1)));
-    assert!(rt; !ask::<Brand>(&book, entry, other, Blank::new(1)));
+    let answers = ask::<Brand>(&book, entry, again, other, Blank::new(1));
+    assert!(rt; answers == (true, false));
 }

@@ -15,3 +15,6 @@ mod node;
 mod search;
 
 pub use graph::{EdgeEnds, Graph};
+
+#[cfg(test)]
+mod tests;
