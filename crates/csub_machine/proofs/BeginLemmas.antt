@@ -55,7 +55,7 @@ module _ (P : ProgramTree) (run : Run) (input : List ℕ) where
   standing_begun start top below state i =
       let here : place_of P 0 ≡ site start_name entry = ap site_or (first_point P start).0 in
       let first : frame_of P run.frames.top ≡ record { function = start_name; point = entry; result = None } =
-          ap (frame_of P) top ∙ ap (λ (s : Site). let f : Frame = record { function = s.function; point = s.point; result = None } in f) here in
+      ap (frame_of P) top ∙ ap (λ (s : Site). let f : Frame = record { function = s.function; point = s.point; result = None } in f) here in
       let frames = ap (λ (f : Frame). f ∷ below_of P run.frames.below.items) first ∙ ap (λ (l : List CodeFrame). record { function = start_name; point = entry; result = None } ∷ below_of P l) below in
       let store = same_store run.store.input.items input (initial_cells (flow_of P)) no_cells i (sym (no_initial_cells P)) ∙ sym state in
       same_standing _ (frame_of P run.frames.top ∷ below_of P run.frames.below.items) _ (state_of run.store) (sym frames) store

@@ -72,10 +72,12 @@ insert_is (e ∷ es) k v c = step (order.ghosts.cmp k e.0) (at_is k e.0) (insert
     equal false false h = refl
     equal true false h = cc
     equal false true h = cc
+
     other : (b d : Bool) → ((b ≡ true) → (d ≡ true) → the.cell_eq (cell_seen k) (cell_seen e.0) ≡ true) → the.cell_eq (cell_seen k) (cell_seen e.0) ≡ false → (if b then Some (content_seen e.1) else if d then Some (content_seen v) else among es c) ≡ (if d then Some (content_seen v) else if b then Some (content_seen e.1) else among es c)
     other true true h g = let f = h refl refl in cc
     other true false h g = refl
     other false d h g = refl
+
     step : (o : Ordering) → is_eq o ≡ the.cell_eq (cell_seen k) (cell_seen e.0) → among (insert_entry order.ghosts.cmp es k v) c ≡ (if the.cell_eq c (cell_seen k) then Some (content_seen v) else among es c) → among (match_ordering o ((k, v) ∷ e ∷ es) ((e.0, v) ∷ es) (e ∷ insert_entry order.ghosts.cmp es k v)) c ≡ (if the.cell_eq c (cell_seen k) then Some (content_seen v) else among (e ∷ es) c)
     step Less h r = refl
     step Equal h r =
@@ -99,6 +101,7 @@ filter_is h (e ∷ es) c =
     pushed : (b : Bool) → among (cond b (e ∷ filter (λ e. not (the.of_frame h (root_seen e.0.root))) es) (filter (λ e. not (the.of_frame h (root_seen e.0.root))) es)) c ≡ (if b then if the.cell_eq c (cell_seen e.0) then Some (content_seen e.1) else among (filter (λ e. not (the.of_frame h (root_seen e.0.root))) es) c else among (filter (λ e. not (the.of_frame h (root_seen e.0.root))) es) c)
     pushed true = refl
     pushed false = refl
+
     step : (b d s : Bool) (o : Option the.Content) → (s ≡ true → d ≡ b) → o ≡ (if d then None else among es c) → (if not b then if s then Some (content_seen e.1) else o else o) ≡ (if d then None else if s then Some (content_seen e.1) else among es c)
     step true true true o f r = r
     step true false true o f r = let g = f refl in cc

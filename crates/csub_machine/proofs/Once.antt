@@ -61,6 +61,7 @@ edges_once_among (m ∷ ms) places ways i j d e g =
         let w = edge_of_point m k d h in
         let a = edge_among ms l d f in
         let same = places 0 (suc a.0) m a.1 refl a.2 (ap source_of w.2 ∙ sym a.3) in cc
+
     step : Stands (edges_from m) (flat_map edges_from ms) i d → Stands (edges_from m) (flat_map edges_from ms) j d → Once (flat_map edges_from ms) → i ≡ j
     step (inl h) (inl f) later =
         let w = edge_of_point m i d h in
@@ -88,10 +89,12 @@ places_once (f ∷ rest) differ i j a b e g h =
         let made = made_of (placed f.name) (slice_get (function_nodes f) k) x (sym (slice_get-map (placed f.name) (function_nodes f) k) ∙ t) in
         let number = range_at (λ n. number_of f.body n.point) (function_nodes f) 0 (count_function f) k made.value (function_places f) made.is in
         (sym (ap (λ (y : PlacedNode). y.function) made.gives), ap (λ (y : PlacedNode). number_of f.body y.node.point) (sym made.gives) ∙ number ∙ omega arith)
+
     apart : (x y : PlacedNode) (k l : ℕ) → slice_get (map (placed f.name) (function_nodes f)) k ≡ Some x → slice_get (point_list rest) l ≡ Some y → x.function ≡ y.function → ⊥
     apart x y k l t u s =
         let is = point_placed rest l y u in
         first_differs f rest is.place is.function differ is.there (sym (numbered k x t).0 ∙ s ∙ is.name)
+
     step : Stands (map (placed f.name) (function_nodes f)) (point_list rest) i a → Stands (map (placed f.name) (function_nodes f)) (point_list rest) j b → PlacesOnce (point_list rest) → i ≡ j
     step (inl t) (inl u) later = sym (numbered i a t).1 ∙ ap (λ (s : Site). number_of f.body s.point) h ∙ (numbered j b u).1
     step (inl t) (inr u) later = absurd (apart a b i u.0 t u.2 (ap (λ (s : Site). s.function) h))

@@ -73,8 +73,8 @@ module _ (P : ProgramTree) (old new : Run) where
   ended_before nowhere e h l i = absurd (let f : ⊥ = cc in f)
   ended_before (ended es n t s) e h l i = (
     ap (λ (x : List ℕ). after (flow_of P) x new.done) i
-    ∙ ap (after (flow_of P) old.store.input.items) (sym (add-sub_of_le l))
-    ∙ after_ended (flow_of P) old.store.input.items old.done (new.done - old.done) es n t s e,
+        ∙ ap (after (flow_of P) old.store.input.items) (sym (add-sub_of_le l))
+        ∙ after_ended (flow_of P) old.store.input.items old.done (new.done - old.done) es n t s e,
     refl,
     λ g a. let c = sym e ∙ (a.standing g).moment in cc,
   )

@@ -47,7 +47,10 @@ pub enum Content {
 }
 
 /// The content of a cell, if it was written.
-pub fn content_at<'m>(cells: &'m BTreeMap<CellName, Content>, name: &CellName) -> Option<&'m Content>
+pub fn content_at<'m>(
+    cells: &'m BTreeMap<CellName, Content>,
+    name: &CellName,
+) -> Option<&'m Content>
     ensures { option_map content_seen (option_copied result) ≡ cells_of cells.now (cell_seen name.now) }
 {
     cells.get(name)

@@ -20,10 +20,9 @@ pub mod machine;
 mod run;
 mod stop;
 mod store;
-mod turn;
-mod ways;
-
 #[cfg(test)]
 mod tests;
+mod turn;
+mod ways;
 
 pub use machine::Machine;

@@ -100,11 +100,7 @@ fn letters(alloc: Global) -> Result<Vec<RStmt>, AllocError> {
     let then = Box::new(alloc, written(alloc, 66)?)?;
     let other = Box::new(alloc, written(alloc, 67)?)?;
     let mut body = Vec::new(alloc);
-    body.push(RStmt::If(
-        part(alloc, Label::Branch(test)),
-        then,
-        Some(other),
-    ))?;
+    body.push(RStmt::If(part(alloc, Label::Branch(test)), then, Some(other)))?;
     body.push(returned(alloc, constant(0))?)?;
     Ok(body)
 }
@@ -206,7 +202,12 @@ fn a_test_of_the_input_chooses_what_is_written(rt: HostRuntime) -> Result<(), Fa
 fn a_return_ends_the_run_with_a_status_or_a_trap(rt: HostRuntime) -> Result<(), Fail> {
     let alloc = rt.alloc();
     let by_zero = operation(alloc, BinOp::Div, constant(1), constant(0))?;
-    let exit = run(alloc, one(alloc, returned(alloc, constant(300))?)?, b"", 100)?;
+    let exit = run(
+        alloc,
+        one(alloc, returned(alloc, constant(300))?)?,
+        b"",
+        100,
+    )?;
     assert_eq!(rt; exit.status, Status::Exit(44));
     assert_eq!(rt; exit.turns, 6);
     assert!(rt; exit.crossed.as_slice() == [0, 1, 2, 3].as_slice());

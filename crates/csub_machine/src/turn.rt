@@ -49,7 +49,13 @@ pub enum Turn {
 }
 
 /// The top frame goes on along a way out, with this result.
-fn leave_by(program: &Program, graph: &Graph, top: &mut Frame, exit: &ExitLabel, given: Option<i64>) -> Turn
+fn leave_by(
+    program: &Program,
+    graph: &Graph,
+    top: &mut Frame,
+    exit: &ExitLabel,
+    given: Option<i64>,
+) -> Turn
     requires graph { IsGraphOf graph.now (tree_of program.now) }
     requires point { top.old.point < length (point_list (tree_of program.now)) }
     ensures moves { (below : List StandingFrame) (s : Held) → let P = tree_of program.now in let here = place_of P top.old.point in Moves P (cross (frame_of P top.old) below (exit_tree exit.now) given s ((flow_of P).succ here.function here.point (exit_tree exit.now))) result (record { frames = frame_of P top.new ∷ below; store = s }) }
@@ -96,7 +102,13 @@ fn push_frame(frames: &mut Frames, point: u32) -> Result<(), AllocError>
     ensures below { OnOk result (frames.new.below.items ≡ frames.old.below.items ++ frames.old.top ∷ []) }
 {
     frames.below.reserve(1)?;
-    let caller = mem::replace(&mut frames.top, Frame { point, result: None });
+    let caller = mem::replace(
+        &mut frames.top,
+        Frame {
+            point,
+            result: None,
+        },
+    );
     frames.below.push(caller)?;
     Ok(())
 }

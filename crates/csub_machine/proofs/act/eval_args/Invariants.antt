@@ -10,7 +10,7 @@ abbrev pub invariant-loop-param : goal.invariant-loop-param
 invariant-loop-param l =
     record {
       contents :
-        then_do (argument_contents l.height (map member_tree (drop l.param-index l.params)) (map arg_tree l.rest) (state_of l.store)) (λ cs t. value (contents_seen l.made ++ cs) t)
-        ≡ argument_contents l.height (map member_tree l.params) (map arg_tree l.fn.args) (state_of l.fn.store);
+          then_do (argument_contents l.height (map member_tree (drop l.param-index l.params)) (map arg_tree l.rest) (state_of l.store)) (λ cs t. value (contents_seen l.made ++ cs) t)
+          ≡ argument_contents l.height (map member_tree l.params) (map arg_tree l.fn.args) (state_of l.fn.store);
       kept : OnlyAdds l.fn.store l.store;
     }
