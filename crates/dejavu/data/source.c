@@ -1,0 +1,1 @@
+int main(void) { if (getchar() == 65) { putchar(66); } else { putchar(67); } return 0; }

@@ -1,0 +1,5 @@
+pub mod WordLemmas
+pub mod Zips
+pub mod RunLemmas
+pub mod AnswerLemmas
+pub mod CompleteLemmas

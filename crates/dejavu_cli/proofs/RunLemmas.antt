@@ -1,0 +1,88 @@
+-- From what a machine shows to entries and histories.
+use Rattle.std.proofs.Common.{◌≡◌, ◌↔◌, ℕ, zero, suc, ◌+◌, ◌<◌, ◌≤◌, List, [], ◌∷◌, length, map, Bool, IsTrue, Option, Some, refl, sym, ap, ◌∙◌, subst, arith, All}
+use Rattle.std.specs.List.{AllZip}
+use Rattle.std.proofs.lemmas.List.Elements.{All-cons, All-head, All-tail, All-nil}
+use Rattle.csub_core.specs.declared.function.Function.{Function}
+use Rattle.csub_core.specs.declared.status.Status.{Status}
+use Rattle.csub_core.specs.Syntax.{ProgramTree, function_tree}
+use Rattle.csub_core.specs.Flows.{flow_of, edge_list}
+use Rattle.csub_core.specs.Numbers.{IsCrossed}
+use Rattle.csub_core.specs.Runs.{Results, run_of}
+use Rattle.csub_core.specs.Valid.{IsValid}
+use Rattle.csub_machine.specs.Moments.{Seen, moment_of, output_of, turns_of, crossed_of, results_of}
+use Rattle.edge_trace.specs.Rows.{has}
+use Rattle.program_laws.specs.Bounds.{RunsAreBounded, IsBounded}
+use Rattle.test_suite.specs.Tests.{TestParts, IsWithin}
+use Rattle.test_history.specs.Histories.{EntryParts, HistoryParts, HaveRows, IsEntryWithin, IsHistoryWithin}
+use Rattle.dejavu_cli.specs.Record.{IsRowOf, IsEntry, IsHistory}
+
+-- what a machine shows after a whole run of a test is the test's entry
+pub entry_is : (program : List Function) (asked copy : TestParts) (entry : EntryParts) (status : Status) (old new : Seen) (input : List ℕ) (budget turns : ℕ) (output : List ℕ) (row : List Bool)
+    → old ≡ record { program = program; input = input; done = 0 }
+    → input ≡ asked.input → budget ≡ asked.budget
+    → new ≡ record old { done = budget }
+    → run_of (flow_of (map function_tree old.program)) old.input budget ≡ Some (results_of status new)
+    → output ≡ output_of (moment_of new) → turns ≡ turns_of new.done (moment_of new)
+    → length row ≡ length (edge_list (map function_tree new.program))
+    → ((e : ℕ) → IsTrue (has row e) ↔ IsCrossed (map function_tree new.program) (crossed_of (moment_of new)) e)
+    → copy ≡ asked
+    → entry ≡ record { test = copy; status = status; turns = turns; output = output; crossed = row }
+    → IsEntry (map function_tree program) asked entry
+entry_is program asked copy entry status old new input budget turns output row is inputs budgets later ran written done edges crossed copied made =
+    let same : new.program ≡ program = ap (λ (s : Seen). s.program) later ∙ ap (λ (s : Seen). s.program) is in
+    let begun = subst (λ (s : Seen). run_of (flow_of (map function_tree s.program)) s.input budget ≡ Some (results_of status new)) is ran in
+    let fed = subst (λ (bytes : List ℕ). run_of (flow_of (map function_tree program)) bytes budget ≡ Some (results_of status new)) inputs begun in
+    let whole = subst (λ (n : ℕ). run_of (flow_of (map function_tree program)) asked.input n ≡ Some (results_of status new)) budgets fed in
+    let rows : IsRowOf (map function_tree new.program) (results_of status new) row = record { edges = edges; crossed = crossed } in
+    let placed = subst (λ (p : List Function). IsRowOf (map function_tree p) (results_of status new) row) same rows in
+    record {
+      test = ap (λ (e : EntryParts). e.test) made ∙ copied;
+      results = results_of status new;
+      run = whole;
+      status = ap (λ (e : EntryParts). e.status) made;
+      turns = ap (λ (e : EntryParts). e.turns) made ∙ done;
+      output = ap (λ (e : EntryParts). e.output) made ∙ written;
+      crossed = subst (IsRowOf (map function_tree program) (results_of status new)) (sym (ap (λ (e : EntryParts). e.crossed) made)) placed;
+    }
+
+-- the rows of entries have the program's number of edges
+pub have_rows : (P : ProgramTree) (edges : ℕ) (tests : List TestParts) (entries : List EntryParts) → edges ≡ length (edge_list P) → AllZip (IsEntry P) tests entries → HaveRows edges entries
+have_rows P edges [] [] is each = All-nil (λ (entry : EntryParts). length entry.crossed ≡ edges)
+have_rows P edges [] (e ∷ entries) is each = absurd each
+have_rows P edges (t ∷ tests) [] is each = absurd each
+have_rows P edges (t ∷ tests) (e ∷ entries) is each =
+    All-cons (λ (entry : EntryParts). length entry.crossed ≡ edges) e entries (each.0.crossed.edges ∙ sym is) (have_rows P edges tests entries is each.1)
+
+-- as many entries as tests
+pub as_many : (P : ProgramTree) (tests : List TestParts) (entries : List EntryParts) → AllZip (IsEntry P) tests entries → length entries ≡ length tests
+as_many P [] [] each = refl
+as_many P [] (e ∷ entries) each = absurd each
+as_many P (t ∷ tests) [] each = absurd each
+as_many P (t ∷ tests) (e ∷ entries) each = ap suc (as_many P tests entries each.1)
+
+entry_within : (P : ProgramTree) (t : TestParts) (e : EntryParts) → RunsAreBounded (flow_of P) → IsWithin t → IsEntry P t e → IsEntryWithin e
+entry_within P t e bounded within is =
+    let b : IsBounded t.budget is.results = bounded t.input t.budget is.results is.run in
+    record {
+      test = subst IsWithin (sym is.test) within;
+      turns = omega (arith, b.turns, is.turns, ap (λ (q : TestParts). q.budget) is.test);
+      output = omega (arith, b.output, ap length is.output);
+    }
+
+pub entries_within : (P : ProgramTree) (tests : List TestParts) (entries : List EntryParts) → RunsAreBounded (flow_of P) → All IsWithin tests → AllZip (IsEntry P) tests entries → All IsEntryWithin entries
+entries_within P [] [] bounded within each = All-nil IsEntryWithin
+entries_within P [] (e ∷ entries) bounded within each = absurd each
+entries_within P (t ∷ tests) [] bounded within each = absurd each
+entries_within P (t ∷ tests) (e ∷ entries) bounded within each =
+    All-cons IsEntryWithin e entries (entry_within P t e bounded (All-head IsWithin t tests within) each.0) (entries_within P tests entries bounded (All-tail IsWithin t tests within) each.1)
+
+-- the history of a valid program and few tests is within the limits of its text
+pub history_within : (P : ProgramTree) (digest : List ℕ) (edges : ℕ) (tests : List TestParts) (entries : List EntryParts) (history : HistoryParts) → IsValid P → RunsAreBounded (flow_of P) → edges ≡ length (edge_list P)
+    → All IsWithin tests → length tests ≤ 64 → AllZip (IsEntry P) tests entries → history ≡ record { digest = digest; edges = edges; entries = entries } → IsHistoryWithin history
+history_within P digest edges tests entries history valid bounded is within few each made =
+    subst IsHistoryWithin (sym made) (record {
+      edges = omega (arith, is, valid.edges);
+      few = omega (arith, few, as_many P tests entries each);
+      entries = entries_within P tests entries bounded within each;
+      rows = have_rows P edges tests entries is each;
+    })

@@ -1,0 +1,5 @@
+pub mod Words
+pub mod Shown
+pub mod Record
+pub mod Steps
+pub mod Answers

@@ -1,0 +1,84 @@
+//! The top call of the program: it takes the words, the files and the output, and answers a status.
+//!
+//! What is promised stands in the contract of [`dejavu`]: what is written is decided by the words and the files
+//! (`specs/Answers`), and each answer has its cause; `record` writes the history of the source and the suite that it
+//! is given (`specs/Record`), each entry with what the test's run on the source's program gives.
+#![tactic(auto)]
+
+ghost use Rattle.std.specs.Prelude.{◌≡◌, ℕ, List, None};
+ghost use Rattle.dv_outside.specs.Outside.{Rose, NeverFalls};
+ghost use Rattle.dejavu_cli.specs.Words.{texts_of, command_of};
+ghost use Rattle.dejavu_cli.specs.Answers.{Decides, Says, Refuses, IsHeadline, IsComplete};
+
+mod files;
+mod record;
+mod refusal;
+mod run;
+mod status;
+mod words;
+mod work;
+
+use crate::refusal::{MEMORY_LINE, Refusal, refusal_status, refusal_text};
+use crate::work::work;
+use dv_outside::{Gate, Shelf, Sink, write_whole};
+pub use status::Status8;
+use std::alloc::Global;
+use std::thread::Threads;
+
+/// Does what the words say: the text of the command is made whole, and then written to the output.
+///
+/// Commands: `record SOURCE SUITE` writes the history of a small source and a small suite. Where the command can't be
+/// done its refusal line is written in place of the text, and nothing else; the status says why. An earlier cause hides
+/// a later one, in the order of the words, each file, the work, the write. Nothing is written before all is known, and
+/// no memory is taken from then on.
+pub fn dejavu<R: Threads + Sync, S: Shelf, K: Sink, G: Gate>(
+    rt: &R,
+    alloc: Global,
+    words: &[String],
+    shelf: &mut S,
+    out: &mut K,
+    gate: &G,
+) -> Status8
+    // What is written is decided by the words and the files, and each answer has its cause.
+    ensures answer { (status : Status8) × (text : List ℕ)
+        × Decides (texts_of words.now) (S.files shelf.old) (S.faults shelf.old) (S.faults shelf.new) status text
+        × Says (K.written out.old) (K.written out.new) (K.faults out.old) (K.faults out.new) status text result }
+
+    // Where the files and the written bytes are told, Done says that the history was written.
+    ensures headline { result ≡ Status8.Done → IsHeadline (texts_of words.now) (S.files shelf.old) (K.written out.old) (K.written out.new) }
+    ensures usage { result ≡ Status8.Usage → command_of (texts_of words.now) ≡ None }
+    ensures write_fault { result ≡ Status8.WriteFault → Rose (K.faults out.old) (K.faults out.new) }
+    // Where nothing stands in its way it is done.
+    ensures complete { IsComplete (texts_of words.now) (S.files shelf.old) (S.faults shelf.old) (S.faults shelf.new) (K.faults out.old) (K.faults out.new) result }
+    ensures counts { NeverFalls (S.faults shelf.old) (S.faults shelf.new) }
+{
+    let _runtime = rt;
+    let _gate = gate;
+    match work(alloc, words, shelf) {
+        Ok(text) => say(out, Status8::Done, &text),
+        Err(refusal) => refuse(alloc, out, refusal),
+    }
+}
+
+/// Writes the line of a refusal; where there is no memory for it, the line for want of memory.
+fn refuse<K: Sink>(alloc: Global, out: &mut K, refusal: Refusal) -> Status8
+    ensures { Refuses (K.written out.old) (K.written out.new) (K.faults out.old) (K.faults out.new) refusal result }
+{
+    match refusal_text(alloc, refusal) {
+        Ok(line) => say(out, refusal_status(refusal), &line),
+        Err(_) => say(out, Status8::Memory, MEMORY_LINE),
+    }
+}
+
+/// Writes the text, and answers the status, or that the write failed.
+fn say<K: Sink>(out: &mut K, status: Status8, text: &[u8]) -> Status8
+    ensures { Says (K.written out.old) (K.written out.new) (K.faults out.old) (K.faults out.new) status text.now result }
+{
+    match write_whole(out, text) {
+        Ok(()) => status,
+        Err(_) => Status8::WriteFault,
+    }
+}
+
+#[cfg(test)]
+mod tests;

@@ -1,0 +1,60 @@
+//! Refusals and their lines.
+ghost use Rattle.std.specs.Prelude.{◌≡◌, IfOk};
+ghost use Rattle.dejavu_cli.specs.Answers.{refusal_line, status_of};
+
+use crate::status::Status8;
+use line_text::push_decimal;
+use std::alloc::{AllocError, Global};
+
+/// Why the command wasn't done.
+#[derive(Clone, Copy, Debug, PartialEq, Eq)]
+pub enum Refusal {
+    /// The words are no command.
+    Usage,
+    /// The source isn't accepted.
+    Source,
+    /// The suite isn't read.
+    Suite,
+    /// A file could not be read.
+    ReadFault,
+    /// Want of memory.
+    Memory,
+    /// The history would have so many bytes, more than a history may have.
+    TooMuch(u64),
+}
+
+/// The line for want of memory, which is there without memory.
+pub(crate) const MEMORY_LINE: &[u8] = b"refused: memory\n";
+
+/// The line of a refusal.
+pub(crate) fn refusal_text(alloc: Global, refusal: Refusal) -> Result<Vec<u8>, AllocError>
+    ensures { IfOk result (λ line. line.items ≡ refusal_line refusal) }
+{
+    match refusal {
+        Refusal::Usage => b"refused: usage\n".to_vec(alloc),
+        Refusal::Source => b"refused: source not built\n".to_vec(alloc),
+        Refusal::Suite => b"refused: suite not built\n".to_vec(alloc),
+        Refusal::ReadFault => b"refused: read fault\n".to_vec(alloc),
+        Refusal::Memory => MEMORY_LINE.to_vec(alloc),
+        Refusal::TooMuch(bytes) => {
+            let mut line = b"refused: history too much ".to_vec(alloc)?;
+            push_decimal(&mut line, bytes)?;
+            line.push(b'\n')?;
+            Ok(line)
+        }
+    }
+}
+
+/// The status of a refusal.
+pub(crate) fn refusal_status(refusal: Refusal) -> Status8
+    ensures { result ≡ status_of refusal }
+{
+    match refusal {
+        Refusal::Usage => Status8::Usage,
+        Refusal::Source => Status8::Source,
+        Refusal::Suite => Status8::Suite,
+        Refusal::ReadFault => Status8::ReadFault,
+        Refusal::Memory => Status8::Memory,
+        Refusal::TooMuch(_) => Status8::TooMuch,
+    }
+}

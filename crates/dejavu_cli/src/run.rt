@@ -1,0 +1,51 @@
+//! Runs of tests.
+ghost use Rattle.std.specs.Prelude.{◌≡◌, IfOk, All, map};
+ghost use Rattle.std.specs.List.{AllZip};
+ghost use Rattle.csub_core.specs.Syntax.{function_tree};
+ghost use Rattle.flow_graph.specs.Graph.{IsGraphOf};
+ghost use Rattle.test_suite.specs.Tests.{IsWithin};
+ghost use Rattle.dejavu_cli.specs.Record.{IsEntry};
+
+use csub_core::Program;
+use csub_machine::Machine;
+use flow_graph::Graph;
+use std::alloc::{AllocError, Global};
+use test_history::Entry;
+use test_suite::{Test, copy_test};
+
+/// What the run of one test gives. An `Err` is want of memory.
+fn run_one(
+    alloc: Global,
+    program: &Program,
+    graph: &Graph,
+    test: &Test,
+) -> Result<Entry, AllocError>
+    requires graph { IsGraphOf graph.now (map function_tree program.now) }
+    requires within { IsWithin test.now }
+    ensures { IfOk result (λ entry. IsEntry (map function_tree program.now) test.now entry) }
+{
+    let mut machine = Machine::new(alloc, program, graph, test.input())?;
+    let status = machine.run(test.budget())?;
+    let copy = copy_test(alloc, test)?;
+    let output = machine.output().to_vec(alloc)?;
+    let crossed = machine.crossed().copy()?;
+    Ok(Entry::new(copy, status, machine.turns(), output, crossed))
+}
+
+/// What the runs of the tests give, in their order. An `Err` is want of memory.
+pub(crate) fn run_all(
+    alloc: Global,
+    program: &Program,
+    graph: &Graph,
+    tests: &[Test],
+) -> Result<Vec<Entry>, AllocError>
+    requires graph { IsGraphOf graph.now (map function_tree program.now) }
+    requires within { All IsWithin tests.now }
+    ensures { IfOk result (λ entries. AllZip (IsEntry (map function_tree program.now)) tests.now entries.items) }
+{
+    let mut entries = Vec::new(alloc);
+    for test in tests {
+        entries.push(run_one(alloc, program, graph, test)?)?;
+    }
+    Ok(entries)
+}

@@ -1,0 +1,48 @@
+//! What the program ends with.
+ghost use Rattle.std.specs.Prelude.{◌≡◌};
+ghost use Rattle.dejavu_cli.specs.Answers.{number_of};
+
+/// How a call of [`dejavu`](crate::dejavu) ended.
+#[derive(Clone, Copy, Debug, PartialEq, Eq)]
+pub enum Status8 {
+    /// The text of the command was written whole.
+    Done,
+    /// A test that was run again did otherwise than its entry says.
+    Differs,
+    /// The words are no command.
+    Usage,
+    /// A named source isn't accepted.
+    Source,
+    /// The suite's bytes are no suite.
+    Suite,
+    /// The history's bytes are no history of the source.
+    History,
+    /// A file could not be read.
+    ReadFault,
+    /// The output could not be written: a beginning of the text may be out.
+    WriteFault,
+    /// Want of memory.
+    Memory,
+    /// The history would be longer than a history may be.
+    TooMuch,
+}
+
+impl Status8 {
+    /// The exit status of the program: 0 to 9, in the order of the variants.
+    pub fn number(self) -> u8
+        ensures { result ≡ number_of self }
+    {
+        match self {
+            Status8::Done => 0,
+            Status8::Differs => 1,
+            Status8::Usage => 2,
+            Status8::Source => 3,
+            Status8::Suite => 4,
+            Status8::History => 5,
+            Status8::ReadFault => 6,
+            Status8::WriteFault => 7,
+            Status8::Memory => 8,
+            Status8::TooMuch => 9,
+        }
+    }
+}
