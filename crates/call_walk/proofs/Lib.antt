@@ -9,3 +9,11 @@ pub mod Covering
 pub mod Turns
 pub mod Together
 pub mod Respecting
+pub mod Indexed
+pub mod Numbered
+pub mod Asked
+pub mod Naming
+pub mod Explaining
+pub mod Following
+pub mod CallWays
+pub mod Marking

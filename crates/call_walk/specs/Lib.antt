@@ -1,3 +1,5 @@
 pub mod Shared
 pub mod Locality
 pub mod Lockstep
+pub mod Walks
+pub mod Moments

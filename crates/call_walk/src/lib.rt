@@ -7,4 +7,18 @@
 //! rest on acts being local ([`laws::locality`]).
 #![tactic(auto)]
 
+mod ask;
+mod danger;
+pub mod fact;
+mod follow;
 pub mod laws;
+mod pairs;
+mod rows;
+mod same;
+mod walking;
+
+pub use fact::{Fact, WalkResult, Why};
+pub use walking::walk;
+
+#[cfg(test)]
+mod tests;

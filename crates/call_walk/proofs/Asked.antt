@@ -1,0 +1,69 @@
+-- What the answers of a graph say of its program.
+use Rattle.std.proofs.Common.{◌≡◌, ℕ, ◌<◌, List, [], Option, Some, None, option_map, refl, sym, ap, ◌∙◌, subst}
+use Rattle.std.specs.Option.{option_and_then}
+use Rattle.std.specs.Prelude.{MatchOption}
+use Rattle.std.proofs.lemmas.Option.{same_Some}
+use Rattle.csub_core.specs.declared.label.CallLabel.{CallLabel}
+use Rattle.csub_core.specs.declared.label.Label.{Label}
+use Rattle.csub_core.specs.declared.label.Label.TheVariants.{Entry, Exit, Eval, Branch, Return, Call}
+use Rattle.csub_core.specs.Types.{Name}
+use Rattle.csub_core.specs.Labels.{LabelTree, CallTree, calls, PointLabel, label_tree, call_tree}
+use Rattle.csub_core.specs.Points.{PointTree}
+use Rattle.csub_core.specs.Syntax.{ProgramTree}
+use Rattle.csub_core.specs.Flows.{Flow, flow_of}
+use Rattle.csub_core.specs.Numbers.{Site, site, site_at}
+use Rattle.csub_core.specs.Books.{SameLabel, CallsAt, IsNoCallAt}
+use Rattle.program_laws.proofs.Labelled.{is_flow}
+use Rattle.flow_graph.specs.Graph.{Tables, IsGraphOf}
+use Rattle.call_walk.specs.declared.ask.Callee.{Callee}
+use Rattle.call_walk.specs.Moments.{Defines, IsFunction, IsCallee}
+use Rattle.call_walk.proofs.Numbered.{callee_defined}
+
+-- a label without globals
+abbrev pub bare : LabelTree → PointLabel
+bare t = record { tree = t; globals = [] }
+
+-- no point is led to
+pub leads_none : (P : ProgramTree) (f : Name) (o : Option PointTree) → None ≡ option_map (site f) o → (q : PointTree) → o ≡ Some q → ⊥
+leads_none P f o e q is = let both : ◌≡◌ {A = Option Site} None (Some (site f q)) = e ∙ ap (option_map (site f)) is in cc
+
+-- a point is led to
+pub record Led (P : ProgramTree) (f : Name) (o : Option PointTree) (n : ℕ) : Type 0 where
+  pub to : PointTree
+  pub leads : o ≡ Some to
+  pub at : site_at P n ≡ Some (site f to)
+
+pub leads_some : (P : ProgramTree) (f : Name) (o : Option PointTree) (n : ℕ) (s : Site) → site_at P n ≡ Some s → site_at P n ≡ option_map (site f) o → Led P f o n
+leads_some P f None n s there e = let both : ◌≡◌ {A = Option Site} (Some s) None = sym there ∙ e in absurd (cc)
+leads_some P f (Some q) n s there e = record { to = q; leads = refl; at = e }
+
+-- labels that stand at points with one label
+pub same_trees : (a b : LabelTree) (l : PointLabel) (o o' : Option PointLabel) → o ≡ Some (bare a) → o' ≡ Some (bare b) → o ≡ Some l → o' ≡ Some l → a ≡ b
+same_trees a b l o o' ea eb la lb =
+    ap (λ (x : PointLabel). x.tree) (same_Some (bare a) l (sym ea ∙ la)) ∙ ap (λ (x : PointLabel). x.tree) (same_Some l (bare b) (sym lb ∙ eb))
+
+-- what is no call has the tree of none
+pub no_call : (l : Label) → ((k : CallLabel) → l ≡ Call k → ⊥) → (t : CallTree) → label_tree l ≡ calls t → ⊥
+no_call Entry n t e = cc
+no_call (Exit rule) n t e = cc
+no_call (Eval x) n t e = cc
+no_call (Branch x) n t e = cc
+no_call (Return answer) n t e = cc
+no_call (Call k) n t e = n k refl
+
+-- a call that stands at a point of both programs
+module _ (g g' : Tables) (P P' : ProgramTree) (ok : IsGraphOf g P) (ok' : IsGraphOf g' P') (f : Name) (p p' : PointTree) (same : SameLabel (flow_of P) (flow_of P') f p p') (k : CallLabel) (labelled : (flow_of P).label f p ≡ Some (bare (calls (call_tree k)))) where
+  pub calls_name : CallsAt (flow_of P) f p k.callee
+  calls_name = record { label = bare (calls (call_tree k)); labelled = labelled; call = call_tree k; is = refl; callee = refl }
+
+  pub old_defines : Defines P k.callee
+  old_defines = callee_defined P (is_flow P ok.valid) f p (bare (calls (call_tree k))) (call_tree k) labelled refl
+
+  pub new_defines : Defines P' k.callee
+  new_defines =
+      let one : same.label ≡ bare (calls (call_tree k)) = same_Some _ _ (sym same.old ∙ labelled) in
+      callee_defined P' (is_flow P' ok'.valid) f p' same.label (call_tree k) same.new (ap (λ (l : PointLabel). l.tree) one)
+
+  pub is_callee : (o : Option Callee) → MatchOption o ⊥ (IsFunction P P' k.callee) → MatchOption o (IsNoCallAt (flow_of P) f p) (IsCallee P P' f p)
+  is_callee None h = absurd h
+  is_callee (Some c) h = record { name = k.callee; calls = calls_name; numbers = h }

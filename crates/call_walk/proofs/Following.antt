@@ -1,0 +1,210 @@
+-- What has been followed, as facts are added.
+use Rattle.std.proofs.Common.{◌≡◌, ℕ, ◌+◌, ◌<◌, ◌≤◌, List, [], ◌∷◌, ◌++◌, length, get_or, set, replicate, Option, Some, refl, sym, ap, ◌∙◌, subst, subst₂, ◌⊎◌, inl, inr, arith}
+use Rattle.std.specs.Prelude.{slice_get}
+use Rattle.std.proofs.lemmas.Bool.{cases_lt}
+use Rattle.std.proofs.lemmas.List.{length-replicate}
+use Rattle.std.proofs.lemmas.Option.{slice_get_within, same_Some}
+use Rattle.csub_core.specs.Types.{Name}
+use Rattle.csub_core.specs.Points.{PointTree, entry, exit, ExitTree, next}
+use Rattle.csub_core.specs.Syntax.{ProgramTree}
+use Rattle.csub_core.specs.Flows.{flow_of, start_name}
+use Rattle.csub_core.specs.Numbers.{Site, site, site_at}
+use Rattle.csub_core.specs.Books.{Together, CallsAt, IsNoCallAt, Reached, SameLabel}
+use Rattle.csub_core.specs.Valid.{IsValid}
+use Rattle.flow_graph.specs.Graph.{Tables, IsGraphOf, point_count}
+use Rattle.call_walk.specs.declared.fact.Fact.{Fact}
+use Rattle.call_walk.specs.declared.ask.Callee.{Callee}
+use Rattle.call_walk.specs.declared.pairs.Pairs.{Pairs}
+use Rattle.call_walk.specs.Walks.{IsNamed}
+use Rattle.call_walk.specs.Moments.{Lists, AreAt, HasPair, IsHeld, IsMoment, Extends, WaitsFor, AreWaiting, IsCallee, IsCalledAt, IsPassed, HoldsNext, PassesOver, IsDone, AreDone, IsFollowed, AreResumed}
+use Rattle.call_walk.proofs.ReachedClosed.{one_callee, calls_or_not}
+use Rattle.call_walk.proofs.Reaching.{every_reached}
+use Rattle.call_walk.proofs.Indexed.{get_extends, get_back, extends_more, extends_long, lists_long, lists_added, lists_kept, lists_cases, lists_none}
+use Rattle.call_walk.proofs.Numbered.{site_one}
+use Rattle.call_walk.proofs.Naming.{one_at, at_named, held_extends, fact_held, held_same}
+
+-- more facts hold as much
+pub holds_extends : (P P' : ProgramTree) {a b : List Fact} (c : Fact) (x : ExitTree) → Extends a b → HoldsNext P P' a c x → HoldsNext P P' b c x
+holds_extends P P' c x e h f p p' q q' at both = held_extends P P' e f q q' (h f p p' q q' at both)
+
+pub waiting_extends : (g g' : Tables) {a b : List Fact} (waiting : List (List ℕ)) → Extends a b → AreWaiting g g' a waiting → AreWaiting g g' b waiting
+waiting_extends g g' {a} {b} waiting e w = record {
+  points = w.points;
+  below = λ n j h. let l = w.below n j h in let m = extends_long e in omega (arith, l, m);
+  sound = λ P P' ok ok' n j h. let s = w.sound P P' ok ok' n j h in record { fact = s.fact; stands = get_extends e j s.fact s.stands; function = s.function; point = s.point; other = s.other; at = s.at; callee = s.callee; calls = s.calls; exit = s.exit };
+}
+
+-- one more call waits
+pub waiting_push : (g g' : Tables) (facts : List Fact) (waiting waiting' : List (List ℕ)) (n at : ℕ) → AreWaiting g g' facts waiting → n < length waiting → at < length facts → waiting' ≡ set waiting n (get_or waiting n [] ++ at ∷ []) → ((P P' : ProgramTree) → IsGraphOf g P → IsGraphOf g' P' → WaitsFor P P' facts n at) → AreWaiting g g' facts waiting'
+waiting_push g g' facts waiting waiting' n at w within stands is own = record {
+  points = lists_long waiting waiting' n at within is ∙ w.points;
+  below = λ m j h. below_case m j (lists_cases waiting waiting' n at within is m j h);
+  sound = λ P P' ok ok' m j h. sound_case P P' ok ok' m j (lists_cases waiting waiting' n at within is m j h);
+}
+  where
+    below_case : (m j : ℕ) → Lists waiting m j ⊎ ((m ≡ n) × (j ≡ at)) → j < length facts
+    below_case m j (inl h) = w.below m j h
+    below_case m j (inr h) = omega (arith, h.1)
+
+    sound_case : (P P' : ProgramTree) → IsGraphOf g P → IsGraphOf g' P' → (m j : ℕ) → Lists waiting m j ⊎ ((m ≡ n) × (j ≡ at)) → WaitsFor P P' facts m j
+    sound_case P P' ok ok' m j (inl h) = w.sound P P' ok ok' m j h
+    sound_case P P' ok ok' m j (inr h) = subst₂ (λ a b. WaitsFor P P' facts a b) (sym h.0) (sym h.1) (own P P' ok ok')
+
+-- a fact at a moment
+module _ (g g' : Tables) (pairs : Pairs) (ok : IsMoment g g' pairs) (P P' : ProgramTree) (graph : IsGraphOf g P) (graph' : IsGraphOf g' P') (i : ℕ) (c : Fact) (stands : slice_get pairs.facts.items i ≡ Some c) where
+  pub moment_named : IsNamed P P' c
+  moment_named = (ok.explained.each P P' graph graph' i c stands).named
+
+  pub moment_same : (f : Name) (p p' : PointTree) → AreAt P P' c.old c.new f p p' → SameLabel (flow_of P) (flow_of P') f p p'
+  moment_same f p p' at = held_same P P' pairs.facts.items (ok.explained.each P P' graph graph') graph.valid graph'.valid f p p' (fact_held P P' pairs.facts.items i c f p p' stands at)
+
+  pub call_waits : (k : Callee) → IsCalledAt g g' pairs.facts.items i k → WaitsFor P P' pairs.facts.items k.exit.old i
+  call_waits k called =
+      let n = moment_named in
+      let is = called P P' n.name n.point n.other c graph graph' stands (at_named P P' c n) in
+      record { fact = c; stands = stands; function = n.name; point = n.point; other = n.other; at = at_named P P' c n; callee = is.name; calls = is.calls; exit = is.numbers.exits.old }
+
+  -- a call that may be passed over
+  pub call_over : (k : Callee) (m : ℕ) (d : Fact) → IsCalledAt g g' pairs.facts.items i k → slice_get pairs.facts.items m ≡ Some d → d.old ≡ k.exit.old → d.new ≡ k.exit.new → PassesOver P P' pairs.facts.items i m
+  call_over k m d called at o n' =
+      let n = moment_named in
+      let is = called P P' n.name n.point n.other c graph graph' stands (at_named P P' c n) in
+      record {
+        call = c;
+        stands = stands;
+        function = n.name;
+        point = n.point;
+        other = n.other;
+        at = at_named P P' c n;
+        callee = is.name;
+        calls = is.calls;
+        back = d;
+        stands' = at;
+        at' = record { old = ap (site_at P) o ∙ is.numbers.exits.old; new = ap (site_at P') n' ∙ is.numbers.exits.new };
+      }
+
+-- the pair of a function's numbers
+pub pair_held : (P P' : ProgramTree) (facts : List Fact) (n n' : ℕ) (f : Name) (p p' : PointTree) → AreAt P P' n n' f p p' → HasPair facts n n' → IsHeld P P' facts f p p'
+pair_held P P' facts n n' f p p' at h = record {
+  place = h.place;
+  fact = h.fact;
+  stands = h.stands;
+  at = record { old = ap (site_at P) h.old ∙ at.old; new = ap (site_at P') h.new ∙ at.new };
+}
+
+pub held_pair : (P P' : ProgramTree) (facts : List Fact) (n n' : ℕ) (f : Name) (p p' : PointTree) → IsValid P → IsValid P' → AreAt P P' n n' f p p' → IsHeld P P' facts f p p' → HasPair facts n n'
+held_pair P P' facts n n' f p p' valid valid' at h = record {
+  place = h.place;
+  fact = h.fact;
+  stands = h.stands;
+  old = site_one P valid h.fact.old n (site f p) h.at.old at.old;
+  new = site_one P' valid' h.fact.new n' (site f p') h.at.new at.new;
+}
+
+-- a call that was entered
+pub entered : (P P' : ProgramTree) → IsValid P → (before after : List Fact) (waiting : List (List ℕ)) (at : ℕ) (c : Fact) (k : Callee) → ((f : Name) (p p' : PointTree) → AreAt P P' c.old c.new f p p' → IsCallee P P' f p k) → HasPair before k.entry.old k.entry.new → Extends before after → Lists waiting k.exit.old at → IsPassed P P' after c → IsFollowed P P' after waiting at c
+entered P P' valid before after waiting at c k called has grows listed passed = record {
+  steps = λ x f p p' q q' is plain both. absurd (calls_or_not (flow_of P) f p (called f p p' is).name plain (called f p p' is).calls);
+  enters = λ f g p p' is calls. let a = called f p p' is in
+      subst (λ h. IsHeld P P' after h entry entry) (one_callee (flow_of P) f p a.name g a.calls calls)
+      (held_extends P P' grows a.name entry entry (pair_held P P' before k.entry.old k.entry.new a.name entry entry a.numbers.entries has));
+  waits = λ n f g p p' is calls exits. let a = called f p p' is in
+      let same : site_at P k.exit.old ≡ Some (site g exit) = a.numbers.exits.old ∙ ap (λ h. Some (site h exit)) (one_callee (flow_of P) f p a.name g a.calls calls) in
+      subst (λ m. Lists waiting m at) (site_one P valid k.exit.old n (site g exit) same exits) listed;
+  overs = passed;
+}
+
+-- a fact that is no call
+pub stepped : (P P' : ProgramTree) (after : List Fact) (waiting : List (List ℕ)) (at : ℕ) (c : Fact) → ((f : Name) (p p' : PointTree) → AreAt P P' c.old c.new f p p' → IsNoCallAt (flow_of P) f p) → ((x : ExitTree) → HoldsNext P P' after c x) → IsFollowed P P' after waiting at c
+stepped P P' after waiting at c plain held = record {
+  steps = λ x f p p' q q' is none both. held x f p p' q q' is both;
+  enters = λ f g p p' is calls. absurd (calls_or_not (flow_of P) f p g (plain f p p' is) calls);
+  waits = λ n f g p p' is calls exits. absurd (calls_or_not (flow_of P) f p g (plain f p p' is) calls);
+  overs = λ m d f g p p' at' is calls is'. absurd (calls_or_not (flow_of P) f p g (plain f p p' is) calls);
+}
+
+-- one more fact has been followed
+module _ (P P' : ProgramTree) (before mid after : List Fact) (waiting waiting' : List (List ℕ)) (at : ℕ) (from : Fact) (first : Extends before mid) (second : Extends mid after) (within : at < length before) (stands : slice_get before at ≡ Some from) (kept : (n j : ℕ) → Lists waiting n j → Lists waiting' n j) (done : IsDone P P' before waiting at) (own : IsFollowed P P' mid waiting' at from) (resumed : AreResumed P P' after waiting' from) where
+  both : Extends before after
+  both = extends_more first second
+
+  is_from : (j : ℕ) (c : Fact) → at ≤ j → j < at + 1 → slice_get after j ≡ Some c → from ≡ c
+  is_from j c l h e =
+      let same : j ≡ at = omega arith in
+      same_Some from c (sym stands ∙ get_back both at c within (subst (λ n. slice_get after n ≡ Some c) same e))
+
+  earlier : (j : ℕ) (c : Fact) → j < at → slice_get after j ≡ Some c → slice_get before j ≡ Some c
+  earlier j c l e = get_back both j c (omega arith) e
+
+  pub done_more : IsDone P P' after waiting' (at + 1)
+  done_more = record {
+    steps = λ j c x f p p' q q' l e is plain t. steps_case j c x f p p' q q' l e is plain t (cases_lt j at);
+    enters = λ j c f g p p' l e is calls. enters_case j c f g p p' l e is calls (cases_lt j at);
+    waits = λ j k c f g p p' l e is calls exits. waits_case j k c f g p p' l e is calls exits (cases_lt j at);
+    overs = λ j m lj lm c d f g p p' ej em is calls is'. overs_case j m lj lm c d f g p p' ej em is calls is' (cases_lt j at) (cases_lt m at);
+  }
+    where
+      steps_case : (j : ℕ) (c : Fact) (x : ExitTree) (f : Name) (p p' q q' : PointTree) → j < at + 1 → slice_get after j ≡ Some c → AreAt P P' c.old c.new f p p' → IsNoCallAt (flow_of P) f p → Together (flow_of P) (flow_of P') f p p' x q q' → (j < at) ⊎ (at ≤ j) → IsHeld P P' after f q q'
+      steps_case j c x f p p' q q' l e is plain t (inl h) = held_extends P P' both f q q' (done.steps j c x f p p' q q' h (earlier j c h e) is plain t)
+      steps_case j c x f p p' q q' l e is plain t (inr h) = held_extends P P' second f q q' (own.steps x f p p' q q' (subst (λ (d : Fact). AreAt P P' d.old d.new f p p') (sym (is_from j c h l e)) is) plain t)
+
+      enters_case : (j : ℕ) (c : Fact) (f g : Name) (p p' : PointTree) → j < at + 1 → slice_get after j ≡ Some c → AreAt P P' c.old c.new f p p' → CallsAt (flow_of P) f p g → (j < at) ⊎ (at ≤ j) → IsHeld P P' after g entry entry
+      enters_case j c f g p p' l e is calls (inl h) = held_extends P P' both g entry entry (done.enters j c f g p p' h (earlier j c h e) is calls)
+      enters_case j c f g p p' l e is calls (inr h) = held_extends P P' second g entry entry (own.enters f g p p' (subst (λ (d : Fact). AreAt P P' d.old d.new f p p') (sym (is_from j c h l e)) is) calls)
+
+      waits_case : (j k : ℕ) (c : Fact) (f g : Name) (p p' : PointTree) → j < at + 1 → slice_get after j ≡ Some c → AreAt P P' c.old c.new f p p' → CallsAt (flow_of P) f p g → site_at P k ≡ Some (site g exit) → (j < at) ⊎ (at ≤ j) → Lists waiting' k j
+      waits_case j k c f g p p' l e is calls exits (inl h) = kept k j (done.waits j k c f g p p' h (earlier j c h e) is calls exits)
+      waits_case j k c f g p p' l e is calls exits (inr h) =
+          let same : at ≡ j = omega arith in
+          subst (λ n. Lists waiting' k n) same (own.waits k f g p p' (subst (λ (d : Fact). AreAt P P' d.old d.new f p p') (sym (is_from j c h l e)) is) calls exits)
+
+      overs_case : (j m : ℕ) → j < at + 1 → m < at + 1 → (c d : Fact) (f g : Name) (p p' : PointTree) → slice_get after j ≡ Some c → slice_get after m ≡ Some d → AreAt P P' c.old c.new f p p' → CallsAt (flow_of P) f p g → AreAt P P' d.old d.new g exit exit → (j < at) ⊎ (at ≤ j) → (m < at) ⊎ (at ≤ m) → HoldsNext P P' after c next
+      overs_case j m lj lm c d f g p p' ej em is calls is' (inl hj) (inl hm) = holds_extends P P' c next both (done.overs j m hj hm c d f g p p' (earlier j c hj ej) (earlier m d hm em) is calls is')
+      overs_case j m lj lm c d f g p p' ej em is calls is' (inl hj) (inr hm) =
+          let back = subst (λ (b : Fact). AreAt P P' b.old b.new g exit exit) (sym (is_from m d hm lm em)) is' in
+          resumed g back j c (kept from.old j (done.waits j from.old c f g p p' hj (earlier j c hj ej) is calls back.old)) ej
+      overs_case j m lj lm c d f g p p' ej em is calls is' (inr hj) hm =
+          let one = is_from j c hj lj ej in
+          let there = get_extends first m d (get_back both m d (omega arith) em) in
+          holds_extends P P' c next second
+          (subst (λ (b : Fact). HoldsNext P P' mid b next) one (own.overs m d f g p p' there (subst (λ (b : Fact). AreAt P P' b.old b.new f p p') (sym one) is) calls is'))
+
+-- where all facts have been followed, every reached pair is held
+pub done_all : (P P' : ProgramTree) (facts : List Fact) (waiting : List (List ℕ)) (n : ℕ) → length facts ≤ n → IsHeld P P' facts start_name entry entry → IsDone P P' facts waiting n → (f : Name) (p p' : PointTree) → Reached (flow_of P) (flow_of P') f p p' → IsHeld P P' facts f p p'
+done_all P P' facts waiting n long starts done = every_reached (flow_of P) (flow_of P') (IsHeld P P' facts) starts
+    (λ f p p' q q' x h plain t. done.steps h.place h.fact x f p p' q q' (below h.place h.fact h.stands) h.stands h.at plain t)
+    (λ f p p' g h calls. done.enters h.place h.fact f g p p' (below h.place h.fact h.stands) h.stands h.at calls)
+    (λ f p p' q q' g h calls e t. done.overs h.place e.place (below h.place h.fact h.stands) (below e.place e.fact e.stands) h.fact e.fact f g p p' h.stands e.stands h.at calls e.at f p p' q q' h.at t)
+  where
+    below : (i : ℕ) (c : Fact) → slice_get facts i ≡ Some c → i < n
+    below i c e = let w = slice_get_within facts i c e in omega (arith, w)
+
+pub passed_by : (P P' : ProgramTree) (facts : List Fact) (c : Fact) → HoldsNext P P' facts c next → IsPassed P P' facts c
+passed_by P P' facts c h m d f g p p' at is calls is' = h
+
+pub none_back : (P P' : ProgramTree) → IsValid P → IsValid P' → (facts : List Fact) (c : Fact) (k : Callee) → ((f : Name) (p p' : PointTree) → AreAt P P' c.old c.new f p p' → IsCallee P P' f p k) → (HasPair facts k.exit.old k.exit.new → ⊥) → IsPassed P P' facts c
+none_back P P' valid valid' facts c k called none m d f g p p' at is calls is' =
+    let a = called f p p' is in
+    let held : IsHeld P P' facts a.name exit exit = subst (λ h. IsHeld P P' facts h exit exit) (sym (one_callee (flow_of P) f p a.name g a.calls calls)) (fact_held P P' facts m d g exit exit at is') in
+    absurd (none (held_pair P P' facts k.exit.old k.exit.new a.name exit exit valid valid' a.numbers.exits held))
+
+-- no call waits, and nothing has been followed
+pub waiting_none : (g g' : Tables) (facts : List Fact) (waiting : List (List ℕ)) (c : ℕ) → waiting ≡ replicate c [] → c ≡ point_count g → AreWaiting g g' facts waiting
+waiting_none g g' facts waiting c is count = record {
+  points = ap length is ∙ length-replicate c [] ∙ count;
+  below = λ n j h. absurd (none n j h);
+  sound = λ P P' ok ok' n j h. absurd (none n j h);
+}
+  where
+    none : (n j : ℕ) → Lists waiting n j → ⊥
+    none n j h = lists_none c n j (subst (λ l. Lists l n j) is h)
+
+pub done_none : (g g' : Tables) (facts : List Fact) (waiting : List (List ℕ)) → AreDone g g' facts waiting 0
+done_none g g' facts waiting = record {
+  each = λ P P' ok ok'. record {
+    steps = λ j c x f p p' q q' l e is plain t. absurd (omega arith);
+    enters = λ j c f g p p' l e is calls. absurd (omega arith);
+    waits = λ j k c f g p p' l e is calls exits. absurd (omega arith);
+    overs = λ j m l k c d f g p p' ej em is calls is'. absurd (omega arith);
+  };
+}

@@ -1,0 +1,81 @@
+-- Facts by names: they are a book, and what they hold is reached.
+use Rattle.std.proofs.Common.{◌≡◌, ℕ, List, take, map, Option, option_map, Some, refl, sym, ap, ◌∙◌, subst, subst₂}
+use Rattle.std.specs.Prelude.{slice_get, Contains}
+use Rattle.std.proofs.lemmas.List.{take-map, length-map}
+use Rattle.std.proofs.lemmas.Option.{slice_get-map, slice_get_within, same_Some, get_or_from_slice_get}
+use Rattle.csub_core.specs.Types.{Name}
+use Rattle.csub_core.specs.Points.{PointTree}
+use Rattle.csub_core.specs.Syntax.{ProgramTree}
+use Rattle.csub_core.specs.Flows.{flow_of}
+use Rattle.csub_core.specs.Numbers.{Site, site, site_at}
+use Rattle.csub_core.specs.Books as books
+use Rattle.csub_core.specs.Books.{SameLabel, Justified, IsBook, Reached}
+use Rattle.csub_core.specs.Valid.{IsValid}
+use Rattle.program_laws.proofs.Labelled.{is_flow}
+use Rattle.flow_graph.proofs.Lists.{Made, made_of}
+use Rattle.call_walk.specs.declared.fact.Fact.{Fact}
+use Rattle.call_walk.specs.Walks.{IsNamed, name_in, point_in, named_fact, named_facts, named_reason, IsExplained}
+use Rattle.call_walk.specs.Moments.{AreAt, IsHeld, Extends}
+use Rattle.call_walk.proofs.ReachedClosed.{reached_same}
+use Rattle.call_walk.proofs.Indexed.{get_extends}
+
+module _ (P P' : ProgramTree) where
+  -- points with the same numbers are the same
+  pub record SamePoints (f g : Name) (p p' q q' : PointTree) : Type 0 where
+    pub function : f ≡ g
+    pub old : p ≡ q
+    pub new : p' ≡ q'
+
+  pub one_at : (n n' : ℕ) (f g : Name) (p p' q q' : PointTree) → AreAt P P' n n' f p p' → AreAt P P' n n' g q q' → SamePoints f g p p' q q'
+  one_at n n' f g p p' q q' a b =
+      let old : site f p ≡ site g q = same_Some (site f p) (site g q) (sym a.old ∙ b.old) in
+      let new : site f p' ≡ site g q' = same_Some (site f p') (site g q') (sym a.new ∙ b.new) in
+      record { function = ap (λ (s : Site). s.function) old; old = ap (λ (s : Site). s.point) old; new = ap (λ (s : Site). s.point) new }
+
+  pub at_named : (c : Fact) (n : IsNamed P P' c) → AreAt P P' c.old c.new n.name n.point n.other
+  at_named c n = record { old = n.old; new = n.new }
+
+  -- a fact by names
+  pub named_as : (c : Fact) (n : IsNamed P P' c) → named_fact P P' c ≡ books.fact n.name n.point n.other
+  named_as c n = λ i. books.fact (name_in (n.function i)) (point_in (n.old i)) (point_in (n.new i))
+
+  pub named_at : (c : Fact) (f : Name) (p p' : PointTree) → IsNamed P P' c → AreAt P P' c.old c.new f p p' → named_fact P P' c ≡ books.fact f p p'
+  named_at c f p p' n at =
+      let same = one_at c.old c.new n.name f n.point n.other p p' (at_named c n) at in
+      named_as c n ∙ (λ i. books.fact (same.function i) (same.old i) (same.new i))
+
+  pub get_named : (facts : List Fact) (i : ℕ) (c : Fact) (f : Name) (p p' : PointTree) → slice_get facts i ≡ Some c → IsNamed P P' c → AreAt P P' c.old c.new f p p' → slice_get (named_facts P P' facts) i ≡ Some (books.fact f p p')
+  get_named facts i c f p p' e n at = slice_get-map (named_fact P P') facts i ∙ ap (option_map (named_fact P P')) e ∙ ap Some (named_at c f p p' n at)
+
+  -- facts that are explained
+  abbrev pub Each : List Fact → Type 0
+  Each facts = (i : ℕ) (c : Fact) → slice_get facts i ≡ Some c → IsExplained P P' (take i facts) c
+
+  module _ (facts : List Fact) (each : Each facts) where
+    pub book_of : IsBook (flow_of P) (flow_of P') (named_facts P P' facts)
+    book_of = record { each = λ i f e. by_reason i f (made_of (named_fact P P') (slice_get facts i) f (sym (slice_get-map (named_fact P P') facts i) ∙ e)) }
+      where
+        by_reason : (i : ℕ) (f : books.Fact) → Made (named_fact P P') (slice_get facts i) f → (why : books.Reason) × Justified (flow_of P) (flow_of P') (take i (named_facts P P' facts)) f why
+        by_reason i f m =
+            let x = each i m.value m.is in
+            (named_reason P m.value.why, subst₂ (λ l g. Justified (flow_of P) (flow_of P') l g (named_reason P m.value.why)) (sym (take-map (named_fact P P') i facts)) m.gives x.justified)
+
+    pub held_stands : (f : Name) (p p' : PointTree) (h : IsHeld P P' facts f p p') → slice_get (named_facts P P' facts) h.place ≡ Some (books.fact f p p')
+    held_stands f p p' h = get_named facts h.place h.fact f p p' h.stands (each h.place h.fact h.stands).named h.at
+
+    pub held_reached : (f : Name) (p p' : PointTree) → IsHeld P P' facts f p p' → Reached (flow_of P) (flow_of P') f p p'
+    held_reached f p p' h = record { book = named_facts P P' facts; valid = book_of; place = h.place; stands = held_stands f p p' h }
+
+    pub held_named : (f : Name) (p p' : PointTree) → IsHeld P P' facts f p p' → Contains (named_facts P P' facts) (books.fact f p p')
+    held_named f p p' h =
+        let stands = held_stands f p p' h in
+        (h.place, slice_get_within (named_facts P P' facts) h.place (books.fact f p p') stands, get_or_from_slice_get (named_facts P P' facts) h.place (books.fact f p p') (books.fact f p p') stands)
+
+    pub held_same : IsValid P → IsValid P' → (f : Name) (p p' : PointTree) → IsHeld P P' facts f p p' → SameLabel (flow_of P) (flow_of P') f p p'
+    held_same valid valid' f p p' h = reached_same (flow_of P) (flow_of P') (is_flow P valid) (is_flow P' valid') f p p' (held_reached f p p' h)
+
+  pub held_extends : {a b : List Fact} → Extends a b → (f : Name) (p p' : PointTree) → IsHeld P P' a f p p' → IsHeld P P' b f p p'
+  held_extends x f p p' h = record { place = h.place; fact = h.fact; stands = get_extends x h.place h.fact h.stands; at = h.at }
+
+  pub fact_held : (facts : List Fact) (i : ℕ) (c : Fact) (f : Name) (p p' : PointTree) → slice_get facts i ≡ Some c → AreAt P P' c.old c.new f p p' → IsHeld P P' facts f p p'
+  fact_held facts i c f p p' e at = record { place = i; fact = c; stands = e; at = at }

@@ -1,0 +1,150 @@
+-- What the numbers of a valid program stand for.
+use Rattle.std.proofs.Common.{◌≡◌, ℕ, zero, suc, ◌+◌, ◌<◌, List, [], ◌∷◌, ◌++◌, map, length, get_or, Bool, true, false, cond, Option, Some, None, find, option_map, refl, sym, ap, ◌∙◌, subst, subst₂, ◌⊎◌, inl, inr, arith}
+use Rattle.std.specs.Prelude.{◌≢◌, AllPairs, slice_get}
+use Rattle.std.specs.Option.{option_and_then}
+use Rattle.std.specs.List.{flat_map}
+use Rattle.std.proofs.lemmas.List.{length-map}
+use Rattle.std.proofs.lemmas.Option.{slice_get-map, slice_get_within, same_Some, get_or_from_slice_get}
+use Rattle.csub_core.specs.Types.{Name}
+use Rattle.csub_core.specs.Labels.{CallTree, calls, PointLabel}
+use Rattle.csub_core.specs.Points.{PointTree, entry, ExitTree, exit_eq}
+use Rattle.csub_core.specs.Syntax.{FunctionTree, ProgramTree}
+use Rattle.csub_core.specs.Successors.{Way, Node}
+use Rattle.csub_core.specs.Flows.{PlacedNode, placed, function_nodes, point_list, Edge, edges_from, edge_list, name_eq, function_of, node_of, way_in, way_of, labelled, flow_of, start_name}
+use Rattle.csub_core.specs.Numbers.{Site, site, site_of, site_at, edge_at, name_at}
+use Rattle.csub_core.specs.Books.{CallsAt}
+use Rattle.csub_core.specs.Valid.{BeginsWithStart, IsValid}
+use Rattle.program_laws.specs.Flows.{entry_label, IsFlow}
+use Rattle.program_laws.proofs.Names.{same_name}
+use Rattle.flow_graph.specs.Graph as graphs
+use Rattle.flow_graph.specs.Graph.{Tables, IsGraphOf, point_count}
+use Rattle.flow_graph.proofs.Lists.{slice_get-left, slice_get-right, slice_get_cases_append, range_at, Made, made_of}
+use Rattle.flow_graph.proofs.Distinct.{number_of, function_places}
+use Rattle.flow_graph.specs.Numbers.{count_function}
+use Rattle.flow_graph.proofs.Found.{point_placed, found}
+use Rattle.flow_graph.proofs.Exits.{exit_same}
+use Rattle.call_walk.specs.Moments.{Defines}
+use Rattle.call_walk.proofs.Indexed.{get_some}
+
+abbrev Distinct : ProgramTree → Type 0
+Distinct P = AllPairs (λ (f g : FunctionTree). f.name ≢ g.name) P
+
+-- a point of a later function is none of the first one
+apart : (f : FunctionTree) (rest : ProgramTree) (y : PlacedNode) (k : ℕ) → Distinct (f ∷ rest) → slice_get (point_list rest) k ≡ Some y → f.name ≡ y.function → ⊥
+apart f rest y k distinct e same =
+    let is = point_placed rest k y e in
+    let within = slice_get_within rest is.place is.function is.there in
+    let got : get_or rest is.place f ≡ is.function = get_or_from_slice_get rest is.place is.function f is.there in
+    distinct 0 (suc is.place) f (omega arith) (omega (arith, within)) (same ∙ is.name ∙ ap (λ (x : FunctionTree). x.name) (sym got))
+
+-- where a point of a function stands
+record Stands (f : FunctionTree) (k : ℕ) (z : PlacedNode) : Type 0 where
+  function : f.name ≡ z.function
+  number : number_of f.body z.node.point ≡ k
+
+stands : (f : FunctionTree) (k : ℕ) (z : PlacedNode) → slice_get (map (placed f.name) (function_nodes f)) k ≡ Some z → Stands f k z
+stands f k z e =
+    let m = made_of (placed f.name) (slice_get (function_nodes f) k) z (sym (slice_get-map (placed f.name) (function_nodes f) k) ∙ e) in
+    let number : number_of f.body m.value.point ≡ 0 + k = range_at (λ (n : Node PointTree). number_of f.body n.point) (function_nodes f) 0 (count_function f) k m.value (function_places f) m.is in
+    let plain : number_of f.body m.value.point ≡ k = omega (arith, number) in
+    record {
+      function = ap (λ (x : PlacedNode). x.function) m.gives;
+      number = ap (λ (x : PlacedNode). number_of f.body x.node.point) (sym m.gives) ∙ plain;
+    }
+
+-- one number for each point
+place_one : (P : ProgramTree) → Distinct P → (n m : ℕ) (x y : PlacedNode) → slice_get (point_list P) n ≡ Some x → slice_get (point_list P) m ≡ Some y → site_of x ≡ site_of y → n ≡ m
+place_one [] d n m x y e h s = absurd cc
+place_one (f ∷ rest) d n m x y e h s =
+    cases (slice_get_cases_append (map (placed f.name) (function_nodes f)) (point_list rest) n x e) (slice_get_cases_append (map (placed f.name) (function_nodes f)) (point_list rest) m y h)
+    (λ k j a b. place_one rest (λ i l z u v. d (suc i) (suc l) z (omega arith) (omega arith)) k j x y a b s)
+  where
+    same_function : x.function ≡ y.function
+    same_function = ap (λ (t : Site). t.function) s
+
+    cases : (slice_get (map (placed f.name) (function_nodes f)) n ≡ Some x) ⊎ ((k : ℕ) × (n ≡ length (map (placed f.name) (function_nodes f)) + k) × (slice_get (point_list rest) k ≡ Some x)) → (slice_get (map (placed f.name) (function_nodes f)) m ≡ Some y) ⊎ ((k : ℕ) × (m ≡ length (map (placed f.name) (function_nodes f)) + k) × (slice_get (point_list rest) k ≡ Some y)) → ((k j : ℕ) → slice_get (point_list rest) k ≡ Some x → slice_get (point_list rest) j ≡ Some y → k ≡ j) → n ≡ m
+    cases (inl a) (inl b) later = sym (stands f n x a).number ∙ ap (λ (t : Site). number_of f.body t.point) s ∙ (stands f m y b).number
+    cases (inl a) (inr b) later = absurd (apart f rest y b.0 d b.2 ((stands f n x a).function ∙ same_function))
+    cases (inr a) (inl b) later = absurd (apart f rest x a.0 d a.2 ((stands f m y b).function ∙ sym same_function))
+    cases (inr a) (inr b) later = a.1 ∙ ap (λ k. length (map (placed f.name) (function_nodes f)) + k) (later a.0 b.0 a.2 b.2) ∙ sym b.1
+
+pub site_one : (P : ProgramTree) → IsValid P → (n m : ℕ) (s : Site) → site_at P n ≡ Some s → site_at P m ≡ Some s → n ≡ m
+site_one P valid n m s a b =
+    let x = made_of site_of (slice_get (point_list P) n) s a in
+    let y = made_of site_of (slice_get (point_list P) m) s b in
+    place_one P valid.distinct n m x.value y.value x.is y.is (x.gives ∙ sym y.gives)
+
+-- the numbers of points are those below their count
+points_counted : (g : Tables) (P : ProgramTree) → IsGraphOf g P → point_count g ≡ length (point_list P)
+points_counted g P ok = sym (length-map g.1 (graphs.point_at P)) ∙ ap length ok.points ∙ length-map (point_list P) graphs.point_of
+
+pub site_within : (g : Tables) (P : ProgramTree) (n : ℕ) → IsGraphOf g P → n < point_count g → (s : Site) × (site_at P n ≡ Some s)
+site_within g P n ok within =
+    let x = get_some (point_list P) n (subst (λ k. n < k) (points_counted g P ok) within) in
+    (site_of x.0, ap (option_map site_of) x.1)
+
+pub site_below : (g : Tables) (P : ProgramTree) (n : ℕ) (s : Site) → IsGraphOf g P → site_at P n ≡ Some s → n < point_count g
+site_below g P n s ok e =
+    let m = made_of site_of (slice_get (point_list P) n) s e in
+    subst (λ k. n < k) (sym (points_counted g P ok)) (slice_get_within (point_list P) n m.value m.is)
+
+-- the first point is the entry of `#start`
+start_site : (P : ProgramTree) → BeginsWithStart P → site_at P 0 ≡ Some (site start_name entry)
+start_site [] h = absurd h
+start_site (f ∷ rest) h = ap (λ n. Some (site n entry)) h.name
+
+pub first_site : (P : ProgramTree) → IsValid P → site_at P 0 ≡ Some (site start_name entry)
+first_site P valid = start_site P valid.start
+
+-- a way out has a number
+flat_at : {A B : Type 0} (f : A → List B) (xs : List A) (n i : ℕ) (x : A) (y : B) → slice_get xs n ≡ Some x → slice_get (f x) i ≡ Some y → (k : ℕ) × (slice_get (flat_map f xs) k ≡ Some y)
+flat_at f [] n i x y e h = absurd cc
+flat_at f (z ∷ xs) zero i x y e h = (i, slice_get-left (f z) (flat_map f xs) i y (ap (λ w. slice_get (f w) i) (same_Some z x e) ∙ h))
+flat_at f (z ∷ xs) (suc n) i x y e h =
+    let r = flat_at f xs n i x y e h in
+    (length (f z) + r.0, slice_get-right (f z) (flat_map f xs) (length (f z)) r.0 (length (f z) + r.0) refl refl ∙ r.1)
+
+found_at : {A : Type 0} (test : A → Bool) (xs : List A) (x : A) → find test xs ≡ Some x → (i : ℕ) × (slice_get xs i ≡ Some x) × (test x ≡ true)
+found_at test [] x e = absurd cc
+found_at {A} test (y ∷ ys) x e = pick (test y) refl e (found_at test ys x)
+  where
+    pick : (b : Bool) → test y ≡ b → cond b (Some y) (find test ys) ≡ Some x → (find test ys ≡ Some x → (i : ℕ) × (slice_get ys i ≡ Some x) × (test x ≡ true)) → (i : ℕ) × (slice_get (y ∷ ys) i ≡ Some x) × (test x ≡ true)
+    pick true t e rest = (0, e, ap test (sym (same_Some y x e)) ∙ t)
+    pick false t e rest = let r = rest e in (suc r.0, r.1, r.2)
+
+pub edge_of : (P : ProgramTree) → IsValid P → (n : ℕ) (f : Name) (p q : PointTree) (x : ExitTree) → site_at P n ≡ Some (site f p) → (flow_of P).succ f p x ≡ Some q → (e : ℕ) × (edge_at P e ≡ Some (record { function = f; from = p; exit = x }))
+edge_of P valid n f p q x h leads =
+    let m = made_of site_of (slice_get (point_list P) n) (site f p) h in
+    let node = m.value in
+    let same_name' : node.function ≡ f = ap (λ (s : Site). s.function) m.gives in
+    let same_point' : node.node.point ≡ p = ap (λ (s : Site). s.point) m.gives in
+    let there : node_of (function_of P f) p ≡ Some node.node = subst₂ (λ a b. node_of (function_of P a) b ≡ Some node.node) same_name' same_point' (found P n node valid.distinct m.is) in
+    let w = made_of (λ (w : Way PointTree). w.to) (way_in node.node.ways x) q (sym (ap (λ o. option_map (λ (w : Way PointTree). w.to) (way_of o x)) there) ∙ leads) in
+    let at = found_at (λ (w : Way PointTree). exit_eq w.exit x) node.node.ways w.value w.is in
+    let same_exit : w.value.exit ≡ x = exit_same w.value.exit x at.2 in
+    let of = λ (u : Way PointTree). let y : Edge = record { function = node.function; from = node.node.point; exit = u.exit } in y in
+    let there_too : slice_get (edges_from node) at.0 ≡ Some (of w.value) = slice_get-map of node.node.ways at.0 ∙ ap (option_map of) at.1 in
+    let same : of w.value ≡ record { function = f; from = p; exit = x } = λ i. record { function = same_name' i; from = same_point' i; exit = same_exit i } in
+    flat_at edges_from (point_list P) n at.0 node (record { function = f; from = p; exit = x }) m.is (there_too ∙ ap Some same)
+
+-- a function that has an entry is defined
+pub defined_by : (P : ProgramTree) (g : Name) (l : PointLabel) → (flow_of P).label g entry ≡ Some l → Defines P g
+defined_by P g l e = pick (function_of P g) refl e
+  where
+    pick : (o : Option FunctionTree) → function_of P g ≡ o → option_map labelled (node_of o entry) ≡ Some l → Defines P g
+    pick None is e = absurd cc
+    pick (Some f) is e = record { function = f; is = is }
+
+pub callee_defined : (P : ProgramTree) → IsFlow (flow_of P) → (f : Name) (p : PointTree) (l : PointLabel) (k : CallTree) → (flow_of P).label f p ≡ Some l → l.tree ≡ calls k → Defines P k.callee
+callee_defined P ok f p l k e is = defined_by P k.callee entry_label (ok.called f p l k e is)
+
+pub defined_name : (P : ProgramTree) (g : Name) (d : Defines P g) → d.function.name ≡ g
+defined_name P g d = same_name d.function.name g (found_at (λ (f : FunctionTree). name_eq f.name g) P d.function d.is).2
+
+-- its number is found by its name
+pub number_found : (P : ProgramTree) (g : Name) → Defines P g → (o : Option ℕ) → option_and_then (name_at P) o ≡ option_map (λ (f : FunctionTree). f.name) (function_of P g) → (k : ℕ) × (o ≡ Some k) × (name_at P k ≡ Some g)
+number_found P g d o e = pick o (e ∙ ap (option_map (λ (f : FunctionTree). f.name)) d.is ∙ ap Some (defined_name P g d))
+  where
+    pick : (o : Option ℕ) → option_and_then (name_at P) o ≡ Some g → (k : ℕ) × (o ≡ Some k) × (name_at P k ≡ Some g)
+    pick None e = absurd cc
+    pick (Some k) e = (k, refl, e)

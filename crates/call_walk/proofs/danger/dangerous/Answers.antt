@@ -1,0 +1,29 @@
+use Rattle.std.proofs.Common.{◌≡◌, ℕ, ◌<◌, ◌≤◌, length, get_or, Some, sym, ap, ◌∙◌, subst, arith}
+use Rattle.std.specs.Prelude.{slice_get}
+use Rattle.std.proofs.lemmas.Option.{slice_get-get_or}
+use Rattle.edge_trace.specs.Rows.{has}
+use Rattle.call_walk.specs.declared.fact.Fact.{Fact}
+use Rattle.call_walk.specs.declared.fact.Why.TheVariants.{Start}
+use Rattle.call_walk.specs.Moments.{IsStoppedBefore}
+use Rattle.call_walk.proofs.Marking.{before_step}
+use Rattle.call_walk.proofs.danger.dangerous.Goals as goal
+
+abbrev first_fact : Fact
+first_fact = record { function = 0; old = 0; new = 0; why = Start }
+
+pub loop-from-preserved : goal.loop-from-preserved
+loop-from-preserved c = record {
+  edges = c.mark.ensures.edges;
+  marked = λ P P' ok ok'. before_step P P' c.args.pairs.now.facts.items c.loop-from.from-index _ c.loop-from.danger c.mark.new.danger
+      (ap (λ l. slice_get l c.loop-from.from-index) (sym c.deref-from-items.ensures.value) ∙ slice_get-get_or c.deref-from-items.result.now c.loop-from.from-index first_fact c.loop-from-test.true)
+      (c.mark.ensures.marks P P' ok ok') (c.loop-from.invariant.marked P P' ok ok');
+}
+
+pub returns-clause-marked : goal.returns-clause-marked
+returns-clause-marked c P P' ok ok' e =
+    let same : length c.args.pairs.now.facts.items ≡ length c.deref-from-items.result.now = ap length (sym c.deref-from-items.ensures.value) in
+    let test = c.loop-from-test.false in
+    let end = c.loop-from.auto.from-index-end in
+    let all : c.loop-from.from-index ≡ length c.args.pairs.now.facts.items = omega arith in
+    let m = c.loop-from.invariant.marked P P' ok ok' e in
+    (λ x. subst (λ n. IsStoppedBefore P P' c.args.pairs.now.facts.items n e) all (m.0 x), λ h. m.1 (subst (λ n. IsStoppedBefore P P' c.args.pairs.now.facts.items n e) (sym all) h))

@@ -1,0 +1,12 @@
+use Rattle.std.proofs.Common.{◌≡◌, ℕ, length, IsTrue, ◌↔◌}
+use Rattle.csub_core.specs.Syntax.{ProgramTree}
+use Rattle.edge_trace.specs.Rows.{has}
+use Rattle.flow_graph.specs.Graph.{IsGraphOf, edge_count}
+use Rattle.call_walk.specs.Moments.{IsStoppedBefore}
+use Rattle.call_walk.proofs.danger.dangerous.Given as goal
+
+abbrev pub invariant-loop-from : goal.invariant-loop-from
+invariant-loop-from l = record {
+  edges : length l.danger ≡ edge_count l.old;
+  marked : (P P' : ProgramTree) → IsGraphOf l.old P → IsGraphOf l.new P' → (e : ℕ) → IsTrue (has l.danger e) ↔ IsStoppedBefore P P' l.pairs.facts.items l.from-index e;
+}

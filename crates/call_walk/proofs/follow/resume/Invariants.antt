@@ -1,0 +1,15 @@
+use Rattle.std.proofs.Common.{◌≡◌, ◌<◌, ℕ, Some}
+use Rattle.std.specs.Prelude.{slice_get}
+use Rattle.csub_core.specs.Points.{next}
+use Rattle.csub_core.specs.Syntax.{ProgramTree}
+use Rattle.flow_graph.specs.Graph.{IsGraphOf}
+use Rattle.call_walk.specs.declared.fact.Fact.{Fact}
+use Rattle.call_walk.specs.Moments.{IsMoment, Extends, HoldsNext}
+use Rattle.call_walk.proofs.follow.resume.Given as goal
+
+abbrev pub invariant-loop-call : goal.invariant-loop-call
+invariant-loop-call l = record {
+  moment : IsMoment l.old l.new l.pairs;
+  grows : Extends l.fn.pairs.facts.items l.pairs.facts.items;
+  held : (P P' : ProgramTree) → IsGraphOf l.old P → IsGraphOf l.new P' → (k j : ℕ) (c : Fact) → k < l.call-index → slice_get l.call-items k ≡ Some j → slice_get l.fn.pairs.facts.items j ≡ Some c → HoldsNext P P' l.pairs.facts.items c next;
+}

@@ -1,0 +1,14 @@
+use Rattle.std.proofs.Common.{◌≡◌, ◌<◌, ℕ, Some}
+use Rattle.std.specs.Prelude.{slice_get}
+use Rattle.csub_core.specs.Syntax.{ProgramTree}
+use Rattle.flow_graph.specs.Graph.{IsGraphOf}
+use Rattle.call_walk.specs.Walks.{LeavesFrom}
+use Rattle.call_walk.specs.Moments.{IsMoment, Extends, HoldsNext}
+use Rattle.call_walk.proofs.follow.take_steps.Given as goal
+
+abbrev pub invariant-loop-edge : goal.invariant-loop-edge
+invariant-loop-edge l = record {
+  moment : IsMoment l.old l.new l.pairs;
+  grows : Extends l.fn.pairs.facts.items l.pairs.facts.items;
+  held : (P P' : ProgramTree) → IsGraphOf l.old P → IsGraphOf l.new P' → (k e : ℕ) → k < l.edge-index → slice_get l.edge-items k ≡ Some e → (s : LeavesFrom P e l.from.old) → HoldsNext P P' l.pairs.facts.items l.from s.edge.exit;
+}

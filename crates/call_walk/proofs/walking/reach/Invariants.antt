@@ -1,0 +1,19 @@
+use Rattle.std.proofs.Common.{◌≡◌, ◌≤◌, ◌-◌, ◌^◌, ℕ, length}
+use Rattle.csub_core.specs.Points.{entry}
+use Rattle.csub_core.specs.Flows.{start_name}
+use Rattle.csub_core.specs.Syntax.{ProgramTree}
+use Rattle.flow_graph.specs.Graph.{IsGraphOf}
+use Rattle.call_walk.specs.Moments.{IsMoment, IsHeld, AreWaiting, AreDone}
+use Rattle.call_walk.proofs.walking.reach.Given as goal
+
+abbrev pub invariant-loop-at : goal.invariant-loop-at
+invariant-loop-at l = record {
+  moment : IsMoment l.old l.new l.pairs;
+  waiting : AreWaiting l.old l.new l.pairs.facts.items l.waiting;
+  starts : (P P' : ProgramTree) → IsGraphOf l.old P → IsGraphOf l.new P' → IsHeld P P' l.pairs.facts.items start_name entry entry;
+  upto : l.at ≤ length l.pairs.facts.items;
+  done : AreDone l.old l.new l.pairs.facts.items l.waiting l.at;
+}
+
+abbrev pub decreases-loop-at : goal.decreases-loop-at
+decreases-loop-at l = 2 ^ 32 - l.at

@@ -1,0 +1,68 @@
+//! The walk of two programs through calls.
+ghost use Rattle.std.specs.Prelude.{◌≡◌, IfOk};
+ghost use Rattle.csub_core.specs.Points.{entry};
+ghost use Rattle.csub_core.specs.Flows.{start_name};
+ghost use Rattle.csub_core.specs.Syntax.{ProgramTree};
+ghost use Rattle.flow_graph.specs.Graph.{IsGraphOf};
+ghost use Rattle.call_walk.specs.Walks.{IsWalk};
+ghost use Rattle.call_walk.specs.Moments.{AreWays, IsMoment, IsHeld, HoldsAll};
+
+use crate::ask::list_ways;
+use crate::danger::dangerous;
+use crate::fact::{Fact, WalkResult, Why};
+use crate::follow::follow;
+use crate::pairs::{Pairs, add, no_pairs};
+use crate::rows::Rows;
+use flow_graph::Graph;
+use std::alloc::{AllocError, Global};
+
+/// The facts with the pair of the points 0 alone, the entries of `#start`; none where a graph has no points, and so is
+/// that of no program.
+fn start(alloc: Global, old: &Graph, new: &Graph) -> Result<Pairs, AllocError>
+    ensures moment { IfOk result (IsMoment old.now new.now) }
+    ensures held { IfOk result (λ pairs. (P P' : ProgramTree) → IsGraphOf old.now P → IsGraphOf new.now P' → IsHeld P P' pairs.facts.items start_name entry entry) }
+{
+    let mut pairs = no_pairs(alloc, old.points())?;
+    if old.points() == 0 || new.points() == 0 {
+        return Ok(pairs);
+    }
+    let fact = Fact {
+        function: old.function_at(0),
+        old: 0,
+        new: 0,
+        why: Why::Start,
+    };
+    add(&mut pairs, fact)?;
+    Ok(pairs)
+}
+
+/// Every reached pair: the facts are their own queue.
+fn reach(alloc: Global, old: &Graph, new: &Graph, ways: &Rows) -> Result<Pairs, AllocError>
+    requires { AreWays old.now ways.now }
+    ensures moment { IfOk result (IsMoment old.now new.now) }
+    ensures all { IfOk result (λ pairs. HoldsAll old.now new.now pairs.facts.items) }
+{
+    let mut pairs = start(alloc, old, new)?;
+    let mut waiting = Rows::new(alloc, old.points())?;
+    let mut at = 0;
+    while at < pairs.facts.len() {
+        follow(old, new, ways, &mut pairs, &mut waiting, at as u32)?;
+        at += 1;
+    }
+    Ok(pairs)
+}
+
+/// The walk of an old program and a new one, by their graphs: the reached pairs, each once and with its reason, and the
+/// dangerous edges (Rothermel and Harrold, ACM TOSEM 6(2), 1997). An `Err` is want of memory.
+///
+/// Beside one comparison of labels for each edge of a reached pair, a pair is looked for among the reached pairs of its
+/// old point, and functions are looked for by their names, one by one.
+pub fn walk(alloc: Global, old: &Graph, new: &Graph) -> Result<WalkResult, AllocError>
+    ensures { (P P' : ProgramTree) → IsGraphOf old.now P → IsGraphOf new.now P' → IfOk result (IsWalk P P') }
+{
+    let ways = list_ways(alloc, old)?;
+    let pairs = reach(alloc, old, new, &ways)?;
+    let danger = dangerous(alloc, old, new, &ways, &pairs)?;
+    let Pairs { facts, partners: _ } = pairs;
+    Ok(WalkResult { facts, danger })
+}

@@ -1,0 +1,2 @@
+pub mod SelectTexts
+pub mod Selection
