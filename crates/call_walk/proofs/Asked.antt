@@ -1,6 +1,5 @@
 -- What the answers of a graph say of its program.
-use Rattle.std.proofs.Common.{◌≡◌, ℕ, ◌<◌, List, [], Option, Some, None, option_map, refl, sym, ap, ◌∙◌, subst}
-use Rattle.std.specs.Option.{option_and_then}
+use Rattle.std.proofs.Common.{◌≡◌, ℕ, [], Option, Some, None, option_map, refl, sym, ap, ◌∙◌}
 use Rattle.std.specs.Prelude.{MatchOption}
 use Rattle.std.proofs.lemmas.Option.{same_Some}
 use Rattle.csub_core.specs.declared.label.CallLabel.{CallLabel}
@@ -10,7 +9,7 @@ use Rattle.csub_core.specs.Types.{Name}
 use Rattle.csub_core.specs.Labels.{LabelTree, CallTree, calls, PointLabel, label_tree, call_tree}
 use Rattle.csub_core.specs.Points.{PointTree}
 use Rattle.csub_core.specs.Syntax.{ProgramTree}
-use Rattle.csub_core.specs.Flows.{Flow, flow_of}
+use Rattle.csub_core.specs.Flows.{flow_of}
 use Rattle.csub_core.specs.Numbers.{Site, site, site_at}
 use Rattle.csub_core.specs.Books.{SameLabel, CallsAt, IsNoCallAt}
 use Rattle.program_laws.proofs.Labelled.{is_flow}

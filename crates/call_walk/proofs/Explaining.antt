@@ -1,5 +1,5 @@
 -- Reasons of facts, and one more fact at a moment of a walk.
-use Rattle.std.proofs.Common.{◌≡◌, ℕ, ◌<◌, ◌≤◌, List, [], ◌∷◌, ◌++◌, length, take, Option, Some, Result, Ok, Err, refl, sym, ap, ◌∙◌, subst, subst₂, ◌⊎◌, inl, inr, arith}
+use Rattle.std.proofs.Common.{◌≡◌, ℕ, ◌≤◌, List, [], ◌∷◌, ◌++◌, length, take, Some, Result, Ok, Err, refl, sym, ap, ◌∙◌, subst, subst₂, ◌⊎◌, inl, inr, arith}
 use Rattle.std.specs.Prelude.{slice_get, Contains, OnOk}
 use Rattle.std.proofs.lemmas.List.{take-append-le}
 use Rattle.std.proofs.lemmas.Option.{slice_get_within, slice_get-get_or, get_or_from_slice_get, same_Some}
@@ -7,8 +7,8 @@ use Rattle.std.proofs.Math.Seq.{take-append_seam}
 use Rattle.csub_core.specs.Types.{Name}
 use Rattle.csub_core.specs.Points.{PointTree, entry, exit, ExitTree, next}
 use Rattle.csub_core.specs.Syntax.{ProgramTree}
-use Rattle.csub_core.specs.Flows.{Edge, flow_of, start_name}
-use Rattle.csub_core.specs.Numbers.{Site, site, site_at, edge_at, name_at}
+use Rattle.csub_core.specs.Flows.{flow_of, start_name}
+use Rattle.csub_core.specs.Numbers.{site, site_at, edge_at, name_at}
 use Rattle.csub_core.specs.Books as books
 use Rattle.csub_core.specs.Books.{Together, CallsAt, IsNoCallAt, Reason, start, step, enter_callee, over, Justified}
 use Rattle.flow_graph.specs.Graph.{Tables, IsGraphOf, point_count}
@@ -18,7 +18,7 @@ use Rattle.call_walk.specs.declared.fact.Why.TheVariants.{Start, Step, Call, Ove
 use Rattle.call_walk.specs.declared.ask.Pair.{Pair}
 use Rattle.call_walk.specs.declared.ask.Callee.{Callee}
 use Rattle.call_walk.specs.declared.pairs.Pairs.{Pairs}
-use Rattle.call_walk.specs.Walks.{IsNamed, exit_in, named_fact, named_facts, LeavesFrom, StepsAlong, IsExplained}
+use Rattle.call_walk.specs.Walks.{IsNamed, exit_in, named_fact, named_facts, LeavesFrom, IsExplained}
 use Rattle.call_walk.specs.Moments.{AreAt, ArePairs, IsWithin, AreExplained, IsMoment, IsCallee, AreTogether, PassesOver, HasPair, IsHeld}
 use Rattle.call_walk.proofs.Indexed.{get_push}
 use Rattle.call_walk.proofs.Naming.{one_at, at_named, named_as, get_named, Each}

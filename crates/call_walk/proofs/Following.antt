@@ -1,5 +1,5 @@
 -- What has been followed, as facts are added.
-use Rattle.std.proofs.Common.{◌≡◌, ℕ, ◌+◌, ◌<◌, ◌≤◌, List, [], ◌∷◌, ◌++◌, length, get_or, set, replicate, Option, Some, refl, sym, ap, ◌∙◌, subst, subst₂, ◌⊎◌, inl, inr, arith}
+use Rattle.std.proofs.Common.{◌≡◌, ℕ, ◌+◌, ◌<◌, ◌≤◌, List, [], ◌∷◌, ◌++◌, length, get_or, set, replicate, Some, sym, ap, ◌∙◌, subst, subst₂, ◌⊎◌, inl, inr, arith}
 use Rattle.std.specs.Prelude.{slice_get}
 use Rattle.std.proofs.lemmas.Bool.{cases_lt}
 use Rattle.std.proofs.lemmas.List.{length-replicate}
@@ -8,7 +8,7 @@ use Rattle.csub_core.specs.Types.{Name}
 use Rattle.csub_core.specs.Points.{PointTree, entry, exit, ExitTree, next}
 use Rattle.csub_core.specs.Syntax.{ProgramTree}
 use Rattle.csub_core.specs.Flows.{flow_of, start_name}
-use Rattle.csub_core.specs.Numbers.{Site, site, site_at}
+use Rattle.csub_core.specs.Numbers.{site, site_at}
 use Rattle.csub_core.specs.Books.{Together, CallsAt, IsNoCallAt, Reached, SameLabel}
 use Rattle.csub_core.specs.Valid.{IsValid}
 use Rattle.flow_graph.specs.Graph.{Tables, IsGraphOf, point_count}
@@ -19,9 +19,9 @@ use Rattle.call_walk.specs.Walks.{IsNamed}
 use Rattle.call_walk.specs.Moments.{Lists, AreAt, HasPair, IsHeld, IsMoment, Extends, WaitsFor, AreWaiting, IsCallee, IsCalledAt, IsPassed, HoldsNext, PassesOver, IsDone, AreDone, IsFollowed, AreResumed}
 use Rattle.call_walk.proofs.ReachedClosed.{one_callee, calls_or_not}
 use Rattle.call_walk.proofs.Reaching.{every_reached}
-use Rattle.call_walk.proofs.Indexed.{get_extends, get_back, extends_more, extends_long, lists_long, lists_added, lists_kept, lists_cases, lists_none}
+use Rattle.call_walk.proofs.Indexed.{get_extends, get_back, extends_more, extends_long, lists_long, lists_cases, lists_none}
 use Rattle.call_walk.proofs.Numbered.{site_one}
-use Rattle.call_walk.proofs.Naming.{one_at, at_named, held_extends, fact_held, held_same}
+use Rattle.call_walk.proofs.Naming.{at_named, held_extends, fact_held, held_same}
 
 -- more facts hold as much
 pub holds_extends : (P P' : ProgramTree) {a b : List Fact} (c : Fact) (x : ExitTree) → Extends a b → HoldsNext P P' a c x → HoldsNext P P' b c x

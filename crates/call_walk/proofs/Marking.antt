@@ -8,17 +8,17 @@ use Rattle.csub_core.specs.Labels.{LabelTree, enters, exits, evaluates, branches
 use Rattle.csub_core.specs.Points.{PointTree, exit, ExitTree, next}
 use Rattle.csub_core.specs.Syntax.{ProgramTree}
 use Rattle.csub_core.specs.Flows.{Edge, Flow, flow_of}
-use Rattle.csub_core.specs.Numbers.{Site, site, site_at, edge_at}
-use Rattle.csub_core.specs.Books.{SameLabel, Together, CallsAt, IsNoCallAt, Reached, Dangerous}
+use Rattle.csub_core.specs.Numbers.{Site, site, edge_at}
+use Rattle.csub_core.specs.Books.{Together, CallsAt, IsNoCallAt, Reached, Dangerous}
 use Rattle.csub_core.specs.Valid.{IsValid}
 use Rattle.edge_trace.specs.Rows.{has}
 use Rattle.call_walk.specs.declared.fact.Fact.{Fact}
 use Rattle.call_walk.specs.declared.ask.Callee.{Callee}
 use Rattle.call_walk.specs.Walks.{IsNamed, LeavesFrom}
 use Rattle.call_walk.specs.Moments.{AreAt, HasPair, IsHeld, IsCallee, ComesBack, GoesOn, Stops, IsStopped, IsStoppedBefore, Marks}
-use Rattle.call_walk.proofs.ReachedClosed.{one_callee, calls_or_not}
+use Rattle.call_walk.proofs.ReachedClosed.{one_callee}
 use Rattle.call_walk.proofs.Reaching.{reached_step, reached_over}
-use Rattle.call_walk.proofs.Naming.{Each, at_named, fact_held, held_reached, held_same}
+use Rattle.call_walk.proofs.Naming.{Each, fact_held, held_reached, held_same}
 use Rattle.call_walk.proofs.Following.{pair_held, held_pair}
 use Rattle.call_walk.proofs.CallWays.{call_next}
 

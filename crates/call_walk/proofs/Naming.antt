@@ -1,13 +1,13 @@
 -- Facts by names: they are a book, and what they hold is reached.
-use Rattle.std.proofs.Common.{◌≡◌, ℕ, List, take, map, Option, option_map, Some, refl, sym, ap, ◌∙◌, subst, subst₂}
+use Rattle.std.proofs.Common.{◌≡◌, ℕ, List, take, option_map, Some, sym, ap, ◌∙◌, subst₂}
 use Rattle.std.specs.Prelude.{slice_get, Contains}
-use Rattle.std.proofs.lemmas.List.{take-map, length-map}
+use Rattle.std.proofs.lemmas.List.{take-map}
 use Rattle.std.proofs.lemmas.Option.{slice_get-map, slice_get_within, same_Some, get_or_from_slice_get}
 use Rattle.csub_core.specs.Types.{Name}
 use Rattle.csub_core.specs.Points.{PointTree}
 use Rattle.csub_core.specs.Syntax.{ProgramTree}
 use Rattle.csub_core.specs.Flows.{flow_of}
-use Rattle.csub_core.specs.Numbers.{Site, site, site_at}
+use Rattle.csub_core.specs.Numbers.{Site, site}
 use Rattle.csub_core.specs.Books as books
 use Rattle.csub_core.specs.Books.{SameLabel, Justified, IsBook, Reached}
 use Rattle.csub_core.specs.Valid.{IsValid}

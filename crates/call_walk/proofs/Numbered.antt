@@ -1,5 +1,5 @@
 -- What the numbers of a valid program stand for.
-use Rattle.std.proofs.Common.{◌≡◌, ℕ, zero, suc, ◌+◌, ◌<◌, List, [], ◌∷◌, ◌++◌, map, length, get_or, Bool, true, false, cond, Option, Some, None, find, option_map, refl, sym, ap, ◌∙◌, subst, subst₂, ◌⊎◌, inl, inr, arith}
+use Rattle.std.proofs.Common.{◌≡◌, ℕ, zero, suc, ◌+◌, ◌<◌, List, [], ◌∷◌, map, length, get_or, Bool, true, false, cond, Option, Some, None, find, option_map, refl, sym, ap, ◌∙◌, subst, subst₂, ◌⊎◌, inl, inr, arith}
 use Rattle.std.specs.Prelude.{◌≢◌, AllPairs, slice_get}
 use Rattle.std.specs.Option.{option_and_then}
 use Rattle.std.specs.List.{flat_map}
@@ -10,15 +10,14 @@ use Rattle.csub_core.specs.Labels.{CallTree, calls, PointLabel}
 use Rattle.csub_core.specs.Points.{PointTree, entry, ExitTree, exit_eq}
 use Rattle.csub_core.specs.Syntax.{FunctionTree, ProgramTree}
 use Rattle.csub_core.specs.Successors.{Way, Node}
-use Rattle.csub_core.specs.Flows.{PlacedNode, placed, function_nodes, point_list, Edge, edges_from, edge_list, name_eq, function_of, node_of, way_in, way_of, labelled, flow_of, start_name}
+use Rattle.csub_core.specs.Flows.{PlacedNode, placed, function_nodes, point_list, Edge, edges_from, name_eq, function_of, node_of, way_in, way_of, labelled, flow_of, start_name}
 use Rattle.csub_core.specs.Numbers.{Site, site, site_of, site_at, edge_at, name_at}
-use Rattle.csub_core.specs.Books.{CallsAt}
 use Rattle.csub_core.specs.Valid.{BeginsWithStart, IsValid}
 use Rattle.program_laws.specs.Flows.{entry_label, IsFlow}
 use Rattle.program_laws.proofs.Names.{same_name}
 use Rattle.flow_graph.specs.Graph as graphs
 use Rattle.flow_graph.specs.Graph.{Tables, IsGraphOf, point_count}
-use Rattle.flow_graph.proofs.Lists.{slice_get-left, slice_get-right, slice_get_cases_append, range_at, Made, made_of}
+use Rattle.flow_graph.proofs.Lists.{slice_get-left, slice_get-right, slice_get_cases_append, range_at, made_of}
 use Rattle.flow_graph.proofs.Distinct.{number_of, function_places}
 use Rattle.flow_graph.specs.Numbers.{count_function}
 use Rattle.flow_graph.proofs.Found.{point_placed, found}

@@ -1,5 +1,5 @@
 -- What a walk of two programs is: its facts by names are a book, and its row holds the dangerous edges.
-use Rattle.std.specs.Prelude.{ℕ, ◌≡◌, ◌↔◌, List, [], map, length, take, slice_get, Option, Some, None, All, Contains, IsTrue}
+use Rattle.std.specs.Prelude.{ℕ, ◌≡◌, ◌↔◌, List, [], map, length, take, slice_get, Option, Some, None, Contains, IsTrue}
 use Rattle.csub_core.specs.Types.{Name}
 use Rattle.csub_core.specs.Points.{PointTree, entry, ExitTree, next}
 use Rattle.csub_core.specs.Syntax.{ProgramTree}

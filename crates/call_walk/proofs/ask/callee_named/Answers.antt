@@ -1,9 +1,6 @@
 use Rattle.std.proofs.Common.{◌≡◌, Some, option_map, ap, ◌∙◌}
-use Rattle.csub_core.specs.Types.{Name}
-use Rattle.csub_core.specs.Syntax.{FunctionTree, ProgramTree}
+use Rattle.csub_core.specs.Syntax.{FunctionTree}
 use Rattle.csub_core.specs.Numbers.{name_at}
-use Rattle.flow_graph.specs.Graph.{IsGraphOf}
-use Rattle.call_walk.specs.Moments.{Defines}
 use Rattle.call_walk.proofs.Numbered.{defined_name}
 use Rattle.call_walk.proofs.ask.callee_named.Goals as goal
 

@@ -1,14 +1,10 @@
-use Rattle.std.proofs.Common.{◌≡◌, Bool, true, false, Some, option_map, refl, sym, ap, ◌∙◌, true≢false}
-use Rattle.csub_core.specs.Types.{Name}
-use Rattle.csub_core.specs.Labels.{LabelTree, label_tree}
-use Rattle.csub_core.specs.Points.{PointTree, exit_tree}
-use Rattle.csub_core.specs.Syntax.{ProgramTree}
+use Rattle.std.proofs.Common.{Some, option_map, sym, ap, ◌∙◌, true≢false}
+use Rattle.csub_core.specs.Labels.{label_tree}
+use Rattle.csub_core.specs.Points.{exit_tree}
 use Rattle.csub_core.specs.Flows.{flow_of}
-use Rattle.csub_core.specs.Numbers.{site, site_at}
-use Rattle.flow_graph.specs.Graph.{IsGraphOf}
-use Rattle.call_walk.specs.Moments.{AreAt}
+use Rattle.csub_core.specs.Numbers.{site}
 use Rattle.call_walk.proofs.Numbered.{site_within}
-use Rattle.call_walk.proofs.Asked.{bare, leads_none, Led, leads_some, same_trees}
+use Rattle.call_walk.proofs.Asked.{bare, leads_none, leads_some, same_trees}
 use Rattle.call_walk.proofs.ask.successors.Goals as goal
 
 pub returns-in_default-clause-together : goal.returns-in_default-clause-together

@@ -1,7 +1,6 @@
-use Rattle.std.proofs.Common.{◌≡◌, ℕ, ◌<◌, ◌≤◌, length, get_or, Some, sym, ap, ◌∙◌, subst, arith}
+use Rattle.std.proofs.Common.{◌≡◌, length, sym, ap, ◌∙◌, subst, arith}
 use Rattle.std.specs.Prelude.{slice_get}
 use Rattle.std.proofs.lemmas.Option.{slice_get-get_or}
-use Rattle.edge_trace.specs.Rows.{has}
 use Rattle.call_walk.specs.declared.fact.Fact.{Fact}
 use Rattle.call_walk.specs.declared.fact.Why.TheVariants.{Start}
 use Rattle.call_walk.specs.Moments.{IsStoppedBefore}

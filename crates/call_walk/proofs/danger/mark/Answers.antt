@@ -1,6 +1,4 @@
-use Rattle.std.proofs.Common.{◌≡◌, ℕ, sym, ◌∙◌, true≢false}
-use Rattle.csub_core.specs.Syntax.{ProgramTree}
-use Rattle.flow_graph.specs.Graph.{IsGraphOf}
+use Rattle.std.proofs.Common.{ℕ, sym, ◌∙◌, true≢false}
 use Rattle.call_walk.specs.Moments.{ComesBack, Stops, IsStopped}
 use Rattle.call_walk.proofs.Explaining.{contained}
 use Rattle.call_walk.proofs.Following.{moment_same}

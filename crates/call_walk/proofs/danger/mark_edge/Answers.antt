@@ -1,14 +1,11 @@
-use Rattle.std.proofs.Common.{◌≡◌, ℕ, true, false, Some, sym, ◌∙◌, subst, true≢false, ◌<◌, length, arith, IsTrue}
-use Rattle.csub_core.specs.Points.{exit_tree}
-use Rattle.csub_core.specs.Syntax.{ProgramTree}
+use Rattle.std.proofs.Common.{◌≡◌, Some, sym, ◌∙◌, subst, true≢false, ◌<◌, length, arith}
 use Rattle.csub_core.specs.Flows.{flow_of}
-use Rattle.flow_graph.specs.Graph.{IsGraphOf}
 use Rattle.call_walk.specs.Moments.{GoesOn, Stops}
 use Rattle.call_walk.proofs.Numbered.{site_within}
 use Rattle.call_walk.proofs.Asked.{leads_some}
 use Rattle.call_walk.proofs.Explaining.{contained}
 use Rattle.call_walk.proofs.Following.{moment_named}
-use Rattle.call_walk.proofs.Marking.{marks_as, marks_one, marks_none, Leads, leaves_at, stops_yes, stops_no}
+use Rattle.call_walk.proofs.Marking.{marks_as, marks_one, Leads, leaves_at, stops_yes}
 use Rattle.call_walk.proofs.danger.mark_edge.Goals as goal
 
 pub returns-clause-marks : goal.returns-clause-marks

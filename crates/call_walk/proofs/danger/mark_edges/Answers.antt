@@ -1,11 +1,10 @@
-use Rattle.std.proofs.Common.{◌≡◌, ℕ, ◌+◌, ◌<◌, ◌≤◌, length, get_or, Some, sym, ap, ◌∙◌, subst, ◌⊎◌, inl, inr, arith}
+use Rattle.std.proofs.Common.{◌≡◌, ℕ, ◌+◌, ◌<◌, ◌≤◌, get_or, Some, sym, ap, ◌∙◌, subst, ◌⊎◌, inl, inr, arith}
 use Rattle.std.specs.Prelude.{slice_get}
 use Rattle.std.proofs.lemmas.Bool.{cases_lt}
 use Rattle.std.proofs.lemmas.Option.{slice_get_within, slice_get-get_or, get_or_from_slice_get}
 use Rattle.csub_core.specs.Syntax.{ProgramTree}
-use Rattle.flow_graph.specs.Graph.{IsGraphOf}
 use Rattle.call_walk.specs.Walks.{LeavesFrom}
-use Rattle.call_walk.specs.Moments.{Lists, Stops, Marks}
+use Rattle.call_walk.specs.Moments.{Stops}
 use Rattle.call_walk.proofs.Indexed.{in_row}
 use Rattle.call_walk.proofs.Numbered.{site_below}
 use Rattle.call_walk.proofs.Marking.{marks_as, marks_then}

@@ -1,11 +1,4 @@
-use Rattle.std.proofs.Common.{◌≡◌, ℕ, Some, ◌<◌}
-use Rattle.std.specs.Prelude.{slice_get}
 use Rattle.csub_core.specs.Points.{exit_tree}
-use Rattle.csub_core.specs.Syntax.{ProgramTree}
-use Rattle.flow_graph.specs.Graph.{IsGraphOf}
-use Rattle.call_walk.specs.declared.fact.Fact.{Fact}
-use Rattle.call_walk.specs.Walks.{IsNamed, IsExplained}
-use Rattle.call_walk.specs.Moments.{IsWithin}
 use Rattle.call_walk.proofs.Explaining.{moment_more, contained, on_ok, on_ok_3, together_held}
 use Rattle.call_walk.proofs.Naming.{at_named}
 use Rattle.call_walk.proofs.follow.advance.Goals as goal

@@ -1,9 +1,5 @@
-use Rattle.std.proofs.Common.{◌≡◌, ◌<◌, length, Some, sym, ap, ◌∙◌, arith}
-use Rattle.std.specs.Prelude.{slice_get}
-use Rattle.csub_core.specs.Syntax.{ProgramTree}
-use Rattle.flow_graph.specs.Graph.{IsGraphOf}
-use Rattle.call_walk.specs.Walks.{IsExplained}
-use Rattle.call_walk.specs.Moments.{IsMoment, Extends, AreWaiting, IsCalledAt, WaitsFor}
+use Rattle.std.proofs.Common.{◌<◌, length, arith}
+use Rattle.call_walk.specs.Moments.{AreWaiting}
 use Rattle.call_walk.proofs.Indexed.{get_some, get_extends, get_back, extends_added, extends_long, extends_more, lists_added, lists_kept}
 use Rattle.call_walk.proofs.Naming.{at_named}
 use Rattle.call_walk.proofs.Explaining.{moment_more, call_explained, on_ok, on_ok_2}

@@ -1,4 +1,3 @@
-use Rattle.std.proofs.Common.{◌≡◌, Some}
 use Rattle.call_walk.proofs.Indexed.{read_at}
 use Rattle.call_walk.proofs.Explaining.{on_ok, on_ok_2}
 use Rattle.call_walk.proofs.Following.{waiting_extends, done_more}

@@ -1,5 +1,4 @@
-use Rattle.std.proofs.Common.{◌≡◌, Some, sym, ap, ◌∙◌}
-use Rattle.call_walk.proofs.Indexed.{get_some, get_extends}
+use Rattle.call_walk.proofs.Indexed.{get_some}
 use Rattle.call_walk.proofs.Explaining.{on_ok}
 use Rattle.call_walk.proofs.Following.{call_over, passed_by, none_back}
 use Rattle.call_walk.proofs.follow.pass_if_back.Goals as goal

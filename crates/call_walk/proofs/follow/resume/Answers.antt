@@ -1,15 +1,14 @@
-use Rattle.std.proofs.Common.{◌≡◌, ℕ, List, ◌+◌, ◌<◌, ◌≤◌, length, get_or, Some, refl, sym, ap, ◌∙◌, subst, ◌⊎◌, inl, inr, arith}
+use Rattle.std.proofs.Common.{◌≡◌, ℕ, List, ◌+◌, ◌<◌, ◌≤◌, get_or, Some, refl, sym, ap, ◌∙◌, subst, ◌⊎◌, inl, inr, arith}
 use Rattle.std.specs.Prelude.{slice_get}
 use Rattle.std.proofs.lemmas.Bool.{cases_lt}
 use Rattle.std.proofs.lemmas.Option.{slice_get_within, slice_get-get_or, get_or_from_slice_get, same_Some}
-use Rattle.csub_core.specs.Types.{Name}
-use Rattle.csub_core.specs.Points.{PointTree, exit, next}
+use Rattle.csub_core.specs.Points.{exit, next}
 use Rattle.csub_core.specs.Syntax.{ProgramTree}
-use Rattle.csub_core.specs.Numbers.{Site, site, site_at}
+use Rattle.csub_core.specs.Numbers.{Site, site}
 use Rattle.flow_graph.specs.Graph.{IsGraphOf}
 use Rattle.call_walk.specs.declared.fact.Fact.{Fact}
 use Rattle.call_walk.specs.Walks.{IsNamed}
-use Rattle.call_walk.specs.Moments.{Lists, AreAt, WaitsFor, Extends, PassesOver, HoldsNext}
+use Rattle.call_walk.specs.Moments.{WaitsFor, Extends, PassesOver, HoldsNext}
 use Rattle.call_walk.proofs.Indexed.{in_row, get_extends, get_back, extends_more, extends_long}
 use Rattle.call_walk.proofs.Naming.{at_named}
 use Rattle.call_walk.proofs.Following.{holds_extends, moment_named}

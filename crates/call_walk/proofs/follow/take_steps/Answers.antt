@@ -1,4 +1,4 @@
-use Rattle.std.proofs.Common.{◌≡◌, ℕ, ◌+◌, ◌<◌, ◌≤◌, length, get_or, Some, sym, ap, ◌∙◌, subst, ◌⊎◌, inl, inr, arith}
+use Rattle.std.proofs.Common.{◌≡◌, ℕ, ◌+◌, ◌<◌, ◌≤◌, get_or, Some, ap, ◌∙◌, subst, ◌⊎◌, inl, inr, arith}
 use Rattle.std.specs.Prelude.{slice_get}
 use Rattle.std.proofs.lemmas.Bool.{cases_lt}
 use Rattle.std.proofs.lemmas.Option.{slice_get_within, slice_get-get_or, get_or_from_slice_get}
@@ -7,7 +7,7 @@ use Rattle.csub_core.specs.Syntax.{ProgramTree}
 use Rattle.csub_core.specs.Numbers.{edge_at}
 use Rattle.flow_graph.specs.Graph.{IsGraphOf}
 use Rattle.call_walk.specs.Walks.{LeavesFrom}
-use Rattle.call_walk.specs.Moments.{Lists, HoldsNext}
+use Rattle.call_walk.specs.Moments.{HoldsNext}
 use Rattle.call_walk.proofs.Indexed.{in_row, get_extends, extends_more}
 use Rattle.call_walk.proofs.Numbered.{edge_of, site_below}
 use Rattle.call_walk.proofs.Explaining.{step_explained, contains_at}

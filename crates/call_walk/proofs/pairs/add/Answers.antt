@@ -1,4 +1,4 @@
-use Rattle.std.proofs.Common.{◌≡◌, ℕ, ◌++◌, ◌∷◌, [], ◌+◌, ◌<◌, ◌^◌, length, set, get_or, Option, Some, None, sym, ap, ◌∙◌, subst, subst₂, arith, false}
+use Rattle.std.proofs.Common.{◌≡◌, ℕ, ◌++◌, ◌∷◌, [], ◌+◌, ◌<◌, ◌^◌, length, set, get_or, Option, Some, None, sym, ap, ◌∙◌, subst, arith, false}
 use Rattle.std.specs.Prelude.{IfNone, is_some}
 use Rattle.call_walk.specs.Moments.{HasPair, ArePairs}
 use Rattle.call_walk.proofs.Indexed.{pairs_push, has_last}

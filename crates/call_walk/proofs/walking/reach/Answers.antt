@@ -1,4 +1,4 @@
-use Rattle.std.proofs.Common.{◌≡◌, ◌≤◌, ◌+◌, length, arith}
+use Rattle.std.proofs.Common.{arith}
 use Rattle.csub_core.specs.Points.{entry}
 use Rattle.csub_core.specs.Flows.{start_name}
 use Rattle.call_walk.proofs.Indexed.{extends_long}

@@ -1,4 +1,4 @@
-use Rattle.std.proofs.Common.{◌≡◌, ◌≤◌, ◌-◌, ◌^◌, ℕ, length}
+use Rattle.std.proofs.Common.{◌≤◌, ◌-◌, ◌^◌, length}
 use Rattle.csub_core.specs.Points.{entry}
 use Rattle.csub_core.specs.Flows.{start_name}
 use Rattle.csub_core.specs.Syntax.{ProgramTree}

@@ -1,13 +1,12 @@
-use Rattle.std.proofs.Common.{◌≡◌, ℕ, ◌<◌, sym, ◌∙◌, subst, arith}
+use Rattle.std.proofs.Common.{◌<◌, sym, ◌∙◌, subst, arith}
 use Rattle.csub_core.specs.Points.{entry}
 use Rattle.csub_core.specs.Flows.{start_name}
 use Rattle.csub_core.specs.Numbers.{site}
 use Rattle.flow_graph.specs.Graph.{point_count}
 use Rattle.call_walk.specs.declared.fact.Why.TheVariants.{Start}
 use Rattle.call_walk.specs.Walks.{IsExplained}
-use Rattle.call_walk.proofs.Numbered.{first_site, site_below}
+use Rattle.call_walk.proofs.Numbered.{first_site}
 use Rattle.call_walk.proofs.Explaining.{moment_none, moment_more, start_explained}
-use Rattle.call_walk.proofs.Following.{pair_held}
 use Rattle.call_walk.proofs.walking.start.Goals as goal
 
 pub returns-clause-moment : goal.returns-clause-moment

@@ -1,4 +1,3 @@
-use Rattle.std.proofs.Common.{◌≡◌, ◌∙◌}
 use Rattle.call_walk.proofs.Naming.{book_of, held_named}
 use Rattle.call_walk.proofs.Marking.{danger_iff}
 use Rattle.call_walk.proofs.walking.walk.Goals as goal
