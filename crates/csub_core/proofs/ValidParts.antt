@@ -3,7 +3,7 @@ use Rattle.std.proofs.Common.{◌≡◌, ◌↔◌, ℕ, zero, suc, ◌+◌, ◌
 use Rattle.csub_core.specs.declared.function.RCall.{RCall}
 use Rattle.csub_core.specs.declared.valid.role.Role.{Role}
 use Rattle.csub_core.specs.declared.valid.role.Role.TheVariants.{Whole, Test}
-use Rattle.csub_lex.specs.declared.span.Span.{Span}
+use Rattle.csub_text.specs.declared.span.Span.{Span}
 use Rattle.csub_core.specs.Labels.{LabelTree, call_tree}
 use Rattle.csub_core.specs.Syntax.{Stage, call_stage, own_stage, FunctionTree, ProgramTree}
 use Rattle.csub_core.specs.Valid.{IsCall, IsLast, IsPart}

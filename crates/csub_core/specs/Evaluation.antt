@@ -1,7 +1,7 @@
 -- What places and expressions give, over any memory: operands from left to right, with side effects at once.
 use Rattle.std.specs.Prelude.{ℤ, pos}
-use Rattle.csub_lex.specs.declared.operator.BinOp.{BinOp}
-use Rattle.csub_lex.specs.declared.operator.BinOp.TheVariants.{Shl, Shr}
+use Rattle.csub_text.specs.declared.operator.BinOp.{BinOp}
+use Rattle.csub_text.specs.declared.operator.BinOp.TheVariants.{Shl, Shr}
 use Rattle.csub_types.specs.declared.kind.IntKind.{IntKind}
 use Rattle.csub_types.specs.Kinds.{convert, promote}
 use Rattle.csub_types.specs.Arithmetic.{binary}

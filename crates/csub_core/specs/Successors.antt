@@ -1,7 +1,7 @@
 -- The points of statements and where they lead, by places in the syntax. All is generic in the type X of points: a
 -- function `name` names the points inside a statement by path, part and stage.
 use Rattle.std.specs.Prelude.{ℕ, ◌+◌, List, [], ◌∷◌, ◌++◌}
-use Rattle.csub_lex.specs.declared.span.Span.{Span}
+use Rattle.csub_text.specs.declared.span.Span.{Span}
 use Rattle.csub_core.specs.Labels.{LabelTree, returns}
 use Rattle.csub_core.specs.Points.{ExitTree, next, on_true, on_false}
 use Rattle.csub_core.specs.Syntax.{PartTree, StmtTree, StmtTrees, ElseTree, parts, block, conditional, no_stmt, more_stmts, no_else, else_stmt}

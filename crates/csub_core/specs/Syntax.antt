@@ -1,7 +1,7 @@
 -- Programs as values: functions with their statements, each statement with its parts.
 use Rattle.std.specs.Prelude.{ℕ, List, [], ◌∷◌, ◌++◌, map, Option, Some, None}
 use Rattle.std.specs.Option.{option_map}
-use Rattle.csub_lex.specs.declared.span.Span.{Span}
+use Rattle.csub_text.specs.declared.span.Span.{Span}
 use Rattle.csub_types.specs.declared.kind.IntKind.{IntKind}
 use Rattle.csub_core.specs.Types.{Name, TypeTree, type_tree, MemberTree, member_tree}
 use Rattle.csub_core.specs.Labels.{LabelTree, calls, label_tree, call_tree}

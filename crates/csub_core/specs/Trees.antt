@@ -2,7 +2,7 @@
 -- What stands at a variable, at an index and at a member is a parameter, so that one definition of evaluation serves
 -- cells by names and cells by numbers.
 use Rattle.std.specs.Prelude.{ℕ, ℤ}
-use Rattle.csub_lex.specs.declared.operator.BinOp.{BinOp}
+use Rattle.csub_text.specs.declared.operator.BinOp.{BinOp}
 use Rattle.csub_types.specs.declared.kind.IntKind.{IntKind}
 use Rattle.csub_core.specs.Types.{Name, TypeTree}
 use Rattle.csub_core.specs.declared.expression.RArg.{RArg}

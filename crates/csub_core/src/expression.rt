@@ -1,5 +1,5 @@
 //! Resolved expressions: each operand has its converted kind.
-use csub_lex::{BinOp, Text};
+use csub_text::{BinOp, Text};
 use csub_types::IntKind;
 
 /// Whose object a name is.

@@ -1,7 +1,7 @@
 //! Resolved functions: their statements, each by its parts.
 use crate::label::{CallLabel, Label};
 use crate::types::{CType, Member};
-use csub_lex::{Span, Text};
+use csub_text::{Span, Text};
 use csub_types::IntKind;
 
 /// A user call of a part, with the place of the callee's name.

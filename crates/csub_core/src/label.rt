@@ -1,7 +1,7 @@
 //! What is done at a point, and how control leaves it.
 use crate::expression::{RArg, RExpr};
 use crate::types::Member;
-use csub_lex::Text;
+use csub_text::Text;
 use csub_types::IntKind;
 
 /// What the end of a function asks for.

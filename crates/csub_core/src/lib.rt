@@ -20,7 +20,7 @@ pub mod types;
 mod valid;
 
 pub use copy::{copy_call, copy_label};
-pub use csub_lex::{BinOp, Span, StepOp, Text, UnaryOp};
+pub use csub_text::{BinOp, Span, StepOp, Text, UnaryOp};
 pub use csub_types::{IntKind, Trap};
 pub use expression::{Owner, Piece, RArg, RExpr};
 pub use function::{Function, LocalVar, RCall, RPart, RStmt};

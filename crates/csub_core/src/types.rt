@@ -1,5 +1,5 @@
 //! Declared types.
-use csub_lex::Text;
+use csub_text::Text;
 use csub_types::IntKind;
 
 /// A declared type (C11 6.2.5).

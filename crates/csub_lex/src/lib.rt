@@ -1,13 +1,7 @@
-//! The ground of the reader of C: texts, places in a source, and the operators that trees and programs share.
-//!
-//! What is promised: a [`Text`] holds exactly the bytes that it was made of (the contracts of [`Text::new`],
-//! [`Text::bytes`] and [`Text::copy`]), and texts are compared byte by byte.
+//! The tokens of a source.
 #![tactic(auto)]
 
-pub mod operator;
-pub mod span;
-pub mod text;
+pub mod token;
 
-pub use operator::{BinOp, StepOp, UnaryOp};
-pub use span::Span;
-pub use text::Text;
+pub use csub_text::{BinOp, Span, StepOp, Text, UnaryOp};
+pub use token::{Key, Mark, Token, TokenKind};

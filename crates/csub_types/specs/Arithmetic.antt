@@ -3,10 +3,10 @@
 use Rattle.std.specs.Prelude.{ℕ, ℤ, pos, negsuc, ◌+ℤ◌, ◌-ℤ◌, ◌*ℤ◌, neg_ℤ, not, Result, Ok, bit_and, bit_or, bit_xor}
 use Rattle.std.specs.Int.RustNames.{int_lt, int_le}
 use Rattle.std.specs.Ordering.{int_eq}
-use Rattle.csub_lex.specs.declared.operator.UnaryOp.{UnaryOp}
-use Rattle.csub_lex.specs.declared.operator.UnaryOp.TheVariants.{Plus, Minus, Not, Flip}
-use Rattle.csub_lex.specs.declared.operator.BinOp.{BinOp}
-use Rattle.csub_lex.specs.declared.operator.BinOp.TheVariants.{Mul, Div, Rem, Add, Sub, Shl, Shr, Lt, Gt, Le, Ge, Eq, Ne, BitAnd, BitXor, BitOr}
+use Rattle.csub_text.specs.declared.operator.UnaryOp.{UnaryOp}
+use Rattle.csub_text.specs.declared.operator.UnaryOp.TheVariants.{Plus, Minus, Not, Flip}
+use Rattle.csub_text.specs.declared.operator.BinOp.{BinOp}
+use Rattle.csub_text.specs.declared.operator.BinOp.TheVariants.{Mul, Div, Rem, Add, Sub, Shl, Shr, Lt, Gt, Le, Ge, Eq, Ne, BitAnd, BitXor, BitOr}
 use Rattle.csub_types.specs.declared.kind.IntKind.{IntKind}
 use Rattle.csub_types.specs.declared.kind.IntKind.TheVariants.{Int}
 use Rattle.csub_types.specs.declared.trap.Trap.{Trap}

@@ -10,7 +10,7 @@ use crate::kind::{IntKind, convert};
 use crate::settle::settle;
 use crate::shift::{shift_left, shift_right};
 use crate::trap::Trap;
-use csub_lex::{BinOp, UnaryOp};
+use csub_text::{BinOp, UnaryOp};
 
 /// What an operator gives on one operand of a promoted kind (C11 6.5.3.3). The only trap is `Overflow`.
 pub fn unary(op: UnaryOp, kind: IntKind, a: i64) -> Result<i64, Trap>

@@ -3,11 +3,11 @@ use crate::arithmetic::{binary, truth, unary};
 use crate::kind::IntKind::{Char, Int, Unsigned};
 use crate::kind::{IntKind, common, convert, promote};
 use crate::trap::Trap;
-use csub_lex::BinOp::{
+use csub_text::BinOp::{
     Add, BitAnd, BitOr, BitXor, Div, Eq, Ge, Gt, Le, Lt, Mul, Ne, Rem, Shl, Shr, Sub,
 };
-use csub_lex::UnaryOp::{Flip, Minus, Not, Plus};
-use csub_lex::{BinOp, UnaryOp};
+use csub_text::UnaryOp::{Flip, Minus, Not, Plus};
+use csub_text::{BinOp, UnaryOp};
 
 /// A number and its kind.
 type Operand = (IntKind, i64);

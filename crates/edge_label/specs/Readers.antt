@@ -1,8 +1,8 @@
 -- Codes read back: what label a list of numbers is the code of. Lists that are no code give some label too.
 use Rattle.std.specs.Prelude.{ℕ, zero, suc, ℤ, pos, negsuc, List, [], ◌∷◌, length, Option, Some, None, take, drop}
 use Rattle.std.proofs.Common.{get_or}
-use Rattle.csub_lex.specs.declared.operator.BinOp.{BinOp}
-use Rattle.csub_lex.specs.declared.operator.BinOp.TheVariants.{Mul, Div, Rem, Add, Sub, Shl, Shr, Lt, Gt, Le, Ge, Eq, Ne, BitAnd, BitXor, BitOr}
+use Rattle.csub_text.specs.declared.operator.BinOp.{BinOp}
+use Rattle.csub_text.specs.declared.operator.BinOp.TheVariants.{Mul, Div, Rem, Add, Sub, Shl, Shr, Lt, Gt, Le, Ge, Eq, Ne, BitAnd, BitXor, BitOr}
 use Rattle.csub_types.specs.declared.kind.IntKind.{IntKind}
 use Rattle.csub_types.specs.declared.kind.IntKind.TheVariants.{Char, Int, Unsigned}
 use Rattle.csub_core.specs.declared.label.EndRule.{EndRule}

@@ -2,7 +2,7 @@
 use Rattle.std.proofs.Common.{◌≡◌, List, [], ◌∷◌, ◌++◌, ◌∙◌, reverse, suc, arith, map, refl, ap, sym, subst, ℕ, ◌+◌, ◌<◌, length, get_or, drop, Option, Some, None, append_assoc}
 use Rattle.std.specs.Option.{option_map}
 use Rattle.std.proofs.lemmas.List.{reverse-append}
-use Rattle.csub_lex.specs.declared.span.Span.{Span}
+use Rattle.csub_text.specs.declared.span.Span.{Span}
 use Rattle.csub_core.specs.declared.function.RPart.{RPart}
 use Rattle.csub_core.specs.declared.function.RCall.{RCall}
 use Rattle.csub_core.specs.Labels.{LabelTree, enters, exits, evaluates, branches, returns, calls, label_tree}

@@ -1,6 +1,6 @@
 -- What the graph of a program is: its functions and points in the program's order, with numbers in place of names.
 use Rattle.std.specs.Prelude.{ℕ, ◌≡◌, ◌+◌, ◌^◌, ◌<◌, List, [], ◌∷◌, ◌++◌, map, length, replicate, Option, Some, sum_by, All}
-use Rattle.csub_lex.specs.declared.span.Span.{Span}
+use Rattle.csub_text.specs.declared.span.Span.{Span}
 use Rattle.csub_core.specs.Types.{Name}
 use Rattle.csub_core.specs.Labels.{LabelTree, label_tree}
 use Rattle.csub_core.specs.Points.{PointTree, entry, exit, point_tree, exit_tree}

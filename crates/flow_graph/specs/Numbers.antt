@@ -1,7 +1,7 @@
 -- The points of a program by their numbers, counted in the order of the text from a first number: what the inner
 -- functions of the builder say of themselves. What the whole graph is stands in `Graph`.
 use Rattle.std.specs.Prelude.{ℕ, ◌+◌, List, [], ◌∷◌, ◌++◌, map, length, Option, Some}
-use Rattle.csub_lex.specs.declared.span.Span.{Span}
+use Rattle.csub_text.specs.declared.span.Span.{Span}
 use Rattle.csub_core.specs.Types.{Name}
 use Rattle.csub_core.specs.Labels.{LabelTree, enters, exits, label_tree, returns}
 use Rattle.csub_core.specs.Points.{PointTree, entry, exit, at, point_tree, exit_tree, next}

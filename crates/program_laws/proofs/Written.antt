@@ -1,7 +1,7 @@
 -- No run writes more than a run may, nor takes more turns than its budget.
 use Rattle.std.proofs.Common.{◌≡◌, ℕ, zero, suc, ◌+◌, ◌-◌, ◌<◌, ◌≤◌, ℤ, pos, List, [], ◌∷◌, ◌++◌, length, Bool, true, false, Option, Some, None, Result, Ok, Err, nat_lt, nat_le, int_eq, refl, sym, ap, subst, arith, length-append, if◌then◌else◌}
 use Rattle.std.proofs.lemmas.Bool.{ltb-true}
-use Rattle.csub_lex.specs.declared.operator.BinOp.{BinOp}
+use Rattle.csub_text.specs.declared.operator.BinOp.{BinOp}
 use Rattle.csub_types.specs.declared.kind.IntKind.{IntKind}
 use Rattle.csub_types.specs.declared.kind.IntKind.TheVariants.{Int}
 use Rattle.csub_types.specs.declared.trap.Trap.{Trap as TrapKind}

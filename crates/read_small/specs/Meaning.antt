@@ -1,7 +1,7 @@
 -- The program that a small source means: `#start`, which calls `main`, and `main`.
 use Rattle.std.specs.Prelude.{ℕ, ◌+◌, pos, List, [], ◌∷◌, length, map, Option, Some, None}
-use Rattle.csub_lex.specs.declared.span.Span.{Span}
-use Rattle.csub_lex.specs.declared.operator.BinOp.TheVariants.{Eq}
+use Rattle.csub_text.specs.declared.span.Span.{Span}
+use Rattle.csub_text.specs.declared.operator.BinOp.TheVariants.{Eq}
 use Rattle.csub_types.specs.declared.kind.IntKind.TheVariants.{Int}
 use Rattle.csub_core.specs.Trees.{NamedExpr, constant, operation, input_byte, output_byte}
 use Rattle.csub_core.specs.Labels.{LabelTree, evaluates, branches, returns, calls}

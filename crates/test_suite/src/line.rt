@@ -9,7 +9,7 @@ ghost use Rattle.test_suite.specs.Tests.{IsWithin};
 
 use crate::name::is_test_name;
 use crate::test::Test;
-use csub_lex::Text;
+use csub_text::Text;
 use line_text::{Line, cut_word, read_bytes_or_dash, read_decimal};
 use std::alloc::{AllocError, Global};
 

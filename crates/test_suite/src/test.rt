@@ -2,7 +2,7 @@
 ghost use Rattle.std.specs.Prelude.{◌≡◌, IfOk};
 ghost use Rattle.hex.specs.Hex.{IsBytes};
 
-use csub_lex::Text;
+use csub_text::Text;
 use std::alloc::{AllocError, Global};
 use std::marker::Model;
 

@@ -1,6 +1,6 @@
 // Worked suites, and each limit of the format with its next.
 use crate::{SuiteError, Test, copy_test, is_test_name, read_suite, write_suite};
-use csub_lex::Text;
+use csub_text::Text;
 use line_text::push_decimal;
 use std::alloc::{AllocError, Global};
 use std::test::Fail;

@@ -5,7 +5,7 @@ ghost use Rattle.csub_core.specs.Trees.{expr_tree};
 ghost use Rattle.csub_core.specs.Valid.{IsExpr, kind_of, operation_kind, result_kind};
 
 use crate::expression::RExpr;
-use csub_lex::BinOp;
+use csub_text::BinOp;
 use csub_types::{IntKind, common, convert, promote};
 
 /// Whether every constant is a number of its kind, and every operation has the kind that its operator and operands

@@ -3,10 +3,11 @@ use crate::expression::RExpr;
 use crate::function::{Function, RCall, RPart, RStmt};
 use crate::label::{Answer, CallLabel, Label};
 use crate::program::Program;
-use csub_lex::{Span, Text};
+use csub_text::{Span, Text};
 use csub_types::IntKind;
 use std::alloc::{AllocError, Global};
 use std::test::Fail;
+use std::thread;
 
 const NOWHERE: Span = Span { start: 0, end: 0 };
 
@@ -200,5 +201,29 @@ fn a_program_has_at_most_10000_points_and_edges(rt: HostRuntime) -> Result<(), F
             "at {points} and {tests}"
         );
     }
+    Ok(())
+}
+
+/// The program of an empty `main`.
+fn smallest(alloc: Global) -> Option<Program> {
+    Program::make(program(alloc, Vec::new(alloc)).ok()?)
+}
+
+#[test]
+fn a_program_goes_between_threads(rt: HostRuntime) -> Result<(), Fail> {
+    let alloc = rt.alloc();
+    let mut programs = Vec::new(alloc);
+    programs.push(smallest(alloc).ok_or("refused")?)?;
+    programs.push(smallest(alloc).ok_or("refused")?)?;
+    let read_and_make = |_start: usize, chunk: &[Program]| -> Option<Program> {
+        if chunk.first()?.functions().len() == 2 {
+            smallest(alloc)
+        } else {
+            None
+        }
+    };
+    let made = thread::map_chunks(&rt, alloc, &programs, 1, &read_and_make)?;
+    assert_eq!(rt; made.len(), 2);
+    assert!(rt; made.iter().all(|program| program.is_some()));
     Ok(())
 }
