@@ -7,3 +7,4 @@ pub mod Labelled
 pub mod Turns
 pub mod Written
 pub mod Decided
+pub mod Numbered

@@ -1,31 +1,32 @@
--- No run writes more than a run may, nor takes more turns than its budget.
-use Rattle.std.proofs.Common.{◌≡◌, ℕ, zero, suc, ◌+◌, ◌-◌, ◌<◌, ◌≤◌, ℤ, pos, List, [], ◌∷◌, ◌++◌, length, Bool, true, false, Option, Some, None, Result, Ok, Err, nat_lt, nat_le, int_eq, refl, sym, ap, subst, arith, length-append, if◌then◌else◌}
+-- No run writes more than a run may, nor anything but bytes, nor takes more turns than its budget.
+use Rattle.std.proofs.Common.{◌≡◌, ℕ, zero, suc, ◌+◌, ◌-◌, ◌<◌, ◌≤◌, ℤ, pos, negsuc, List, [], ◌∷◌, ◌++◌, length, Bool, true, false, Option, Some, None, Result, Ok, Err, nat_lt, nat_le, All, refl, sym, subst, arith, length-append, if◌then◌else◌}
 use Rattle.std.proofs.lemmas.Bool.{ltb-true}
-use Rattle.csub_text.specs.declared.operator.BinOp.{BinOp}
-use Rattle.csub_types.specs.declared.kind.IntKind.{IntKind}
+use Rattle.std.proofs.lemmas.List.Elements.{All-nil, All-cons, All-append}
 use Rattle.csub_types.specs.declared.kind.IntKind.TheVariants.{Int}
 use Rattle.csub_types.specs.declared.trap.Trap.{Trap as TrapKind}
 use Rattle.csub_types.specs.declared.trap.Trap.TheVariants.{Depth, Flood}
-use Rattle.csub_types.specs.Kinds.{convert}
 use Rattle.csub_core.specs.declared.label.EndRule.{EndRule}
 use Rattle.csub_core.specs.declared.label.EndRule.TheVariants.{Nothing, Value, Main, Start}
-use Rattle.csub_core.specs.declared.status.Status.{Status}
-use Rattle.csub_core.specs.declared.status.Status.TheVariants.{Exit, Trap, Turns}
-use Rattle.csub_core.specs.Types.{Name, MemberTree, number_kind}
+use Rattle.csub_core.specs.declared.status.Status.TheVariants.{Trap, Turns}
+use Rattle.csub_core.specs.Types.{Name, MemberTree}
 use Rattle.csub_core.specs.Trees.{NamedPlace, NamedExpr, NamedArg, constant, reading, variable, temporary, operation, input_byte, output_byte, value_argument}
-use Rattle.csub_core.specs.Labels.{LabelTree, enters, exits, evaluates, branches, returns, calls, CallTree, PointLabel}
-use Rattle.csub_core.specs.Points.{PointTree, ExitTree, next, on_true, on_false}
+use Rattle.csub_core.specs.Labels.{LabelTree, enters, exits, evaluates, branches, returns, calls, PointLabel}
+use Rattle.csub_core.specs.Points.{PointTree, ExitTree, next}
 use Rattle.csub_core.specs.Flows.{Flow, Edge}
-use Rattle.csub_core.specs.Memory.{State, Answer, value, trapped, then_do, given, found, get_byte, put_byte, low_byte, most_output}
-use Rattle.csub_core.specs.Evaluation.{fetch, locate, eval, computed}
-use Rattle.csub_core.specs.Cells.{Spot, Content, number, named, entered}
-use Rattle.csub_core.specs.Acts.{Store, Outcome, leaves, gives, pushes, pops, ends, after_value, argument_content, argument_contents, most_frames, act_call, act_exit, act_return, act}
-use Rattle.csub_core.specs.Runs.{Frame, Standing, Turn, goes, stops, lost, cross, put_result, come_back, come_back_to, pop, follow, turn_at, turn_of, turn, Moment, running, ended, nowhere, after_turn, go_on, after, results_at, Results, run_of}
-use Rattle.program_laws.specs.Bounds.{IsBounded, RunsAreBounded}
+use Rattle.csub_core.specs.Memory.{Answer, value, trapped, then_do, given, found, get_byte, put_byte, low_byte, most_output}
+use Rattle.csub_core.specs.Evaluation.{fetch, locate, eval}
+use Rattle.csub_core.specs.Cells.{Spot, named, entered}
+use Rattle.csub_core.specs.Acts.{Store, Outcome, leaves, gives, pushes, pops, ends, after_value, argument_content, argument_contents, most_frames, act_exit, act}
+use Rattle.csub_core.specs.Runs.{Frame, Turn, goes, stops, lost, cross, put_result, come_back, come_back_to, pop, follow, turn_at, turn_of, turn, Moment, running, ended, nowhere, after_turn, go_on, after, results_at, Results}
+use Rattle.program_laws.specs.Bounds.{IsExitStatus, IsBounded, RunsAreBounded}
 
--- what was written is no more than a run may write
+-- what was written is no more than a run may write, and bytes
 abbrev IsShort : Store → Type 0
-IsShort s = length s.output ≤ most_output
+IsShort s = (length s.output ≤ most_output) × All (λ b. b < 256) s.output
+
+below_256 : (v : ℤ) → low_byte v < 256
+below_256 (pos n) = omega arith
+below_256 (negsuc n) = omega arith
 
 abbrev LeavesShort : {X : Type 0} → Answer X Store → Type 0
 LeavesShort (value v s) = IsShort s
@@ -35,16 +36,16 @@ short_then : {X Y : Type 0} (a : Answer X Store) (go : X → Store → Answer Y 
 short_then (value v s) go short each = each v s short
 short_then (trapped t s) go short each = short
 
-short_pick : (b : ℕ) (s : Store) (small : Bool) → nat_lt (length s.output) most_output ≡ small → IsShort s →
+short_pick : (b : ℕ) (s : Store) (small : Bool) → b < 256 → nat_lt (length s.output) most_output ≡ small → IsShort s →
     LeavesShort {X = Unit {0}} (if small then value tt (record s { output = s.output ++ b ∷ [] }) else trapped Flood s)
-short_pick b s true is short =
+short_pick b s true byte is short =
     let below : length s.output < most_output = ltb-true (length s.output) most_output is in
     let grown : length (s.output ++ b ∷ []) ≡ length s.output + 1 = length-append s.output (b ∷ []) in
-    subst (λ n. n ≤ most_output) (sym grown) (omega (arith, below))
-short_pick b s false is short = short
+    (subst (λ n. n ≤ most_output) (sym grown) (omega (arith, below)), All-append (λ c. c < 256) s.output (b ∷ []) short.1 (All-cons (λ c. c < 256) b [] byte (All-nil (λ c. c < 256))))
+short_pick b s false byte is short = short
 
-short_put : (b : ℕ) (s : Store) → IsShort s → LeavesShort {X = Unit {0}} (put_byte b s)
-short_put b s short = short_pick b s (nat_lt (length s.output) most_output) refl short
+short_put : (b : ℕ) (s : Store) → b < 256 → IsShort s → LeavesShort {X = Unit {0}} (put_byte b s)
+short_put b s byte short = short_pick b s (nat_lt (length s.output) most_output) byte refl short
 
 short_found : {X : Type 0} (o : Option X) (s : Store) → IsShort s → LeavesShort (found o s)
 short_found None s short = short
@@ -72,19 +73,19 @@ short_eval h (operation op k a b) s short =
     (λ v t below. short_then (eval (named h) b t) _ (short_eval h b t below) (λ w u under. short_given _ u under))
 short_eval h input_byte s short = short_input s s.input short
 short_eval h (output_byte e) s short =
-    short_then (eval (named h) e s) _ (short_eval h e s short) (λ v t below. short_then (put_byte (low_byte v) t) _ (short_put (low_byte v) t below) (λ x u under. under))
+    short_then (eval (named h) e s) _ (short_eval h e s short) (λ v t below. short_then (put_byte (low_byte v) t) _ (short_put (low_byte v) t (below_256 v) below) (λ x u under. under))
 
--- what an act leaves
+-- what an act leaves; a run ends with a status that is a byte
 abbrev EndsShort : Outcome → Type 0
 EndsShort (leaves x r s) = IsShort s
 EndsShort (gives v s) = IsShort s
 EndsShort (pushes g s) = IsShort s
 EndsShort (pops r s) = IsShort s
-EndsShort (ends t s) = IsShort s
+EndsShort (ends t s) = IsShort s × IsExitStatus t
 
 short_after : {X : Type 0} (a : Answer X Store) (go : X → Store → Outcome) → LeavesShort a → ((v : X) (s : Store) → IsShort s → EndsShort (go v s)) → EndsShort (after_value a go)
 short_after (value v s) go short each = each v s short
-short_after (trapped t s) go short each = short
+short_after (trapped t s) go short each = (short, tt)
 
 short_argument : (h : ℕ) (p : MemberTree) (a : NamedArg) (s : Store) → IsShort s → LeavesShort (argument_content h p a s)
 short_argument h p (value_argument e) s short = short_then (eval (named h) e s) _ (short_eval h e s short) (λ v t below. below)
@@ -97,17 +98,17 @@ short_arguments h (p ∷ params) (a ∷ args) s short =
     (λ c t below. short_then (argument_contents h params args t) _ (short_arguments h params args t below) (λ cs u under. under))
 
 short_push : (deep : Bool) (g : Name) (s t : Store) → IsShort s → IsShort t → EndsShort (if deep then ends (Trap Depth) s else pushes g t)
-short_push true g s t short below = short
+short_push true g s t short below = (short, tt)
 short_push false g s t short below = below
 
 short_exit : (rule : EndRule) (n : ℕ) (r : Option ℤ) (s : Store) → IsShort s → EndsShort (act_exit rule n r s)
 short_exit Nothing n r s short = short
-short_exit Value n None s short = short
+short_exit Value n None s short = (short, tt)
 short_exit Value n (Some v) s short = short
 short_exit Main n None s short = short
 short_exit Main n (Some v) s short = short
 short_exit Start n r s short =
-    short_after (eval (named (n - 1)) (reading (variable (temporary 1 Int))) s) _ (short_eval (n - 1) (reading (variable (temporary 1 Int))) s short) (λ v t below. below)
+    short_after (eval (named (n - 1)) (reading (variable (temporary 1 Int))) s) _ (short_eval (n - 1) (reading (variable (temporary 1 Int))) s short) (λ v t below. (below, below_256 v))
 
 short_act : (l : LabelTree) (n : ℕ) (r : Option ℤ) (s : Store) → IsShort s → EndsShort (act l n r s)
 short_act enters n r s short = short
@@ -123,7 +124,7 @@ short_act (calls c) n r s short =
 -- where a turn comes to
 abbrev TurnsShort : Turn → Type 0
 TurnsShort (goes c at) = IsShort at.store
-TurnsShort (stops t s) = IsShort s
+TurnsShort (stops t s) = IsShort s × IsExitStatus t
 TurnsShort lost = Unit {0}
 
 short_cross : (top : Frame) (below : List Frame) (x : ExitTree) (r : Option ℤ) (s : Store) (to : Option PointTree) → IsShort s → TurnsShort (cross top below x r s to)
@@ -171,30 +172,30 @@ short_turn P (top ∷ below) s short = short_turn_at P top below s (P.label top.
 -- a moment after k turns: what was written is short, and a run that has ended took no more turns
 abbrev IsBoundedAt : ℕ → Moment → Type 0
 IsBoundedAt k (running es at) = IsShort at.store
-IsBoundedAt k (ended es n t s) = IsShort s × (n ≤ k)
+IsBoundedAt k (ended es n t s) = IsShort s × (n ≤ k) × IsExitStatus t
 IsBoundedAt k nowhere = Unit {0}
 
 bounded_turn : (k : ℕ) (es : List Edge) (t : Turn) → TurnsShort t → IsBoundedAt (suc k) (after_turn k es t)
 bounded_turn k es (goes c at) short = short
-bounded_turn k es (stops t s) short = (short, omega arith)
+bounded_turn k es (stops t s) short = (short.0, omega arith, short.1)
 bounded_turn k es lost short = tt
 
 bounded_on : (P : Flow) (k : ℕ) (m : Moment) → IsBoundedAt k m → IsBoundedAt (suc k) (go_on P k m)
 bounded_on P k (running es at) short = bounded_turn k es (turn P at) (short_turn P at.frames at.store short)
-bounded_on P k (ended es n t s) h = (h.0, omega (arith, h.1))
+bounded_on P k (ended es n t s) h = (h.0, omega (arith, h.1), h.2)
 bounded_on P k nowhere h = tt
 
 bounded_after : (P : Flow) (input : List ℕ) (k : ℕ) → IsBoundedAt k (after P input k)
-bounded_after P input zero = omega arith
+bounded_after P input zero = (omega arith, All-nil (λ b. b < 256))
 bounded_after P input (suc k) = bounded_on P k (after P input k) (bounded_after P input k)
 
 bounded_results : (k : ℕ) (m : Moment) (r : Results) → IsBoundedAt k m → results_at k m ≡ Some r → IsBounded k r
 bounded_results k (running es at) r h is =
     let same : record { status = Turns; output = at.store.output; turns = k; crossed = es } ≡ r = cc in
-    subst (IsBounded k) same (record { turns = omega arith; output = h })
+    subst (IsBounded k) same (record { turns = omega arith; output = h.0; bytes = h.1; status = tt })
 bounded_results k (ended es n t s) r h is =
     let same : record { status = t; output = s.output; turns = n; crossed = es } ≡ r = cc in
-    subst (IsBounded k) same (record { turns = h.1; output = h.0 })
+    subst (IsBounded k) same (record { turns = h.1; output = h.0.0; bytes = h.0.1; status = h.2 })
 bounded_results k nowhere r h is = absurd (cc)
 
 pub bounded : (P : Flow) → RunsAreBounded P

@@ -3,3 +3,4 @@ pub mod Flows
 pub mod Lost
 pub mod Bounds
 pub mod Decided
+pub mod Numbered

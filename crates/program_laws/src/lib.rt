@@ -1,8 +1,9 @@
 //! Laws of the definitions of `csub_core`: what holds of every valid program, of every act and of every label.
 //!
 //! Each law is the contract of a function without parameters, whose body does nothing: [`never_lost`] says that a run
-//! of a valid program never gets stuck, [`bounds`] what bounds its results, [`flows`] what lockstep asks of a program, [`outcomes`] which outcomes a label
-//! may have, and [`decided_labels`] that labels can be compared.
+//! of a valid program never gets stuck, [`bounds`] what bounds its results, [`flows`] what lockstep asks of a program,
+//! [`edges`] that what a run crosses has a number, [`outcomes`] which outcomes a label may have, and [`decided_labels`]
+//! that labels can be compared.
 #![tactic(auto)]
 
 ghost use Rattle.std.specs.Prelude.{ℕ, ℤ, Option};
@@ -16,6 +17,7 @@ ghost use Rattle.program_laws.specs.Flows.{IsFlow};
 ghost use Rattle.program_laws.specs.Lost.{NeverLost, HasResults};
 ghost use Rattle.program_laws.specs.Bounds.{RunsAreBounded};
 ghost use Rattle.program_laws.specs.Decided.{Decided};
+ghost use Rattle.program_laws.specs.Numbered.{EdgesHaveNumbers};
 
 /// A run of a valid program is never lost, so that it has results within every budget of turns.
 pub fn never_lost()
@@ -38,7 +40,13 @@ pub fn decided_labels()
     ensures { (a b : PointLabel) → Decided a b }
 {}
 
-/// The results of a run are bounded: its turns by its budget, its output by what a run may write.
+/// The results of a run are bounded: its turns by its budget, its output by what a run may write, and its output and the
+/// status with which it exits are bytes.
 pub fn bounds()
     ensures { (P : Flow) → RunsAreBounded P }
+{}
+
+/// Each way out along which a point leads on is an edge with a number.
+pub fn edges()
+    ensures { (P : ProgramTree) → EdgesHaveNumbers P }
 {}
