@@ -5,3 +5,4 @@ pub mod ValidParts
 pub mod ValidPrograms
 pub mod ValidStmts
 pub mod ValidStart
+pub mod Threads
