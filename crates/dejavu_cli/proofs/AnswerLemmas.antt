@@ -1,73 +1,59 @@
 -- From what the steps of `record` answer to its cause or its text.
-use Rattle.std.proofs.Common.{◌≡◌, ℕ, ◌+◌, ◌<◌, ◌≤◌, ◌⊎◌, List, length, take, Option, Some, Result, Ok, Err, IfOk, IfErr, MatchResult, sym, ap, ◌∙◌, subst, arith, inl, inr}
+use Rattle.std.proofs.Common.{◌≡◌, ℕ, List, length, Option, Some, Result, Ok, Err, IfOk, IfErr, MatchResult, sym, ap, ◌∙◌, subst, arith}
 use Rattle.std.specs.declared.vec.Vec.{Vec}
 use Rattle.std.specs.declared.alloc.Global.{Global}
-use Rattle.std.proofs.lemmas.List.{length-take}
-use Rattle.std.proofs.lemmas.Grind.{common_steps}
 use Rattle.dv_outside.specs.Outside.{Files, file_at, IsFetched}
 use Rattle.csub_core.specs.Syntax.{ProgramTree}
 use Rattle.read_small.specs.Small.{IsSmall}
 use Rattle.test_suite.specs.Tests.{TestParts}
-use Rattle.dejavu_cli.specs.Words.{Command, record_files}
-use Rattle.dejavu_cli.specs.Record.{IsSmallSuite, IsHistoryOf}
-use Rattle.dejavu_cli.specs.Steps.{IsSourceCause, IsSuiteCause, IsTextCause, HasRecordText, HasLongText}
-use Rattle.dejavu_cli.specs.Answers.{HasText, HasHistory, HasCauseOf}
+use Rattle.dejavu_cli.specs.Words.{record_files}
+use Rattle.dejavu_cli.specs.Record.{IsSmallSuite}
+use Rattle.dejavu_cli.specs.Steps.{IsSourceCause, IsSuiteCause, IsTextCause, HasRecordText}
+use Rattle.dejavu_cli.specs.Answers.{HasTextOf, HasCauseOf, HasBadSource}
+use Rattle.dejavu_cli.specs.declared.refusal.Role.{Role}
+use Rattle.dejavu_cli.specs.declared.refusal.Role.TheVariants as role
 use Rattle.dejavu_cli.specs.declared.refusal.Refusal.{Refusal}
 use Rattle.dejavu_cli.specs.declared.refusal.Refusal.TheVariants as refusal
-
--- a beginning of a list that is shorter than was asked for is the whole list
-whole_file : (most : ℕ) (whole bytes : List ℕ) → bytes ≡ take most whole → length bytes < most → bytes ≡ whole
-whole_file most whole bytes is short =
-    let count : length bytes ≡ length (take most whole) = ap length is in
-    grind (arith, common_steps, is, count, short, length-take most whole)
-
-short_file : (most : ℕ) (whole bytes : List ℕ) → bytes ≡ take most whole → length whole < most → bytes ≡ whole
-short_file most whole bytes is short = grind (arith, common_steps, is, short)
+use Rattle.dejavu_cli.proofs.SourceLemmas.{short_file, found_file, has_source, has_no_source}
 
 module _ (s t : List ℕ) (told : Option Files) (before now : List ℕ → ℕ) (source : List ℕ) (fetched : IsFetched told s 1048577 source) where
-  pub bad_source : (r : Refusal) → IsSourceCause source r → HasCauseOf (record_files s t) told before now r
+  pub bad_source : (r : Refusal) → IsSourceCause role.Source source r → HasCauseOf (record_files s t) told before now r
   bad_source refusal.Usage cause = absurd cause
-  bad_source refusal.Source cause = λ files at.
-      let file = fetched files at in
-      (file.0, file.1, λ P small. cause P (subst (λ bytes. IsSmall bytes P) (sym (short_file 1048577 file.0 source file.2 (omega (arith, small.size)))) small))
+  bad_source (refusal.Source which) cause =
+      subst (λ (named : Role). HasBadSource (record_files s t) named told) (sym cause.0) (has_no_source told s source fetched cause.1)
   bad_source refusal.Suite cause = absurd cause
+  bad_source refusal.History cause = absurd cause
   bad_source refusal.ReadFault cause = absurd cause
   bad_source refusal.Memory cause = tt
   bad_source (refusal.TooMuch n) cause = absurd cause
 
   module _ (P : ProgramTree) (small : IsSmall source P) (mid : Option Files) (same : mid ≡ told) (suite : List ℕ) (taken : IsFetched mid t 16777217 suite) where
-    -- the whole source
     whole_source : (files : Files) → told ≡ Some files → file_at files s ≡ Some source
-    whole_source files at =
-        let file = fetched files at in
-        let is : source ≡ file.0 = whole_file 1048577 file.0 source file.2 (omega (arith, small.size)) in
-        file.1 ∙ ap Some (sym is)
+    whole_source files at = (has_source told s source fetched P small files at).found
 
     pub bad_suite : (r : Refusal) → IsSuiteCause suite r → HasCauseOf (record_files s t) told before now r
     bad_suite refusal.Usage cause = absurd cause
-    bad_suite refusal.Source cause = absurd cause
+    bad_suite (refusal.Source which) cause = absurd cause
     bad_suite refusal.Suite cause = λ files at.
-        let file = taken files (same ∙ at) in (
-          (source, P, whole_source files at, small),
-          (
-            file.0,
-            file.1,
-            λ tests reads. cause tests
-                (subst (λ bytes. IsSmallSuite bytes tests) (sym (short_file 16777217 file.0 suite file.2 (omega (arith, ap length reads.says.is, reads.suite.short)))) reads),
-          ),
-        )
+        let file = taken files (same ∙ at) in
+        record {
+          program = P;
+          source = has_source told s source fetched P small files at;
+          bytes = file.0;
+          found = file.1;
+          none = λ tests reads. cause tests
+              (subst (λ bytes. IsSmallSuite bytes tests) (sym (short_file 16777217 file.0 suite file.2 (omega (arith, ap length reads.says.is, reads.suite.short)))) reads);
+        }
+    bad_suite refusal.History cause = absurd cause
     bad_suite refusal.ReadFault cause = absurd cause
     bad_suite refusal.Memory cause = tt
     bad_suite (refusal.TooMuch n) cause = absurd cause
 
     module _ (tests : List TestParts) (reads : IsSmallSuite suite tests) where
       whole_suite : (files : Files) → told ≡ Some files → file_at files t ≡ Some suite
-      whole_suite files at =
-          let file = taken files (same ∙ at) in
-          let is : suite ≡ file.0 = whole_file 16777217 file.0 suite file.2 (omega (arith, ap length reads.says.is, reads.suite.short)) in
-          file.1 ∙ ap Some (sym is)
+      whole_suite files at = found_file mid t 16777217 suite taken (omega (arith, ap length reads.says.is, reads.suite.short)) files (same ∙ at)
 
-      pub has_text : (text : List ℕ) → HasRecordText source P tests text → HasText (record_files s t) told text
+      pub has_text : (text : List ℕ) → HasRecordText source P tests text → HasTextOf (Some (record_files s t)) told text
       has_text text h = λ files at. (
         h.history,
         record {
@@ -85,8 +71,9 @@ module _ (s t : List ℕ) (told : Option Files) (before now : List ℕ → ℕ) 
 
       pub no_text : (r : Refusal) → IsTextCause source P tests r → HasCauseOf (record_files s t) told before now r
       no_text refusal.Usage cause = absurd cause
-      no_text refusal.Source cause = absurd cause
+      no_text (refusal.Source which) cause = absurd cause
       no_text refusal.Suite cause = absurd cause
+      no_text refusal.History cause = absurd cause
       no_text refusal.ReadFault cause = absurd cause
       no_text refusal.Memory cause = tt
       no_text (refusal.TooMuch n) cause = λ files at. (
@@ -106,7 +93,7 @@ module _ (s t : List ℕ) (told : Option Files) (before now : List ℕ → ℕ) 
 
       pub answered : (r : Result (Vec ℕ Global) Refusal) (read : List ℕ) (run : List TestParts) → read ≡ source → run ≡ tests
           → IfOk r (λ text. HasRecordText read P run text.items) → IfErr r (IsTextCause read P run)
-          → MatchResult r (λ text. HasText (record_files s t) told text.items) (HasCauseOf (record_files s t) told before now)
+          → MatchResult r (λ text. HasTextOf (Some (record_files s t)) told text.items) (HasCauseOf (record_files s t) told before now)
       answered (Ok text) read run is are done failed =
           let whole = subst (λ (bytes : List ℕ). HasRecordText bytes P run text.items) is done in
           has_text text.items (subst (λ (each : List TestParts). HasRecordText source P each text.items) are whole)

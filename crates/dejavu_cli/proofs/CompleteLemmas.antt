@@ -1,50 +1,110 @@
--- Where nothing stands in its way, `record` is done, or too long, or memory was wanted.
-use Rattle.std.proofs.Common.{◌≡◌, ℕ, List, Option, Some, refl, sym, ◌∙◌, subst, inl, inr, ◌⊎◌}
+-- Where nothing stands in its way a command is done; or for `record` the history is too long, or memory was wanted.
+use Rattle.std.proofs.Common.{◌≡◌, ℕ, List, Option, Some, None, refl, ◌∙◌, subst, inl, inr, ◌⊎◌}
 use Rattle.dv_outside.specs.Outside.{Files, file_at, Rose}
 use Rattle.csub_core.specs.Syntax.{ProgramTree}
-use Rattle.read_small.specs.Small.{IsSmall}
+use Rattle.read_small.specs.Small.{IsSmall, MeansOneProgram}
 use Rattle.test_suite.specs.Tests.{TestParts}
-use Rattle.dejavu_cli.specs.Words.{Command, record_files, command_of}
+use Rattle.test_history.specs.Histories.{HistoryParts}
+use Rattle.dejavu_cli.specs.Words.{Command, record_files, select_files, command_of}
 use Rattle.dejavu_cli.specs.Record.{IsSmallSuite}
-use Rattle.dejavu_cli.specs.Answers.{HasCause, HasCauseOf, Says, Refuses, IsComplete, status_of, refusal_line}
+use Rattle.dejavu_cli.specs.Select.{IsHistoryFile}
+use Rattle.dejavu_cli.specs.Answers.{HasSource, HasNoSource, HasNoSuite, HasNoHistory, HasReadFault, AreReady, IsDone, HasCause, HasCauseOf, Decides, Says, Refuses, IsComplete, status_of, refusal_line}
+use Rattle.dejavu_cli.specs.declared.refusal.Role.TheVariants as role
 use Rattle.dejavu_cli.specs.declared.refusal.Refusal.{Refusal}
 use Rattle.dejavu_cli.specs.declared.refusal.Refusal.TheVariants as refusal
 use Rattle.dejavu_cli.specs.declared.status.Status8.{Status8}
 use Rattle.dejavu_cli.specs.declared.status.Status8.TheVariants as status
 
+-- ---- files that are ready are not refused
+
+one_file : (files : Files) (name a b : List ℕ) → file_at files name ≡ Some a → file_at files name ≡ Some b → a ≡ b
+one_file files name a b first second = cc
+
+good_source : (files : Files) (name : List ℕ) (P : ProgramTree) → HasSource files name P → HasNoSource files name → ⊥
+good_source files name P good bad =
+    bad.none P (subst (λ (bytes : List ℕ). IsSmall bytes P) (one_file files name good.bytes bad.bytes good.found bad.found) good.small)
+
+good_suite : (files : Files) (s t suite : List ℕ) (tests : List TestParts) → file_at files t ≡ Some suite → IsSmallSuite suite tests → HasNoSuite files s t → ⊥
+good_suite files s t suite tests found reads bad =
+    bad.none tests (subst (λ (bytes : List ℕ). IsSmallSuite bytes tests) (one_file files t suite bad.bytes found bad.found) reads)
+
+good_history : (files : Files) (o n h : List ℕ) (P : ProgramTree) (source : HasSource files o P) (bytes : List ℕ) (history : HistoryParts) → MeansOneProgram
+    → file_at files h ≡ Some bytes → IsHistoryFile source.bytes bytes P history → HasNoHistory files o n h → ⊥
+good_history files o n h P source bytes history one found is bad =
+    let first : source.bytes ≡ bad.old_source.bytes = one_file files o source.bytes bad.old_source.bytes source.found bad.old_source.found in
+    let second : bytes ≡ bad.bytes = one_file files h bytes bad.bytes found bad.found in
+    let program : P ≡ bad.old = one bad.old_source.bytes P bad.old (subst (λ (b : List ℕ). IsSmall b P) first source.small) bad.old_source.small in
+    bad.none history
+    (subst (λ (Q : ProgramTree). IsHistoryFile bad.old_source.bytes bad.bytes Q history) program
+    (subst (λ (b : List ℕ). IsHistoryFile bad.old_source.bytes b P history) second (subst (λ (b : List ℕ). IsHistoryFile b bytes P history) first is)))
+
+-- the statuses that are left
+abbrev IsLeft : Command → Status8 → Type 0
+IsLeft (record_files s t) answer = (answer ≡ status.TooMuch) ⊎ (answer ≡ status.Memory)
+IsLeft (select_files o n h) answer = answer ≡ status.Memory
+
 module _ (words : List (List ℕ)) (told : Option Files) (before now : List ℕ → ℕ) (b n : Option (List ℕ)) (fb fn : ℕ) (answer : Status8) where
+  is_done : (c : Command) → answer ≡ status.Done → IsDone c answer
+  is_done (record_files s t) is = inl is
+  is_done (select_files o m h) is = inl is
+
+  memory_cause : (c : Option Command) → HasCause c told before now refusal.Memory
+  memory_cause None = tt
+  memory_cause (Some c) = tt
+
+  pub refused : (r : Refusal) → HasCause (command_of words) told before now r → Refuses b n fb fn r answer
+      → (s : Status8) × (text : List ℕ) × Decides words told before now s text × Says b n fb fn s text answer
+  refused r cause (inl says) = (status_of r, refusal_line r, inr (r, refl, refl, cause), says)
+  refused r cause (inr says) = (status.Memory, refusal_line refusal.Memory, inr (refusal.Memory, refl, refl, memory_cause (command_of words)), says)
+
   pub complete_done : (text : List ℕ) → Says b n fb fn status.Done text answer → IsComplete words told before now fb fn answer
-  complete_done text says files at s t is source P found small suite tests suite_found reads source_read suite_read written =
-      elim says [ inl h ↦ inl h.0 | inr h ↦ absurd (written h.1) ]
+  complete_done text says files at c is ready read written = elim says [ inl h ↦ is_done c h.0 | inr h ↦ absurd (written h.1) ]
 
-  left_over : (files : Files) → told ≡ Some files → (s t : List ℕ) (source : List ℕ) (P : ProgramTree) → file_at files s ≡ Some source → IsSmall source P
-      → (suite : List ℕ) (tests : List TestParts) → file_at files t ≡ Some suite → IsSmallSuite suite tests
-      → ¬ Rose (before s) (now s) → ¬ Rose (before t) (now t)
-      → (r : Refusal) → HasCauseOf (record_files s t) told before now r → (status_of r ≡ status.TooMuch) ⊎ (status_of r ≡ status.Memory)
-  left_over files at s t source P found small suite tests suite_found reads source_read suite_read refusal.Usage cause = absurd cause
-  left_over files at s t source P found small suite tests suite_found reads source_read suite_read refusal.Source cause =
-      let bad = cause files at in
-      let e = bad.1 in
-      let same : bad.0 ≡ source = cc in
-      absurd (bad.2 P (subst (λ (bytes : List ℕ). IsSmall bytes P) (sym same) small))
-  left_over files at s t source P found small suite tests suite_found reads source_read suite_read refusal.Suite cause =
-      let bad = (cause files at).1 in
-      let e = bad.1 in
-      let same : bad.0 ≡ suite = cc in
-      absurd (bad.2 tests (subst (λ (bytes : List ℕ). IsSmallSuite bytes tests) (sym same) reads))
-  left_over files at s t source P found small suite tests suite_found reads source_read suite_read refusal.ReadFault cause =
-      elim cause [ inl h ↦ absurd (source_read h) | inr h ↦ absurd (suite_read h) ]
-  left_over files at s t source P found small suite tests suite_found reads source_read suite_read refusal.Memory cause = inr refl
-  left_over files at s t source P found small suite tests suite_found reads source_read suite_read (refusal.TooMuch m) cause = inl refl
+  left_of_record : (files : Files) → told ≡ Some files → (s t : List ℕ) → AreReady (record_files s t) files → ¬ HasReadFault (record_files s t) before now
+      → (r : Refusal) → HasCauseOf (record_files s t) told before now r → IsLeft (record_files s t) (status_of r)
+  left_of_record files at s t ready read refusal.Usage cause = absurd cause
+  left_of_record files at s t ready read (refusal.Source role.Source) cause = absurd (good_source files s ready.0.0 ready.0.1 (cause files at))
+  left_of_record files at s t ready read (refusal.Source role.Old) cause = absurd cause
+  left_of_record files at s t ready read (refusal.Source role.New) cause = absurd cause
+  left_of_record files at s t ready read refusal.Suite cause = absurd (good_suite files s t ready.1.0 ready.1.1 ready.1.2 ready.1.3 (cause files at))
+  left_of_record files at s t ready read refusal.History cause = absurd cause
+  left_of_record files at s t ready read refusal.ReadFault cause = absurd (read cause)
+  left_of_record files at s t ready read refusal.Memory cause = inr refl
+  left_of_record files at s t ready read (refusal.TooMuch m) cause = inl refl
 
-  said : (r : Refusal) → (status_of r ≡ status.TooMuch) ⊎ (status_of r ≡ status.Memory) → ¬ Rose fb fn → Refuses b n fb fn r answer
-      → (answer ≡ status.Done) ⊎ ((answer ≡ status.TooMuch) ⊎ (answer ≡ status.Memory))
-  said r which written (inl (inl h)) = elim which [ inl k ↦ inr (inl (h.0 ∙ k)) | inr k ↦ inr (inr (h.0 ∙ k)) ]
-  said r which written (inl (inr h)) = absurd (written h.1)
-  said r which written (inr (inl h)) = inr (inr h.0)
-  said r which written (inr (inr h)) = absurd (written h.1)
+  left_of_select : (files : Files) → told ≡ Some files → MeansOneProgram → (o m h : List ℕ) → AreReady (select_files o m h) files → ¬ HasReadFault (select_files o m h) before now
+      → (r : Refusal) → HasCauseOf (select_files o m h) told before now r → IsLeft (select_files o m h) (status_of r)
+  left_of_select files at one o m h ready read refusal.Usage cause = absurd cause
+  left_of_select files at one o m h ready read (refusal.Source role.Source) cause = absurd cause
+  left_of_select files at one o m h ready read (refusal.Source role.Old) cause = absurd (good_source files o ready.0 ready.2 (cause files at))
+  left_of_select files at one o m h ready read (refusal.Source role.New) cause = absurd (good_source files m ready.1 ready.3 (cause files at).1)
+  left_of_select files at one o m h ready read refusal.Suite cause = absurd cause
+  left_of_select files at one o m h ready read refusal.History cause =
+      absurd (good_history files o m h ready.0 ready.2 ready.4 ready.5 one ready.6 ready.7 (cause files at))
+  left_of_select files at one o m h ready read refusal.ReadFault cause = absurd (read cause)
+  left_of_select files at one o m h ready read refusal.Memory cause = refl
+  left_of_select files at one o m h ready read (refusal.TooMuch k) cause = absurd cause
 
-  pub complete_refused : (r : Refusal) → HasCause (command_of words) told before now r → Refuses b n fb fn r answer → IsComplete words told before now fb fn answer
-  complete_refused r cause refuses files at s t is source P found small suite tests suite_found reads source_read suite_read written =
+  left_over : (files : Files) → told ≡ Some files → MeansOneProgram → (c : Command) → AreReady c files → ¬ HasReadFault c before now
+      → (r : Refusal) → HasCauseOf c told before now r → IsLeft c (status_of r)
+  left_over files at one (record_files s t) ready read r cause = left_of_record files at s t ready read r cause
+  left_over files at one (select_files o m h) ready read r cause = left_of_select files at one o m h ready read r cause
+
+  left_done : (c : Command) (s : Status8) → IsLeft c s → answer ≡ s → IsDone c answer
+  left_done (record_files s t) which left is = elim left [ inl k ↦ inr (inl (is ∙ k)) | inr k ↦ inr (inr (is ∙ k)) ]
+  left_done (select_files o m h) which left is = inr (is ∙ left)
+
+  memory_left : (c : Command) → IsLeft c status.Memory
+  memory_left (record_files s t) = inr refl
+  memory_left (select_files o m h) = refl
+
+  said : (c : Command) (r : Refusal) → IsLeft c (status_of r) → ¬ Rose fb fn → Refuses b n fb fn r answer → IsDone c answer
+  said c r left written (inl (inl h)) = left_done c (status_of r) left h.0
+  said c r left written (inl (inr h)) = absurd (written h.1)
+  said c r left written (inr (inl h)) = left_done c status.Memory (memory_left c) h.0
+  said c r left written (inr (inr h)) = absurd (written h.1)
+
+  pub complete_refused : MeansOneProgram → (r : Refusal) → HasCause (command_of words) told before now r → Refuses b n fb fn r answer → IsComplete words told before now fb fn answer
+  complete_refused one r cause refuses files at c is ready read written =
       let here = subst (λ (c : Option Command). HasCause c told before now r) is cause in
-      said r (left_over files at s t source P found small suite tests suite_found reads source_read suite_read r here) written refuses
+      said c r (left_over files at one c ready read r here) written refuses

@@ -1,5 +1,9 @@
 pub mod WordLemmas
 pub mod Zips
 pub mod RunLemmas
+pub mod SourceLemmas
 pub mod AnswerLemmas
+pub mod ChoiceLemmas
+pub mod Safety
+pub mod SelectionLemmas
 pub mod CompleteLemmas

@@ -1,5 +1,5 @@
 -- From what a machine shows to entries and histories.
-use Rattle.std.proofs.Common.{◌≡◌, ◌↔◌, ℕ, zero, suc, ◌+◌, ◌<◌, ◌≤◌, List, [], ◌∷◌, length, map, Bool, IsTrue, Option, Some, refl, sym, ap, ◌∙◌, subst, arith, All}
+use Rattle.std.proofs.Common.{◌≡◌, ◌↔◌, ℕ, suc, ◌≤◌, List, [], ◌∷◌, length, map, Bool, IsTrue, Some, refl, sym, ap, ◌∙◌, subst, arith, All}
 use Rattle.std.specs.List.{AllZip}
 use Rattle.std.proofs.lemmas.List.Elements.{All-cons, All-head, All-tail, All-nil}
 use Rattle.csub_core.specs.declared.function.Function.{Function}
@@ -7,14 +7,14 @@ use Rattle.csub_core.specs.declared.status.Status.{Status}
 use Rattle.csub_core.specs.Syntax.{ProgramTree, function_tree}
 use Rattle.csub_core.specs.Flows.{flow_of, edge_list}
 use Rattle.csub_core.specs.Numbers.{IsCrossed}
-use Rattle.csub_core.specs.Runs.{Results, run_of}
+use Rattle.csub_core.specs.Runs.{run_of}
 use Rattle.csub_core.specs.Valid.{IsValid}
 use Rattle.csub_machine.specs.Moments.{Seen, moment_of, output_of, turns_of, crossed_of, results_of}
 use Rattle.edge_trace.specs.Rows.{has}
 use Rattle.program_laws.specs.Bounds.{RunsAreBounded, IsBounded}
 use Rattle.test_suite.specs.Tests.{TestParts, IsWithin}
 use Rattle.test_history.specs.Histories.{EntryParts, HistoryParts, HaveRows, IsEntryWithin, IsHistoryWithin}
-use Rattle.dejavu_cli.specs.Record.{IsRowOf, IsEntry, IsHistory}
+use Rattle.dejavu_cli.specs.Record.{IsRowOf, IsEntry}
 
 -- what a machine shows after a whole run of a test is the test's entry
 pub entry_is : (program : List Function) (asked copy : TestParts) (entry : EntryParts) (status : Status) (old new : Seen) (input : List ℕ) (budget turns : ℕ) (output : List ℕ) (row : List Bool)

@@ -1,8 +1,7 @@
 -- What a reader of plain words still has to read.
-use Rattle.std.proofs.Common.{◌≡◌, ℕ, List, [], ◌∷◌, ◌++◌, Bool, true, false, Option, Some, None, String, refl, map}
+use Rattle.std.proofs.Common.{ℕ, List, ◌++◌, Bool, true, false, Option, Some}
 use Rattle.std.specs.Option.{option_map}
-use Rattle.std.specs.declared.alloc.Global.{Global}
-use Rattle.dejavu_cli.specs.Words.{plain_words, texts_of}
+use Rattle.dejavu_cli.specs.Words.{plain_words}
 
 -- behind `--` every word is plain
 abbrev pub rest_of : Bool → List (List ℕ) → Option (List (List ℕ))

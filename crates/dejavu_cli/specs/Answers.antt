@@ -1,5 +1,5 @@
 -- What is written, and when each answer comes.
-use Rattle.std.specs.Prelude.{ℕ, ◌≡◌, ◌<◌, ◌≤◌, ◌⊎◌, List, [], ◌∷◌, ◌++◌, length, Option, Some, None, codes}
+use Rattle.std.specs.Prelude.{ℕ, ◌≡◌, ◌<◌, ◌≤◌, ◌⊎◌, List, ◌++◌, length, Option, Some, None, codes}
 use Rattle.std.specs.Fmt.{decimal}
 use Rattle.dv_outside.specs.Outside.{Files, file_at, Rose, Appends, AppendsPrefix}
 use Rattle.csub_core.specs.Syntax.{ProgramTree}
@@ -7,8 +7,11 @@ use Rattle.read_small.specs.Small.{IsSmall}
 use Rattle.test_suite.specs.Tests.{TestParts}
 use Rattle.test_history.specs.Histories.{HistoryParts}
 use Rattle.test_history.specs.HistoryTexts.{history_text, most_history_bytes}
-use Rattle.dejavu_cli.specs.Words.{Command, record_files, command_of}
+use Rattle.dejavu_cli.specs.Words.{Command, record_files, select_files, command_of}
 use Rattle.dejavu_cli.specs.Record.{IsHistoryOf, IsSmallSuite}
+use Rattle.dejavu_cli.specs.Select.{IsHistoryFile, IsSelection}
+use Rattle.dejavu_cli.specs.declared.refusal.Role.{Role}
+use Rattle.dejavu_cli.specs.declared.refusal.Role.TheVariants as role
 use Rattle.dejavu_cli.specs.declared.refusal.Refusal.{Refusal}
 use Rattle.dejavu_cli.specs.declared.refusal.Refusal.TheVariants as refusal
 use Rattle.dejavu_cli.specs.declared.status.Status8.{Status8}
@@ -27,6 +30,20 @@ number_of status.WriteFault = 7
 number_of status.Memory = 8
 number_of status.TooMuch = 9
 
+-- ---- what the files hold
+
+-- the file of this name is there, and a small source of the program
+pub record HasSource (files : Files) (name : List ℕ) (P : ProgramTree) : Type 0 where
+  pub bytes : List ℕ
+  pub found : file_at files name ≡ Some bytes
+  pub small : IsSmall bytes P
+
+-- the file of this name is there, and no small source
+pub record HasNoSource (files : Files) (name : List ℕ) : Type 0 where
+  pub bytes : List ℕ
+  pub found : file_at files name ≡ Some bytes
+  pub none : (P : ProgramTree) → IsSmall bytes P → ⊥
+
 -- both files are there; the first is a small source, the second a small suite, and this is their history
 pub record HasHistory (files : Files) (source_name suite_name : List ℕ) (history : HistoryParts) : Type 0 where
   pub source : List ℕ
@@ -37,40 +54,94 @@ pub record HasHistory (files : Files) (source_name suite_name : List ℕ) (histo
   pub reads : IsSmallSuite suite tests
   pub is : IsHistoryOf source tests history
 
--- the text of a command, where the files are told
-abbrev pub HasText : Command → Option Files → List ℕ → Type 0
-HasText (record_files source suite) told text =
-    (files : Files) → told ≡ Some files →
+-- the first file is a small source, and the second is there and no small suite
+pub record HasNoSuite (files : Files) (source_name suite_name : List ℕ) : Type 0 where
+  pub program : ProgramTree
+  pub source : HasSource files source_name program
+  pub bytes : List ℕ
+  pub found : file_at files suite_name ≡ Some bytes
+  pub none : (tests : List TestParts) → IsSmallSuite bytes tests → ⊥
+
+-- the three files are there: two small sources, each of one program alone, and a history of the old one; this is the
+-- text of their selection
+pub record HasSelection (files : Files) (old_name new_name history_name text : List ℕ) : Type 0 where
+  pub old : ProgramTree
+  pub new : ProgramTree
+  pub old_source : HasSource files old_name old
+  pub new_source : HasSource files new_name new
+  pub old_alone : (P : ProgramTree) → IsSmall old_source.bytes P → P ≡ old
+  pub new_alone : (P : ProgramTree) → IsSmall new_source.bytes P → P ≡ new
+  pub bytes : List ℕ
+  pub found : file_at files history_name ≡ Some bytes
+  pub is : IsSelection old_source.bytes bytes old new text
+
+-- the first two files are small sources, and the third is there and no history of the first with few entries
+pub record HasNoHistory (files : Files) (old_name new_name history_name : List ℕ) : Type 0 where
+  pub old : ProgramTree
+  pub new : ProgramTree
+  pub old_source : HasSource files old_name old
+  pub new_source : HasSource files new_name new
+  pub bytes : List ℕ
+  pub found : file_at files history_name ≡ Some bytes
+  pub none : (history : HistoryParts) → IsHistoryFile old_source.bytes bytes old history → ⊥
+
+-- ---- the text of a command
+
+-- the text of a command by its files
+abbrev pub IsTextOf : Command → Files → List ℕ → Type 0
+IsTextOf (record_files source suite) files text =
     (history : HistoryParts) × HasHistory files source suite history × (text ≡ history_text history) × (length text ≤ most_history_bytes)
+IsTextOf (select_files old new history) files text = HasSelection files old new history text
 
--- the first file is no small source
-abbrev pub HasBadSource : Command → Option Files → Type 0
-HasBadSource (record_files source suite) told =
-    (files : Files) → told ≡ Some files →
-    (bytes : List ℕ) × (file_at files source ≡ Some bytes) × ((P : ProgramTree) → IsSmall bytes P → ⊥)
+-- what holds of the files, where they are told
+abbrev pub WhereTold : Option Files → (Files → Type 0) → Type 0
+WhereTold told Q = (files : Files) → told ≡ Some files → Q files
 
--- the first file is a small source, and the second is no small suite
+-- the text of a command, where the files are told; words that are no command have none
+abbrev pub HasTextOf : Option Command → Option Files → List ℕ → Type 0
+HasTextOf None told text = ⊥
+HasTextOf (Some c) told text = WhereTold told (λ files. IsTextOf c files text)
+
+-- ---- why a command isn't done
+
+-- the source in this role isn't accepted, and the sources before it are
+abbrev pub HasBadSource : Command → Role → Option Files → Type 0
+HasBadSource (record_files source suite) role.Source told = WhereTold told (λ files. HasNoSource files source)
+HasBadSource (record_files source suite) role.Old told = ⊥
+HasBadSource (record_files source suite) role.New told = ⊥
+HasBadSource (select_files old new history) role.Source told = ⊥
+HasBadSource (select_files old new history) role.Old told = WhereTold told (λ files. HasNoSource files old)
+HasBadSource (select_files old new history) role.New told =
+    WhereTold told (λ files. ((P : ProgramTree) × HasSource files old P) × HasNoSource files new)
+
+-- the source is accepted, and the suite isn't
 abbrev pub HasBadSuite : Command → Option Files → Type 0
-HasBadSuite (record_files source suite) told =
-    (files : Files) → told ≡ Some files →
-    ((bytes : List ℕ) × (P : ProgramTree) × (file_at files source ≡ Some bytes) × IsSmall bytes P)
-    × ((bytes : List ℕ) × (file_at files suite ≡ Some bytes) × ((tests : List TestParts) → IsSmallSuite bytes tests → ⊥))
+HasBadSuite (record_files source suite) told = WhereTold told (λ files. HasNoSuite files source suite)
+HasBadSuite (select_files old new history) told = ⊥
+
+-- both sources are accepted, and the history isn't
+abbrev pub HasBadHistory : Command → Option Files → Type 0
+HasBadHistory (record_files source suite) told = ⊥
+HasBadHistory (select_files old new history) told = WhereTold told (λ files. HasNoHistory files old new history)
 
 -- the count of faults of a named file rose
 abbrev pub HasReadFault : Command → (List ℕ → ℕ) → (List ℕ → ℕ) → Type 0
 HasReadFault (record_files source suite) before now = Rose (before source) (now source) ⊎ Rose (before suite) (now suite)
+HasReadFault (select_files old new history) before now =
+    Rose (before old) (now old) ⊎ (Rose (before new) (now new) ⊎ Rose (before history) (now history))
 
 -- the history would have more bytes than a history may have, so many
 abbrev pub HasTooMuch : Command → Option Files → ℕ → Type 0
-HasTooMuch (record_files source suite) told bytes =
-    (files : Files) → told ≡ Some files →
-    (history : HistoryParts) × HasHistory files source suite history × (bytes ≡ length (history_text history)) × (most_history_bytes < bytes)
+HasTooMuch (record_files source suite) told bytes = WhereTold told (λ files.
+    (history : HistoryParts) × HasHistory files source suite history × (bytes ≡ length (history_text history)) × (most_history_bytes < bytes))
+HasTooMuch (select_files old new history) told bytes = ⊥
 
 -- why a command isn't done; want of memory may come at any time before the write
 abbrev pub HasCauseOf : Command → Option Files → (List ℕ → ℕ) → (List ℕ → ℕ) → Refusal → Type 0
 HasCauseOf c told before now refusal.Usage = ⊥
-HasCauseOf c told before now refusal.Source = HasBadSource c told
+HasCauseOf c told before now (refusal.Source which) = HasBadSource c which told
 HasCauseOf c told before now refusal.Suite = HasBadSuite c told
+HasCauseOf c told before now refusal.History = HasBadHistory c told
 HasCauseOf c told before now refusal.ReadFault = HasReadFault c before now
 HasCauseOf c told before now refusal.Memory = Unit {0}
 HasCauseOf c told before now (refusal.TooMuch bytes) = HasTooMuch c told bytes
@@ -82,26 +153,32 @@ HasCause None told before now refusal.Usage = Unit {0}
 HasCause None told before now refusal.Memory = Unit {0}
 HasCause None told before now r = ⊥
 
+-- the word for a source in a refusal's line
+abbrev pub role_word : Role → List ℕ
+role_word role.Source = codes "source"
+role_word role.Old = codes "old"
+role_word role.New = codes "new"
+
 -- the line of a refusal
 abbrev pub refusal_line : Refusal → List ℕ
 refusal_line refusal.Usage = codes "refused: usage\n"
-refusal_line refusal.Source = codes "refused: source not built\n"
+refusal_line (refusal.Source which) = codes "refused: " ++ role_word which ++ codes " not built\n"
 refusal_line refusal.Suite = codes "refused: suite not built\n"
+refusal_line refusal.History = codes "refused: history not built\n"
 refusal_line refusal.ReadFault = codes "refused: read fault\n"
 refusal_line refusal.Memory = codes "refused: memory\n"
 refusal_line (refusal.TooMuch bytes) = codes "refused: history too much " ++ decimal bytes ++ codes "\n"
 
 abbrev pub status_of : Refusal → Status8
 status_of refusal.Usage = status.Usage
-status_of refusal.Source = status.Source
+status_of (refusal.Source which) = status.Source
 status_of refusal.Suite = status.Suite
+status_of refusal.History = status.History
 status_of refusal.ReadFault = status.ReadFault
 status_of refusal.Memory = status.Memory
 status_of (refusal.TooMuch bytes) = status.TooMuch
 
-abbrev pub HasTextOf : Option Command → Option Files → List ℕ → Type 0
-HasTextOf None told text = ⊥
-HasTextOf (Some c) told text = HasText c told text
+-- ---- the answer
 
 -- `Decides`: by the words, the files and the counts of faults the work comes to this status and this text
 abbrev pub Decides : List (List ℕ) → Option Files → (List ℕ → ℕ) → (List ℕ → ℕ) → Status8 → List ℕ → Type 0
@@ -115,12 +192,13 @@ Says before now faults_before faults_now s text answer =
     ((answer ≡ s) × Appends before now text)
     ⊎ ((answer ≡ status.WriteFault) × Rose faults_before faults_now × AppendsPrefix before now text)
 
--- where the files and the written bytes are told, `record`'s history was added to what was written before
+-- The headline: where the files and the written bytes are told, the words are a command and its text was added to what
+-- was written before. For `select` that text names exactly the tests whose recorded run crosses a dangerous edge, and
+-- each test that it leaves behaves the same on the new program (`Select`'s `IsSelection`).
 abbrev pub IsHeadline : List (List ℕ) → Option Files → Option (List ℕ) → Option (List ℕ) → Type 0
 IsHeadline words told before now =
     (files : Files) → told ≡ Some files → (written : List ℕ) → before ≡ Some written →
-    (source suite : List ℕ) × (command_of words ≡ Some (record_files source suite))
-    × (history : HistoryParts) × HasHistory files source suite history × (now ≡ Some (written ++ history_text history))
+    (c : Command) × (command_of words ≡ Some c) × (text : List ℕ) × IsTextOf c files text × (now ≡ Some (written ++ text))
 
 -- the refusal's line was written with its status, or that for want of memory
 abbrev pub Refuses : Option (List ℕ) → Option (List ℕ) → ℕ → ℕ → Refusal → Status8 → Type 0
@@ -128,13 +206,26 @@ Refuses before now faults_before faults_now r answer =
     Says before now faults_before faults_now (status_of r) (refusal_line r) answer
     ⊎ Says before now faults_before faults_now status.Memory (refusal_line refusal.Memory) answer
 
--- Completeness: where the words are `record` of two files that are there, a small source and a small suite, and no count
--- of faults rose, the history was written, or it would be too long, or memory was wanted
+-- ---- completeness
+
+-- the files of a command are there and are what it asks for: for `record` a small source and a small suite, for `select`
+-- two small sources and a history of the old one
+abbrev pub AreReady : Command → Files → Type 0
+AreReady (record_files source_name suite_name) files =
+    ((P : ProgramTree) × HasSource files source_name P)
+    × ((suite : List ℕ) × (tests : List TestParts) × (file_at files suite_name ≡ Some suite) × IsSmallSuite suite tests)
+AreReady (select_files old_name new_name history_name) files =
+    (old new : ProgramTree) × (source : HasSource files old_name old) × HasSource files new_name new
+    × (bytes : List ℕ) × (history : HistoryParts) × (file_at files history_name ≡ Some bytes) × IsHistoryFile source.bytes bytes old history
+
+-- the answer of a command that nothing stands in the way of: it is done, or for `record` the history would be too long,
+-- or memory was wanted
+abbrev pub IsDone : Command → Status8 → Type 0
+IsDone (record_files source suite) answer = (answer ≡ status.Done) ⊎ ((answer ≡ status.TooMuch) ⊎ (answer ≡ status.Memory))
+IsDone (select_files old new history) answer = (answer ≡ status.Done) ⊎ (answer ≡ status.Memory)
+
+-- Completeness: where the words are a command whose files are told and ready, and no count of faults rose, it is done
 abbrev pub IsComplete : List (List ℕ) → Option Files → (List ℕ → ℕ) → (List ℕ → ℕ) → ℕ → ℕ → Status8 → Type 0
 IsComplete words told before now faults_before faults_now answer =
-    (files : Files) → told ≡ Some files →
-    (source_name suite_name : List ℕ) → command_of words ≡ Some (record_files source_name suite_name) →
-    (source : List ℕ) (P : ProgramTree) → file_at files source_name ≡ Some source → IsSmall source P →
-    (suite : List ℕ) (tests : List TestParts) → file_at files suite_name ≡ Some suite → IsSmallSuite suite tests →
-    ¬ Rose (before source_name) (now source_name) → ¬ Rose (before suite_name) (now suite_name) → ¬ Rose faults_before faults_now →
-    (answer ≡ status.Done) ⊎ ((answer ≡ status.TooMuch) ⊎ (answer ≡ status.Memory))
+    (files : Files) → told ≡ Some files → (c : Command) → command_of words ≡ Some c → AreReady c files →
+    ¬ HasReadFault c before now → ¬ Rose faults_before faults_now → IsDone c answer

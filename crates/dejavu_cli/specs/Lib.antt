@@ -1,5 +1,6 @@
 pub mod Words
 pub mod Shown
 pub mod Record
+pub mod Select
 pub mod Steps
 pub mod Answers

@@ -1,12 +1,21 @@
 -- What the steps of a command answer.
-use Rattle.std.specs.Prelude.{ℕ, ◌≡◌, ◌<◌, ◌≤◌, List, length}
+use Rattle.std.specs.Prelude.{ℕ, ◌≡◌, ◌<◌, ◌≤◌, ◌↔◌, Bool, List, length, Some, IsTrue}
+use Rattle.std.specs.List.{AllZip}
 use Rattle.dv_outside.specs.Outside.{Rose}
 use Rattle.csub_core.specs.Syntax.{ProgramTree}
+use Rattle.csub_core.specs.Flows.{Edge, edge_list, flow_of}
+use Rattle.csub_core.specs.Numbers.{edge_at}
+use Rattle.csub_core.specs.Books.{Dangerous}
+use Rattle.edge_trace.specs.Rows.{has}
 use Rattle.read_small.specs.Small.{IsSmall}
 use Rattle.test_suite.specs.Tests.{TestParts}
-use Rattle.test_history.specs.Histories.{HistoryParts}
+use Rattle.test_history.specs.Histories.{EntryParts, HistoryParts}
 use Rattle.test_history.specs.HistoryTexts.{history_text, most_history_bytes}
+use Rattle.test_select.specs.declared.choice.Choice.{Choice}
+use Rattle.test_select.specs.SelectTexts.{select_text}
 use Rattle.dejavu_cli.specs.Record.{IsHistory, IsSmallSuite}
+use Rattle.dejavu_cli.specs.Select.{IsHistoryFile, IsChoice}
+use Rattle.dejavu_cli.specs.declared.refusal.Role.{Role}
 use Rattle.dejavu_cli.specs.declared.refusal.Refusal.{Refusal}
 use Rattle.dejavu_cli.specs.declared.refusal.Refusal.TheVariants as refusal
 
@@ -16,11 +25,11 @@ IsFetchCause before now refusal.Memory = Unit {0}
 IsFetchCause before now refusal.ReadFault = Rose before now
 IsFetchCause before now r = ⊥
 
--- a source isn't read for want of memory, or where it is no small one
-abbrev pub IsSourceCause : List ℕ → Refusal → Type 0
-IsSourceCause bytes refusal.Memory = Unit {0}
-IsSourceCause bytes refusal.Source = (P : ProgramTree) → IsSmall bytes P → ⊥
-IsSourceCause bytes r = ⊥
+-- the source in a role isn't read for want of memory, or where it is no small one
+abbrev pub IsSourceCause : Role → List ℕ → Refusal → Type 0
+IsSourceCause which bytes refusal.Memory = Unit {0}
+IsSourceCause which bytes (refusal.Source named) = (named ≡ which) × ((P : ProgramTree) → IsSmall bytes P → ⊥)
+IsSourceCause which bytes r = ⊥
 
 -- a suite isn't read for want of memory, or where it is no small one
 abbrev pub IsSuiteCause : List ℕ → Refusal → Type 0
@@ -47,3 +56,25 @@ abbrev pub IsTextCause : List ℕ → ProgramTree → List TestParts → Refusal
 IsTextCause source P tests refusal.Memory = Unit {0}
 IsTextCause source P tests (refusal.TooMuch bytes) = HasLongText source P tests bytes
 IsTextCause source P tests r = ⊥
+
+-- the bytes are the text of this history of the source, and of no other
+pub record IsOnlyHistory (source bytes : List ℕ) (P : ProgramTree) (history : HistoryParts) : Type 0 where
+  pub file : IsHistoryFile source bytes P history
+  pub only : (other : HistoryParts) → IsHistoryFile source bytes P other → history ≡ other
+
+-- a history isn't read for want of memory, or where the bytes are no history of the source with few entries
+abbrev pub IsHistoryCause : List ℕ → List ℕ → ProgramTree → Refusal → Type 0
+IsHistoryCause source bytes P refusal.Memory = Unit {0}
+IsHistoryCause source bytes P refusal.History = (history : HistoryParts) → IsHistoryFile source bytes P history → ⊥
+IsHistoryCause source bytes P r = ⊥
+
+-- the row has the numbers of the dangerous edges
+pub record IsDangerRow (P P' : ProgramTree) (row : List Bool) : Type 0 where
+  pub edges : length row ≡ length (edge_list P)
+  pub danger : (e : ℕ) (edge : Edge) → edge_at P e ≡ Some edge → IsTrue (has row e) ↔ Dangerous (flow_of P) (flow_of P') edge.function edge.from edge.exit
+
+-- the text of the choices for these entries
+pub record HasChoices (P P' : ProgramTree) (entries : List EntryParts) (bytes : List ℕ) : Type 0 where
+  pub choices : List Choice
+  pub chosen : AllZip (IsChoice P P') entries choices
+  pub text : bytes ≡ select_text entries choices

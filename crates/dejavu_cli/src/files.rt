@@ -1,16 +1,18 @@
 //! Files that a command names.
-ghost use Rattle.std.specs.Prelude.{◌≡◌, ◌+◌, ◌≤◌, IfOk, IfErr, length, map};
+ghost use Rattle.std.specs.Prelude.{◌≡◌, ◌+◌, ◌≤◌, IfOk, IfErr, MatchResult, length, map};
 ghost use Rattle.dv_outside.specs.Outside.{IsFetched, NeverFalls};
-ghost use Rattle.csub_core.specs.Syntax.{function_tree};
+ghost use Rattle.csub_core.specs.Syntax.{ProgramTree, function_tree};
+ghost use Rattle.csub_core.specs.Flows.{edge_list};
 ghost use Rattle.read_small.specs.Small.{IsSmall};
 ghost use Rattle.dejavu_cli.specs.Record.{IsSmallSuite};
-ghost use Rattle.dejavu_cli.specs.Steps.{IsFetchCause, IsSourceCause, IsSuiteCause};
+ghost use Rattle.dejavu_cli.specs.Steps.{IsFetchCause, IsSourceCause, IsSuiteCause, IsOnlyHistory, IsHistoryCause};
 
-use crate::refusal::Refusal;
+use crate::refusal::{Refusal, Role};
 use csub_core::Program;
 use dv_outside::{FetchError, Shelf};
 use read_small::read_small;
 use std::alloc::Global;
+use test_history::{History, HistoryError, read_history};
 use test_suite::{SuiteError, Test, read_suite};
 
 /// The most bytes of a source that are read: one more than a source may have.
@@ -19,6 +21,10 @@ pub(crate) const SOURCE_AND_ONE: usize = 1_048_577;
 /// The most bytes of a suite that are read: one more than a suite may have.
 pub(crate) const SUITE_AND_ONE: usize = 16_777_217;
 
+/// The most bytes of a history that are read: one more than a history may have.
+pub(crate) const HISTORY_AND_ONE: usize = 134_217_729;
+
+/// The most tests of a small suite, and the most entries of a history that is selected from.
 const MOST_SMALL_TESTS: usize = 64;
 
 /// The first `most` bytes of a file, or all if it has fewer.
@@ -39,14 +45,14 @@ pub(crate) fn fetch_file<S: Shelf>(
     }
 }
 
-/// The program of a source.
-pub(crate) fn read_source(alloc: Global, bytes: &[u8]) -> Result<Program, Refusal>
+/// The program of the source in a role.
+pub(crate) fn read_source(alloc: Global, role: Role, bytes: &[u8]) -> Result<Program, Refusal>
     ensures small { IfOk result (λ program. IsSmall bytes.now (map function_tree program)) }
-    ensures cause { IfErr result (IsSourceCause bytes.now) }
+    ensures cause { IfErr result (IsSourceCause role bytes.now) }
 {
     match read_small(alloc, bytes) {
         Ok(Some(program)) => Ok(program),
-        Ok(None) => Err(Refusal::Source),
+        Ok(None) => Err(Refusal::Source(role)),
         Err(_) => Err(Refusal::Memory),
     }
 }
@@ -61,5 +67,25 @@ pub(crate) fn read_tests(alloc: Global, bytes: &[u8]) -> Result<Vec<Test>, Refus
         Ok(_) => Err(Refusal::Suite),
         Err(SuiteError::Memory) => Err(Refusal::Memory),
         Err(_) => Err(Refusal::Suite),
+    }
+}
+
+/// The history in a file, for the bytes of the old source and the number of its program's edges.
+pub(crate) fn read_entries(
+    alloc: Global,
+    bytes: &[u8],
+    old: &[u8],
+    edges: u32,
+) -> Result<History, Refusal>
+    ensures { (P : ProgramTree) → edges ≡ length (edge_list P) → MatchResult result (IsOnlyHistory old.now bytes.now P) (IsHistoryCause old.now bytes.now P) }
+{
+    if bytes.len() >= HISTORY_AND_ONE {
+        return Err(Refusal::History);
+    }
+    match read_history(alloc, bytes, old, edges) {
+        Ok(history) if history.entries().len() <= MOST_SMALL_TESTS => Ok(history),
+        Ok(_) => Err(Refusal::History),
+        Err(HistoryError::Memory) => Err(Refusal::Memory),
+        Err(_) => Err(Refusal::History),
     }
 }

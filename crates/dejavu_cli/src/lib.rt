@@ -2,7 +2,9 @@
 //!
 //! What is promised stands in the contract of [`dejavu`]: what is written is decided by the words and the files
 //! (`specs/Answers`), and each answer has its cause; `record` writes the history of the source and the suite that it
-//! is given (`specs/Record`), each entry with what the test's run on the source's program gives.
+//! is given (`specs/Record`), each entry with what the test's run on the source's program gives; `select` names the
+//! tests of such a history that a changed source may make behave otherwise, and each test that it leaves behaves the
+//! same on it (`specs/Select`).
 #![tactic(auto)]
 
 ghost use Rattle.std.specs.Prelude.{◌≡◌, ℕ, List, None};
@@ -14,6 +16,7 @@ mod files;
 mod record;
 mod refusal;
 mod run;
+mod select;
 mod status;
 mod words;
 mod work;
@@ -21,16 +24,21 @@ mod work;
 use crate::refusal::{MEMORY_LINE, Refusal, refusal_status, refusal_text};
 use crate::work::work;
 use dv_outside::{Gate, Shelf, Sink, write_whole};
+use read_small::a_small_source_means_one_program;
 pub use status::Status8;
 use std::alloc::Global;
 use std::thread::Threads;
 
 /// Does what the words say: the text of the command is made whole, and then written to the output.
 ///
-/// Commands: `record SOURCE SUITE` writes the history of a small source and a small suite. Where the command can't be
-/// done its refusal line is written in place of the text, and nothing else; the status says why. An earlier cause hides
-/// a later one, in the order of the words, each file, the work, the write. Nothing is written before all is known, and
-/// no memory is taken from then on.
+/// Commands: `record SOURCE SUITE` writes the history of a small source and a small suite. `select OLD NEW HISTORY`
+/// reads two small sources and a history of OLD with at most 64 tests, and writes a line for each test in order, `run
+/// NAME edge E` where its recorded run crossed a dangerous edge, E the least number of these, and `left NAME` where it
+/// crossed none; then `selected K of N`.
+///
+/// Where the command can't be done its refusal line is written in place of the text, and nothing else; the status says
+/// why. An earlier cause hides a later one, in the order of the words, each file, the work, the write. Nothing is
+/// written before all is known, and no memory is taken from then on.
 pub fn dejavu<R: Threads + Sync, S: Shelf, K: Sink, G: Gate>(
     rt: &R,
     alloc: Global,
@@ -44,7 +52,7 @@ pub fn dejavu<R: Threads + Sync, S: Shelf, K: Sink, G: Gate>(
         × Decides (texts_of words.now) (S.files shelf.old) (S.faults shelf.old) (S.faults shelf.new) status text
         × Says (K.written out.old) (K.written out.new) (K.faults out.old) (K.faults out.new) status text result }
 
-    // Where the files and the written bytes are told, Done says that the history was written.
+    // Where the files and the written bytes are told, Done says that the command's text was written.
     ensures headline { result ≡ Status8.Done → IsHeadline (texts_of words.now) (S.files shelf.old) (K.written out.old) (K.written out.new) }
     ensures usage { result ≡ Status8.Usage → command_of (texts_of words.now) ≡ None }
     ensures write_fault { result ≡ Status8.WriteFault → Rose (K.faults out.old) (K.faults out.new) }
@@ -54,6 +62,8 @@ pub fn dejavu<R: Threads + Sync, S: Shelf, K: Sink, G: Gate>(
 {
     let _runtime = rt;
     let _gate = gate;
+    // By this law a file that is ready is read as what it is ready as.
+    a_small_source_means_one_program();
     match work(alloc, words, shelf) {
         Ok(text) => say(out, Status8::Done, &text),
         Err(refusal) => refuse(alloc, out, refusal),

@@ -6,15 +6,28 @@ use crate::status::Status8;
 use line_text::push_decimal;
 use std::alloc::{AllocError, Global};
 
+/// What a source is to the command that names it.
+#[derive(Clone, Copy, Debug, PartialEq, Eq)]
+pub enum Role {
+    /// The source of `record`.
+    Source,
+    /// The version on which the tests were recorded.
+    Old,
+    /// The changed version.
+    New,
+}
+
 /// Why the command wasn't done.
 #[derive(Clone, Copy, Debug, PartialEq, Eq)]
 pub enum Refusal {
     /// The words are no command.
     Usage,
-    /// The source isn't accepted.
-    Source,
+    /// The source in this role isn't accepted.
+    Source(Role),
     /// The suite isn't read.
     Suite,
+    /// The history isn't read.
+    History,
     /// A file could not be read.
     ReadFault,
     /// Want of memory.
@@ -32,8 +45,11 @@ pub(crate) fn refusal_text(alloc: Global, refusal: Refusal) -> Result<Vec<u8>, A
 {
     match refusal {
         Refusal::Usage => b"refused: usage\n".to_vec(alloc),
-        Refusal::Source => b"refused: source not built\n".to_vec(alloc),
+        Refusal::Source(Role::Source) => b"refused: source not built\n".to_vec(alloc),
+        Refusal::Source(Role::Old) => b"refused: old not built\n".to_vec(alloc),
+        Refusal::Source(Role::New) => b"refused: new not built\n".to_vec(alloc),
         Refusal::Suite => b"refused: suite not built\n".to_vec(alloc),
+        Refusal::History => b"refused: history not built\n".to_vec(alloc),
         Refusal::ReadFault => b"refused: read fault\n".to_vec(alloc),
         Refusal::Memory => MEMORY_LINE.to_vec(alloc),
         Refusal::TooMuch(bytes) => {
@@ -51,8 +67,9 @@ pub(crate) fn refusal_status(refusal: Refusal) -> Status8
 {
     match refusal {
         Refusal::Usage => Status8::Usage,
-        Refusal::Source => Status8::Source,
+        Refusal::Source(_) => Status8::Source,
         Refusal::Suite => Status8::Suite,
+        Refusal::History => Status8::History,
         Refusal::ReadFault => Status8::ReadFault,
         Refusal::Memory => Status8::Memory,
         Refusal::TooMuch(_) => Status8::TooMuch,

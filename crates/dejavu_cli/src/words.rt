@@ -1,7 +1,7 @@
 //! The reading of words.
 ghost use Rattle.std.specs.Prelude.{◌≡◌, IfOk, map, List, ℕ};
 ghost use Rattle.std.specs.Option.{option_map};
-ghost use Rattle.dejavu_cli.specs.Words.{command_of, plain_words, texts_of, is_option};
+ghost use Rattle.dejavu_cli.specs.Words.{command_of, record_of, select_of, plain_words, texts_of, is_option};
 ghost use Rattle.dejavu_cli.specs.Shown.{command_shown};
 
 use std::alloc::{AllocError, Global};
@@ -11,6 +11,8 @@ use std::alloc::{AllocError, Global};
 pub(crate) enum Command<'a> {
     /// `record SOURCE SUITE`
     Record(&'a str, &'a str),
+    /// `select OLD NEW HISTORY`
+    Select(&'a str, &'a str, &'a str),
 }
 
 /// The command that the words are, and `None` where they are none. An `Err` is want of memory.
@@ -20,14 +22,37 @@ pub(crate) fn read_words(alloc: Global, words: &[String]) -> Result<Option<Comma
     let Some((name, more)) = words.split_first() else {
         return Ok(None);
     };
-    if name.as_str() != "record" {
-        return Ok(None);
+    if name.as_str() == "record" {
+        record_words(alloc, more)
+    } else if name.as_str() == "select" {
+        select_words(alloc, more)
+    } else {
+        Ok(None)
     }
-    let Some(plain) = plain_words(alloc, more)? else {
+}
+
+/// `record` with the words behind it: `SOURCE SUITE`.
+fn record_words(alloc: Global, words: &[String]) -> Result<Option<Command<'_>>, AllocError>
+    ensures { IfOk result (λ command. option_map command_shown command ≡ record_of (plain_words (texts_of words.now))) }
+{
+    let Some(plain) = plain_words(alloc, words)? else {
         return Ok(None);
     };
     match plain.as_slice() {
         [source, suite] => Ok(Some(Command::Record(source, suite))),
+        _ => Ok(None),
+    }
+}
+
+/// `select` with the words behind it: `OLD NEW HISTORY`.
+fn select_words(alloc: Global, words: &[String]) -> Result<Option<Command<'_>>, AllocError>
+    ensures { IfOk result (λ command. option_map command_shown command ≡ select_of (plain_words (texts_of words.now))) }
+{
+    let Some(plain) = plain_words(alloc, words)? else {
+        return Ok(None);
+    };
+    match plain.as_slice() {
+        [old, new, history] => Ok(Some(Command::Select(old, new, history))),
         _ => Ok(None),
     }
 }

@@ -1,14 +1,18 @@
 //! What the words ask for.
-ghost use Rattle.std.specs.Prelude.{◌≡◌, MatchResult};
+ghost use Rattle.std.specs.Prelude.{◌≡◌, MatchResult, Some};
 ghost use Rattle.dv_outside.specs.Outside.{NeverFalls};
-ghost use Rattle.dejavu_cli.specs.Words.{command_of, texts_of, record_files};
-ghost use Rattle.dejavu_cli.specs.Answers.{HasText, HasTextOf, HasCause, HasCauseOf};
+ghost use Rattle.dejavu_cli.specs.Words.{command_of, texts_of, record_files, select_files};
+ghost use Rattle.dejavu_cli.specs.Answers.{HasTextOf, HasCause, HasCauseOf};
 
-use crate::files::{SOURCE_AND_ONE, SUITE_AND_ONE, fetch_file, read_source, read_tests};
+use crate::files::{
+    HISTORY_AND_ONE, SOURCE_AND_ONE, SUITE_AND_ONE, fetch_file, read_source, read_tests,
+};
 use crate::record::record_text;
-use crate::refusal::Refusal;
+use crate::refusal::{Refusal, Role};
+use crate::select::selection_text;
 use crate::words::{Command, read_words};
 use dv_outside::Shelf;
+use read_small::a_small_source_means_one_program;
 use std::alloc::Global;
 
 /// The text of the command that the words are, before anything is written.
@@ -24,6 +28,7 @@ pub(crate) fn work<S: Shelf>(
 {
     match read_words(alloc, words) {
         Ok(Some(Command::Record(source, suite))) => record(alloc, source, suite, shelf),
+        Ok(Some(Command::Select(old, new, history))) => select(alloc, old, new, history, shelf),
         Ok(None) => Err(Refusal::Usage),
         Err(_) => Err(Refusal::Memory),
     }
@@ -37,12 +42,12 @@ fn record<S: Shelf>(
     shelf: &mut S,
 ) -> Result<Vec<u8>, Refusal>
     ensures answer { MatchResult result
-        (λ text. HasText (record_files source_name.now suite_name.now) (S.files shelf.old) text.items)
+        (λ text. HasTextOf (Some (record_files source_name.now suite_name.now)) (S.files shelf.old) text.items)
         (HasCauseOf (record_files source_name.now suite_name.now) (S.files shelf.old) (S.faults shelf.old) (S.faults shelf.new)) }
     ensures counts { NeverFalls (S.faults shelf.old) (S.faults shelf.new) }
 {
     let source = fetch_file(shelf, source_name, SOURCE_AND_ONE)?;
-    let program = match read_source(alloc, &source) {
+    let program = match read_source(alloc, Role::Source, &source) {
         Ok(program) => program,
         Err(refusal) => return Err(refusal),
     };
@@ -51,4 +56,32 @@ fn record<S: Shelf>(
         Ok(tests) => record_text(alloc, &source, &program, &tests),
         Err(refusal) => Err(refusal),
     }
+}
+
+/// The text of `select`.
+fn select<S: Shelf>(
+    alloc: Global,
+    old_name: &str,
+    new_name: &str,
+    history_name: &str,
+    shelf: &mut S,
+) -> Result<Vec<u8>, Refusal>
+    ensures answer { MatchResult result
+        (λ text. HasTextOf (Some (select_files old_name.now new_name.now history_name.now)) (S.files shelf.old) text.items)
+        (HasCauseOf (select_files old_name.now new_name.now history_name.now) (S.files shelf.old) (S.faults shelf.old) (S.faults shelf.new)) }
+    ensures counts { NeverFalls (S.faults shelf.old) (S.faults shelf.new) }
+{
+    let source = fetch_file(shelf, old_name, SOURCE_AND_ONE)?;
+    let old = match read_source(alloc, Role::Old, &source) {
+        Ok(program) => program,
+        Err(refusal) => return Err(refusal),
+    };
+    let other = fetch_file(shelf, new_name, SOURCE_AND_ONE)?;
+    let new = match read_source(alloc, Role::New, &other) {
+        Ok(program) => program,
+        Err(refusal) => return Err(refusal),
+    };
+    a_small_source_means_one_program();
+    let bytes = fetch_file(shelf, history_name, HISTORY_AND_ONE)?;
+    selection_text(alloc, &source, &old, &new, &bytes)
 }

@@ -1,3 +1,14 @@
+pub mod AskedLemmas
 pub mod CrossedLemmas
+pub mod EntryLemmas
+pub mod Laws
 pub mod LengthLemmas
+pub mod NamesLemmas
+pub mod NumbersLemmas
+pub mod PlainLemmas
+pub mod ReadLemmas
+pub mod RowLemmas
+pub mod SameLemmas
 pub mod TextLemmas
+pub mod ValueLemmas
+pub mod WholeLemmas

@@ -1,8 +1,10 @@
 -- What a history is made of, and the limits of its parts.
-use Rattle.std.specs.Prelude.{◌≡◌, ◌≤◌, ℕ, Bool, List, length, All}
+use Rattle.std.specs.Prelude.{◌≡◌, ◌≢◌, ◌≤◌, ◌<◌, ⊤, ℕ, Bool, List, length, map, All, AllPairs}
+use Rattle.hex.specs.Hex.{IsBytes}
 use Rattle.csub_core.specs.Memory.{most_output}
 use Rattle.csub_core.specs.Valid.{most_edges}
 use Rattle.csub_core.specs.declared.status.Status.{Status}
+use Rattle.csub_core.specs.declared.status.Status.TheVariants.{Exit, Trap, Turns}
 use Rattle.test_suite.specs.Suites.{most_tests}
 use Rattle.test_suite.specs.Tests.{TestParts, IsWithin}
 
@@ -42,3 +44,32 @@ pub record IsHistoryWithin (history : HistoryParts) : Type 0 where
   pub few : length history.entries ≤ most_tests
   pub entries : All IsEntryWithin history.entries
   pub rows : HaveRows history.edges history.entries
+
+-- the 32 bytes of a SHA-256 digest
+pub record IsDigest (digest : List ℕ) : Type 0 where
+  pub size : length digest ≡ 32
+  pub bytes : IsBytes digest
+
+-- an exit status is a byte
+abbrev pub IsByteStatus : Status → Type 0
+IsByteStatus (Exit n) = n < 256
+IsByteStatus (Trap trap) = ⊤
+IsByteStatus Turns = ⊤
+
+-- the numbers that stand for bytes in an entry are bytes
+pub record IsEntryOfBytes (entry : EntryParts) : Type 0 where
+  pub input : IsBytes entry.test.input
+  pub status : IsByteStatus entry.status
+  pub output : IsBytes entry.output
+
+-- the names of the entries' tests, in their order
+abbrev pub names_of : List EntryParts → List (List ℕ)
+names_of entries = map (λ entry. entry.test.name) entries
+
+-- a history that can be read back from its text: it is within the limits, no two tests have one name, and what stands for
+-- bytes is bytes
+pub record IsReadable (history : HistoryParts) : Type 0 where
+  pub within : IsHistoryWithin history
+  pub apart : AllPairs (λ name other. name ≢ other) (names_of history.entries)
+  pub digest : IsDigest history.digest
+  pub bytes : All IsEntryOfBytes history.entries

@@ -77,6 +77,10 @@ end_line before = value_line (codes "end") (encode_lower (sha256 before))
 abbrev pub history_text : HistoryParts → List ℕ
 history_text history = text_before_end history ++ text_of_lines (end_line (text_before_end history) ∷ [])
 
+-- the same with any digest on the line `end`
+abbrev pub text_with_sum : HistoryParts → List ℕ → List ℕ
+text_with_sum history sum = text_before_end history ++ text_of_lines (value_line (codes "end") (encode_lower sum) ∷ [])
+
 -- the greatest number of bytes of a history's text
 abbrev pub most_history_bytes : ℕ
 most_history_bytes = 134217728

@@ -1,3 +1,5 @@
 pub mod Causes
 pub mod Histories
 pub mod HistoryTexts
+pub mod Rules
+pub mod Faults

@@ -6,24 +6,35 @@
 //!
 //! - [`write_history`] gives exactly that text, or says how long it would be where it is too long for
 //!   the format: its contract has both, and refuses for no other cause than memory.
+//! - [`read_history`] gives the one history of which a text is the text, where it is of the source and
+//!   the number of edges at hand. It refuses every other text for the first cause in the order of
+//!   [`HistoryError`], each exactly where it holds: `specs/Rules.antt` has the rules H1 to H14 of the
+//!   lines, and `specs/Causes.antt` the causes. So what `write_history` writes is read back as it was.
 //! - [`digest_of`] is SHA-256 (FIPS 180-4).
 //! - A [`History`] has in every entry a row of its own number of edges: `History::new` asks for it and
 //!   `History::entries` tells it.
 #![tactic(auto)]
 
+mod crossed;
 mod digest;
 mod entry;
 mod error;
+mod fault;
 mod history;
 mod length;
 mod lines;
+mod reader;
+mod values;
 mod writer;
 
 pub use digest::digest_of;
 pub use entry::Entry;
-pub use error::HistoryTextError;
+pub use error::{HistoryError, HistoryTextError};
 pub use history::History;
+pub use reader::read_history;
 pub use writer::write_history;
 
+#[cfg(test)]
+mod read_tests;
 #[cfg(test)]
 mod tests;

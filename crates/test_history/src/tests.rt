@@ -4,7 +4,7 @@ ghost use Rattle.std.specs.Prelude.{◌≡◌, length, IfOk};
 ghost use Rattle.test_history.specs.Histories.{IsEntryWithin, IsHistoryWithin};
 ghost use Rattle.test_suite.specs.Tests.{IsWithin};
 
-use crate::{Entry, History, digest_of, write_history};
+use crate::{Entry, History, digest_of, read_history, write_history};
 use csub_core::{Status, Trap};
 use edge_trace::EdgeRow;
 use line_text::push_hex;
@@ -71,7 +71,8 @@ fn trapped(trap: Trap) -> Results<'static> {
     (Status::Trap(trap), 5, b"x", &[0, 2, 3])
 }
 
-/// Asserts that the history of `SOURCE` with these tests and results has this text.
+/// Asserts that the history of `SOURCE` with these tests and results has this text, and that the text
+/// is read as one that has it too.
 fn assert_text<R: Abort>(
     rt: &R,
     alloc: Global,
@@ -82,6 +83,10 @@ fn assert_text<R: Abort>(
     let history = history_of(rt, alloc, suite, results)?;
     let text = write_history(alloc, &history)?;
     assert!(rt; text.as_slice() == want.as_bytes(), "{want}");
+    let read = read_history(alloc, &text, SOURCE, 9)?;
+    assert_eq!(rt; read.entries().len(), history.entries().len());
+    let again = write_history(alloc, &read)?;
+    assert!(rt; again.as_slice() == want.as_bytes(), "{want}");
     Ok(())
 }
 

@@ -1,6 +1,5 @@
 use Rattle.std.proofs.Common.{◌≡◌, rules}
 use Rattle.csub_machine.specs.Moments.{output_of, moment_of}
-use Rattle.test_history.specs.Histories.{EntryParts}
 use Rattle.dejavu_cli.proofs.RunLemmas.{entry_is}
 use Rattle.dejavu_cli.proofs.run.run_one.Goals as goal
 

@@ -1,0 +1,10 @@
+pub mod Bytes
+pub mod Words
+pub mod Marks
+pub mod Numbers
+pub mod Quoted
+pub mod Lines
+pub mod Pieces
+pub mod Tokens
+pub mod Place
+pub mod Finding

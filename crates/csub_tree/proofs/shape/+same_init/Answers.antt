@@ -1,0 +1,15 @@
+use Rattle.std.proofs.Common.{arith, ◌<◌, length}
+use Rattle.csub_tree.specs.Declarations.{init_tree}
+use Rattle.csub_tree.specs.Shape.{init_shape}
+use Rattle.csub_tree.proofs.Shapes.{shape_at, listed_same}
+use Rattle.csub_tree.proofs.shape.+same_init.Goals as goal
+
+pub same_inits-returns-then-not-same_init : goal.same_inits-returns-then-not-same_init
+same_inits-returns-then-not-same_init t c =
+    let below : c.loop-i.i < length c.args.b.now = omega arith in
+    (λ h. cc, λ h. c.if-not-same_init.ensures.1 (shape_at init_shape init_tree c.args.a.now c.args.b.now c.loop-i.i c.index-a-i.result c.index-b-i.result c.loop-i-test.true below h c.index-a-i.is c.index-b-i.is))
+
+pub same_init-returns-in-List-b : goal.same_init-returns-in-List-b
+same_init-returns-in-List-b t c =
+    let list = rw (c.deref.ensures.value, c.deref-in-List-b.ensures.value) at c.same_inits.ensures in
+    rw (c.in-List.is, c.in-List-b.is) (listed_same _ c.in-List.a0 c.in-List-b.b0 c.in-List.field-1 c.in-List-b.field-1 list)

@@ -1,0 +1,12 @@
+pub mod Expressions
+pub mod Declarations
+pub mod Statements
+pub mod Units
+pub mod Depth
+pub mod Shape
+pub mod Tokens
+pub mod Lists
+pub mod SpellsExpressions
+pub mod SpellsDeclarations
+pub mod SpellsStatements
+pub mod Spells

@@ -1,0 +1,471 @@
+//! Whether two units differ in nothing but their places.
+ghost use Rattle.std.specs.Prelude.{◌≡◌, ◌≤◌, ◌↔◌, IsTrue, map};
+ghost use Rattle.std.specs.Option.{option_map};
+ghost use Rattle.csub_tree.specs.Expressions.{expr_tree, kind_tree, exprs_of};
+ghost use Rattle.csub_tree.specs.Declarations.{init_tree, inits_of, declarator_tree, declare_tree, param_tree, head_tree};
+ghost use Rattle.csub_tree.specs.Statements.{stmt_tree, line_tree, stmts_of};
+ghost use Rattle.csub_tree.specs.Units.{constant_tree, item_tree, unit_tree};
+ghost use Rattle.csub_tree.specs.Depth.{unit_depth};
+ghost use Rattle.csub_tree.specs.Shape.{name_shape, type_shape, expr_shape, kind_shape, exprs_shape, init_shape, inits_shape, declarator_shape, declare_shape, param_shape, head_shape, stmt_shape, line_shape, stmts_shape, constant_shape, item_shape, SameShape};
+
+use crate::declaration::{Declarator, Declare, Head, Init, Param};
+use crate::expression::{Expr, ExprKind};
+use crate::name::{Name, TypeName};
+use crate::statement::{Stmt, StmtKind};
+use crate::unit::{Constant, Item, Unit};
+
+/// Whether two units are equal but for the places of their parts.
+pub fn same_shape(a: &Unit, b: &Unit) -> bool
+    requires left { unit_depth (unit_tree a.now) ≤ 256 }
+    requires right { unit_depth (unit_tree b.now) ≤ 256 }
+    ensures { IsTrue result ↔ SameShape (unit_tree a.now) (unit_tree b.now) }
+{
+    same_items(&a.items, &b.items)
+}
+
+fn same_items(a: &[Item], b: &[Item]) -> bool
+    ensures { IsTrue result ↔ (map item_shape (map item_tree a.now) ≡ map item_shape (map item_tree b.now)) }
+{
+    if a.len() != b.len() {
+        return false;
+    }
+    for i in 0..a.len() {
+        if !same_item(&a[i], &b[i]) {
+            return false;
+        }
+    }
+    true
+}
+
+fn same_item(a: &Item, b: &Item) -> bool
+    ensures { IsTrue result ↔ (item_shape (item_tree a.now) ≡ item_shape (item_tree b.now)) }
+{
+    match a {
+        Item::Struct(a0, a1) => match b {
+            Item::Struct(b0, b1) => same_name(a0, b0) && same_declares(a1, b1),
+            _ => false,
+        },
+        Item::Enum(a0, a1) => match b {
+            Item::Enum(b0, b1) => same_names(a0, b0) && same_constants(a1, b1),
+            _ => false,
+        },
+        Item::Object(a0) => match b {
+            Item::Object(b0) => same_declare(a0, b0),
+            _ => false,
+        },
+        Item::Prototype(a0) => match b {
+            Item::Prototype(b0) => same_head(a0, b0),
+            _ => false,
+        },
+        Item::Function(a0, a1, _) => match b {
+            Item::Function(b0, b1, _) => same_head(a0, b0) && same_stmts(a1, b1),
+            _ => false,
+        },
+    }
+}
+
+fn same_constants(a: &[Constant], b: &[Constant]) -> bool
+    ensures { IsTrue result ↔ (map constant_shape (map constant_tree a.now) ≡ map constant_shape (map constant_tree b.now)) }
+{
+    if a.len() != b.len() {
+        return false;
+    }
+    for i in 0..a.len() {
+        if !same_constant(&a[i], &b[i]) {
+            return false;
+        }
+    }
+    true
+}
+
+fn same_constant(a: &Constant, b: &Constant) -> bool
+    ensures { IsTrue result ↔ (constant_shape (constant_tree a.now) ≡ constant_shape (constant_tree b.now)) }
+{
+    same_name(&a.name, &b.name) && same_option(&a.value, &b.value)
+}
+
+fn same_head(a: &Head, b: &Head) -> bool
+    ensures { IsTrue result ↔ (head_shape (head_tree a.now) ≡ head_shape (head_tree b.now)) }
+{
+    same_type(&a.result, &b.result)
+        && same_name(&a.name, &b.name)
+        && same_params(&a.params, &b.params)
+}
+
+fn same_params(a: &[Param], b: &[Param]) -> bool
+    ensures { IsTrue result ↔ (map param_shape (map param_tree a.now) ≡ map param_shape (map param_tree b.now)) }
+{
+    if a.len() != b.len() {
+        return false;
+    }
+    for i in 0..a.len() {
+        if !same_param(&a[i], &b[i]) {
+            return false;
+        }
+    }
+    true
+}
+
+fn same_param(a: &Param, b: &Param) -> bool
+    ensures { IsTrue result ↔ (param_shape (param_tree a.now) ≡ param_shape (param_tree b.now)) }
+{
+    same_type(&a.base, &b.base)
+        && same_names(&a.name, &b.name)
+        && a.array == b.array
+        && same_option(&a.length, &b.length)
+}
+
+fn same_declares(a: &[Declare], b: &[Declare]) -> bool
+    ensures { IsTrue result ↔ (map declare_shape (map declare_tree a.now) ≡ map declare_shape (map declare_tree b.now)) }
+{
+    if a.len() != b.len() {
+        return false;
+    }
+    for i in 0..a.len() {
+        if !same_declare(&a[i], &b[i]) {
+            return false;
+        }
+    }
+    true
+}
+
+fn same_declare(a: &Declare, b: &Declare) -> bool
+    ensures { IsTrue result ↔ (declare_shape (declare_tree a.now) ≡ declare_shape (declare_tree b.now)) }
+{
+    same_type(&a.base, &b.base) && same_declarators(&a.vars, &b.vars)
+}
+
+fn same_declarators(a: &[Declarator], b: &[Declarator]) -> bool
+    ensures { IsTrue result ↔ (map declarator_shape (map declarator_tree a.now) ≡ map declarator_shape (map declarator_tree b.now)) }
+{
+    if a.len() != b.len() {
+        return false;
+    }
+    for i in 0..a.len() {
+        if !same_declarator(&a[i], &b[i]) {
+            return false;
+        }
+    }
+    true
+}
+
+fn same_declarator(a: &Declarator, b: &Declarator) -> bool
+    ensures { IsTrue result ↔ (declarator_shape (declarator_tree a.now) ≡ declarator_shape (declarator_tree b.now)) }
+{
+    same_name(&a.name, &b.name)
+        && same_exprs(&a.dims, &b.dims)
+        && same_init_option(&a.init, &b.init)
+}
+
+fn same_init_option(a: &Option<Init>, b: &Option<Init>) -> bool
+    ensures { IsTrue result ↔ (option_map init_shape (option_map init_tree a.now) ≡ option_map init_shape (option_map init_tree b.now)) }
+{
+    match a {
+        None => match b {
+            None => true,
+            Some(_) => false,
+        },
+        Some(one) => match b {
+            None => false,
+            Some(other) => same_init(one, other),
+        },
+    }
+}
+
+#[cycle(same_init)]
+fn same_init(a: &Init, b: &Init) -> bool
+    ensures { IsTrue result ↔ (init_shape (init_tree a.now) ≡ init_shape (init_tree b.now)) }
+{
+    match a {
+        Init::One(a0) => match b {
+            Init::One(b0) => same_expr(a0, b0),
+            _ => false,
+        },
+        Init::List(a0, _) => match b {
+            Init::List(b0, _) => same_inits(a0, b0),
+            _ => false,
+        },
+    }
+}
+
+#[cycle(same_init)]
+fn same_inits(a: &[Init], b: &[Init]) -> bool
+    ensures { IsTrue result ↔ (map init_shape (map init_tree a.now) ≡ map init_shape (map init_tree b.now)) }
+{
+    if a.len() != b.len() {
+        return false;
+    }
+    for i in 0..a.len() {
+        if !same_init(&a[i], &b[i]) {
+            return false;
+        }
+    }
+    true
+}
+
+#[cycle(same_stmt)]
+fn same_stmt(a: &Stmt, b: &Stmt) -> bool
+    ensures { IsTrue result ↔ (stmt_shape (stmt_tree a.now) ≡ stmt_shape (stmt_tree b.now)) }
+{
+    same_line(&a.kind, &b.kind)
+}
+
+#[cycle(same_stmt)]
+fn same_line(a: &StmtKind, b: &StmtKind) -> bool
+    ensures { IsTrue result ↔ (line_shape (line_tree a.now) ≡ line_shape (line_tree b.now)) }
+{
+    match a {
+        StmtKind::Declare(a0) => match b {
+            StmtKind::Declare(b0) => same_declare(a0, b0),
+            _ => false,
+        },
+        StmtKind::Eval(a0) => match b {
+            StmtKind::Eval(b0) => same_expr(a0, b0),
+            _ => false,
+        },
+        StmtKind::Empty => match b {
+            StmtKind::Empty => true,
+            _ => false,
+        },
+        StmtKind::Block(a0) => match b {
+            StmtKind::Block(b0) => same_stmts(a0, b0),
+            _ => false,
+        },
+        StmtKind::If(a0, a1, None) => match b {
+            StmtKind::If(b0, b1, None) => same_expr(a0, b0) && same_stmt(a1, b1),
+            _ => false,
+        },
+        StmtKind::If(a0, a1, Some(a2)) => match b {
+            StmtKind::If(b0, b1, Some(b2)) => {
+                same_expr(a0, b0) && same_stmt(a1, b1) && same_stmt(a2, b2)
+            }
+            _ => false,
+        },
+        StmtKind::While(a0, a1) => match b {
+            StmtKind::While(b0, b1) => same_expr(a0, b0) && same_stmt(a1, b1),
+            _ => false,
+        },
+        StmtKind::Do(a0, a1) => match b {
+            StmtKind::Do(b0, b1) => same_stmt(a0, b0) && same_expr(a1, b1),
+            _ => false,
+        },
+        StmtKind::For(None, a1, a2, a3) => match b {
+            StmtKind::For(None, b1, b2, b3) => {
+                same_option(a1, b1) && same_option(a2, b2) && same_stmt(a3, b3)
+            }
+            _ => false,
+        },
+        StmtKind::For(Some(a0), a1, a2, a3) => match b {
+            StmtKind::For(Some(b0), b1, b2, b3) => {
+                same_stmt(a0, b0) && same_option(a1, b1) && same_option(a2, b2) && same_stmt(a3, b3)
+            }
+            _ => false,
+        },
+        StmtKind::Switch(a0, a1) => match b {
+            StmtKind::Switch(b0, b1) => same_expr(a0, b0) && same_stmts(a1, b1),
+            _ => false,
+        },
+        StmtKind::Case(a0) => match b {
+            StmtKind::Case(b0) => same_expr(a0, b0),
+            _ => false,
+        },
+        StmtKind::Default => match b {
+            StmtKind::Default => true,
+            _ => false,
+        },
+        StmtKind::Break => match b {
+            StmtKind::Break => true,
+            _ => false,
+        },
+        StmtKind::Continue => match b {
+            StmtKind::Continue => true,
+            _ => false,
+        },
+        StmtKind::Goto(a0) => match b {
+            StmtKind::Goto(b0) => same_name(a0, b0),
+            _ => false,
+        },
+        StmtKind::Label(a0, a1) => match b {
+            StmtKind::Label(b0, b1) => same_name(a0, b0) && same_stmt(a1, b1),
+            _ => false,
+        },
+        StmtKind::Return(a0) => match b {
+            StmtKind::Return(b0) => same_option(a0, b0),
+            _ => false,
+        },
+    }
+}
+
+#[cycle(same_stmt)]
+fn same_stmts(a: &[Stmt], b: &[Stmt]) -> bool
+    ensures { IsTrue result ↔ (map stmt_shape (map stmt_tree a.now) ≡ map stmt_shape (map stmt_tree b.now)) }
+{
+    if a.len() != b.len() {
+        return false;
+    }
+    for i in 0..a.len() {
+        if !same_stmt(&a[i], &b[i]) {
+            return false;
+        }
+    }
+    true
+}
+
+fn same_option(a: &Option<Expr>, b: &Option<Expr>) -> bool
+    ensures { IsTrue result ↔ (option_map expr_shape (option_map expr_tree a.now) ≡ option_map expr_shape (option_map expr_tree b.now)) }
+{
+    match a {
+        None => match b {
+            None => true,
+            Some(_) => false,
+        },
+        Some(one) => match b {
+            None => false,
+            Some(other) => same_expr(one, other),
+        },
+    }
+}
+
+#[cycle(same_expr)]
+fn same_expr(a: &Expr, b: &Expr) -> bool
+    ensures { IsTrue result ↔ (expr_shape (expr_tree a.now) ≡ expr_shape (expr_tree b.now)) }
+{
+    same_kind(&a.kind, &b.kind)
+}
+
+#[cycle(same_expr)]
+fn same_kind(a: &ExprKind, b: &ExprKind) -> bool
+    ensures { IsTrue result ↔ (kind_shape (kind_tree a.now) ≡ kind_shape (kind_tree b.now)) }
+{
+    match a {
+        ExprKind::Number(a0, a1) => match b {
+            ExprKind::Number(b0, b1) => a0 == b0 && a1 == b1,
+            _ => false,
+        },
+        ExprKind::Char(a0) => match b {
+            ExprKind::Char(b0) => a0 == b0,
+            _ => false,
+        },
+        ExprKind::Text(a0) => match b {
+            ExprKind::Text(b0) => a0.bytes() == b0.bytes(),
+            _ => false,
+        },
+        ExprKind::Name(a0) => match b {
+            ExprKind::Name(b0) => same_name(a0, b0),
+            _ => false,
+        },
+        ExprKind::Paren(a0) => match b {
+            ExprKind::Paren(b0) => same_expr(a0, b0),
+            _ => false,
+        },
+        ExprKind::Unary(a0, a1) => match b {
+            ExprKind::Unary(b0, b1) => a0 == b0 && same_expr(a1, b1),
+            _ => false,
+        },
+        ExprKind::Cast(a0, a1) => match b {
+            ExprKind::Cast(b0, b1) => same_type(a0, b0) && same_expr(a1, b1),
+            _ => false,
+        },
+        ExprKind::Step(a0, a1) => match b {
+            ExprKind::Step(b0, b1) => a0 == b0 && same_expr(a1, b1),
+            _ => false,
+        },
+        ExprKind::Binary(a0, a1, a2) => match b {
+            ExprKind::Binary(b0, b1, b2) => a0 == b0 && same_expr(a1, b1) && same_expr(a2, b2),
+            _ => false,
+        },
+        ExprKind::And(a0, a1) => match b {
+            ExprKind::And(b0, b1) => same_expr(a0, b0) && same_expr(a1, b1),
+            _ => false,
+        },
+        ExprKind::Or(a0, a1) => match b {
+            ExprKind::Or(b0, b1) => same_expr(a0, b0) && same_expr(a1, b1),
+            _ => false,
+        },
+        ExprKind::Choose(a0, a1, a2) => match b {
+            ExprKind::Choose(b0, b1, b2) => same_expr(a0, b0)
+                && same_expr(a1, b1)
+                && same_expr(a2, b2),
+            _ => false,
+        },
+        ExprKind::Assign(a0, a1, a2) => match b {
+            ExprKind::Assign(b0, b1, b2) => a0 == b0 && same_expr(a1, b1) && same_expr(a2, b2),
+            _ => false,
+        },
+        ExprKind::Call(a0, a1) => match b {
+            ExprKind::Call(b0, b1) => same_name(a0, b0) && same_exprs(a1, b1),
+            _ => false,
+        },
+        ExprKind::Index(a0, a1) => match b {
+            ExprKind::Index(b0, b1) => same_expr(a0, b0) && same_expr(a1, b1),
+            _ => false,
+        },
+        ExprKind::Member(a0, a1) => match b {
+            ExprKind::Member(b0, b1) => same_expr(a0, b0) && same_name(a1, b1),
+            _ => false,
+        },
+    }
+}
+
+#[cycle(same_expr)]
+fn same_exprs(a: &[Expr], b: &[Expr]) -> bool
+    ensures { IsTrue result ↔ (map expr_shape (map expr_tree a.now) ≡ map expr_shape (map expr_tree b.now)) }
+{
+    if a.len() != b.len() {
+        return false;
+    }
+    for i in 0..a.len() {
+        if !same_expr(&a[i], &b[i]) {
+            return false;
+        }
+    }
+    true
+}
+
+fn same_names(a: &Option<Name>, b: &Option<Name>) -> bool
+    ensures { IsTrue result ↔ (option_map name_shape a.now ≡ option_map name_shape b.now) }
+{
+    match a {
+        None => match b {
+            None => true,
+            Some(_) => false,
+        },
+        Some(one) => match b {
+            None => false,
+            Some(other) => same_name(one, other),
+        },
+    }
+}
+
+fn same_type(a: &TypeName, b: &TypeName) -> bool
+    ensures { IsTrue result ↔ (type_shape a.now ≡ type_shape b.now) }
+{
+    match a {
+        TypeName::Void => match b {
+            TypeName::Void => true,
+            _ => false,
+        },
+        TypeName::Char => match b {
+            TypeName::Char => true,
+            _ => false,
+        },
+        TypeName::Int => match b {
+            TypeName::Int => true,
+            _ => false,
+        },
+        TypeName::Unsigned => match b {
+            TypeName::Unsigned => true,
+            _ => false,
+        },
+        TypeName::Struct(a0) => match b {
+            TypeName::Struct(b0) => same_name(a0, b0),
+            _ => false,
+        },
+    }
+}
+
+fn same_name(a: &Name, b: &Name) -> bool
+    ensures { IsTrue result ↔ (name_shape a.now ≡ name_shape b.now) }
+{
+    a.text.bytes() == b.text.bytes()
+}

@@ -1,0 +1,38 @@
+//! Translation units (C11 6.9).
+use crate::declaration::{Declare, Head};
+use crate::expression::Expr;
+use crate::name::Name;
+use crate::statement::Stmt;
+use csub_text::Span;
+
+/// A source as a whole (C11 6.9).
+#[derive(Drop)]
+pub struct Unit {
+    /// Its items in order.
+    pub items: Vec<Item>,
+}
+
+/// What stands outside of every function (C11 6.9).
+#[derive(Drop)]
+pub enum Item {
+    /// A struct and its members (C11 6.7.2.1).
+    Struct(Name, Vec<Declare>),
+    /// An enumeration, with or without a tag (C11 6.7.2.2).
+    Enum(Option<Name>, Vec<Constant>),
+    /// Objects of file scope (C11 6.9.2).
+    Object(Declare),
+    /// A function that is declared (C11 6.7.6.3).
+    Prototype(Head),
+    /// A function that is defined, the lines of its body, and the place of the whole definition, from the first token
+    /// of its type to the closing brace (C11 6.9.1).
+    Function(Head, Vec<Stmt>, Span),
+}
+
+/// A constant of an enumeration (C11 6.7.2.2).
+#[derive(Drop)]
+pub struct Constant {
+    /// Its name.
+    pub name: Name,
+    /// Its value, where it is given.
+    pub value: Option<Expr>,
+}

@@ -1,0 +1,82 @@
+-- From what the steps of `select` answer to its cause or its text.
+use Rattle.std.proofs.Common.{◌≡◌, ℕ, List, Option, Some, Result, Ok, Err, MatchResult, sym, ◌∙◌, subst, arith}
+use Rattle.std.specs.declared.vec.Vec.{Vec}
+use Rattle.std.specs.declared.alloc.Global.{Global}
+use Rattle.dv_outside.specs.Outside.{Files, IsFetched}
+use Rattle.csub_core.specs.Syntax.{ProgramTree}
+use Rattle.read_small.specs.Small.{IsSmall, MeansOneProgram}
+use Rattle.dejavu_cli.specs.Words.{select_files}
+use Rattle.dejavu_cli.specs.Select.{IsHistoryFile, IsSelection}
+use Rattle.dejavu_cli.specs.Steps.{IsSourceCause, IsHistoryCause}
+use Rattle.dejavu_cli.specs.Answers.{HasTextOf, HasCauseOf, HasBadSource}
+use Rattle.dejavu_cli.specs.declared.refusal.Role.{Role}
+use Rattle.dejavu_cli.specs.declared.refusal.Role.TheVariants as role
+use Rattle.dejavu_cli.specs.declared.refusal.Refusal.{Refusal}
+use Rattle.dejavu_cli.specs.declared.refusal.Refusal.TheVariants as refusal
+use Rattle.dejavu_cli.proofs.SourceLemmas.{short_file, found_file, has_source, has_no_source}
+
+module _ (o n h : List ℕ) (told : Option Files) (before now : List ℕ → ℕ) (old : List ℕ) (fetched : IsFetched told o 1048577 old) where
+  pub bad_old : (r : Refusal) → IsSourceCause role.Old old r → HasCauseOf (select_files o n h) told before now r
+  bad_old refusal.Usage cause = absurd cause
+  bad_old (refusal.Source which) cause =
+      subst (λ (named : Role). HasBadSource (select_files o n h) named told) (sym cause.0) (has_no_source told o old fetched cause.1)
+  bad_old refusal.Suite cause = absurd cause
+  bad_old refusal.History cause = absurd cause
+  bad_old refusal.ReadFault cause = absurd cause
+  bad_old refusal.Memory cause = tt
+  bad_old (refusal.TooMuch m) cause = absurd cause
+
+  module _ (P : ProgramTree) (small : IsSmall old P) (mid : Option Files) (same : mid ≡ told) (new : List ℕ) (taken : IsFetched mid n 1048577 new) where
+    pub bad_new : (r : Refusal) → IsSourceCause role.New new r → HasCauseOf (select_files o n h) told before now r
+    bad_new refusal.Usage cause = absurd cause
+    bad_new (refusal.Source which) cause =
+        subst (λ (named : Role). HasBadSource (select_files o n h) named told) (sym cause.0)
+        (λ files at. ((P, has_source told o old fetched P small files at), has_no_source mid n new taken cause.1 files (same ∙ at)))
+    bad_new refusal.Suite cause = absurd cause
+    bad_new refusal.History cause = absurd cause
+    bad_new refusal.ReadFault cause = absurd cause
+    bad_new refusal.Memory cause = tt
+    bad_new (refusal.TooMuch m) cause = absurd cause
+
+    module _ (P' : ProgramTree) (small' : IsSmall new P') (last : Option Files) (same' : last ≡ told) (bytes : List ℕ) (read : IsFetched last h 134217729 bytes) where
+      no_history : (r : Refusal) → IsHistoryCause old bytes P r → HasCauseOf (select_files o n h) told before now r
+      no_history refusal.Usage cause = absurd cause
+      no_history (refusal.Source which) cause = absurd cause
+      no_history refusal.Suite cause = absurd cause
+      no_history refusal.History cause = λ files at.
+          let file = read files (same' ∙ at) in
+          record {
+            old = P;
+            new = P';
+            old_source = has_source told o old fetched P small files at;
+            new_source = has_source mid n new taken P' small' files (same ∙ at);
+            bytes = file.0;
+            found = file.1;
+            none = λ history is. cause history
+                (subst (λ (text : List ℕ). IsHistoryFile old text P history) (sym (short_file 134217729 file.0 bytes file.2 (omega (arith, is.short)))) is);
+          }
+      no_history refusal.ReadFault cause = absurd cause
+      no_history refusal.Memory cause = tt
+      no_history (refusal.TooMuch m) cause = absurd cause
+
+      has_selection : MeansOneProgram → (text : List ℕ) → IsSelection old bytes P P' text → HasTextOf (Some (select_files o n h)) told text
+      has_selection one text is files at = record {
+        old = P;
+        new = P';
+        old_source = has_source told o old fetched P small files at;
+        new_source = has_source mid n new taken P' small' files (same ∙ at);
+        old_alone = λ Q other. one old Q P other small;
+        new_alone = λ Q other. one new Q P' other small';
+        bytes = bytes;
+        found = found_file last h 134217729 bytes read (omega (arith, is.reads.short)) files (same' ∙ at);
+        is = is;
+      }
+
+      pub selected : MeansOneProgram → (r : Result (Vec ℕ Global) Refusal) (first second : List ℕ) → first ≡ old → second ≡ bytes
+          → MatchResult r (λ text. IsSelection first second P P' text.items) (IsHistoryCause first second P)
+          → MatchResult r (λ text. HasTextOf (Some (select_files o n h)) told text.items) (HasCauseOf (select_files o n h) told before now)
+      selected one (Ok text) first second is are done =
+          has_selection one text.items
+          (subst (λ (b : List ℕ). IsSelection old b P P' text.items) are (subst (λ (b : List ℕ). IsSelection b second P P' text.items) is done))
+      selected one (Err r) first second is are failed =
+          no_history r (subst (λ (b : List ℕ). IsHistoryCause old b P r) are (subst (λ (b : List ℕ). IsHistoryCause b second P r) is failed))

@@ -1,0 +1,41 @@
+-- From what is fetched to what the files hold.
+use Rattle.std.proofs.Common.{◌≡◌, ℕ, ◌<◌, List, length, take, Option, Some, sym, ap, ◌∙◌, subst, arith}
+use Rattle.std.proofs.lemmas.List.{length-take}
+use Rattle.std.proofs.lemmas.Grind.{common_steps}
+use Rattle.dv_outside.specs.Outside.{Files, file_at, IsFetched}
+use Rattle.csub_core.specs.Syntax.{ProgramTree}
+use Rattle.read_small.specs.Small.{IsSmall}
+use Rattle.dejavu_cli.specs.Answers.{HasSource, HasNoSource, WhereTold}
+
+-- a beginning of a list that is shorter than was asked for is the whole list
+pub whole_file : (most : ℕ) (whole bytes : List ℕ) → bytes ≡ take most whole → length bytes < most → bytes ≡ whole
+whole_file most whole bytes is short =
+    let count : length bytes ≡ length (take most whole) = ap length is in
+    grind (arith, common_steps, is, count, short, length-take most whole)
+
+pub short_file : (most : ℕ) (whole bytes : List ℕ) → bytes ≡ take most whole → length whole < most → bytes ≡ whole
+short_file most whole bytes is short = grind (arith, common_steps, is, short)
+
+-- what was fetched whole is the file
+pub found_file : (told : Option Files) (name : List ℕ) (most : ℕ) (bytes : List ℕ) → IsFetched told name most bytes → length bytes < most → (files : Files) → told ≡ Some files → file_at files name ≡ Some bytes
+found_file told name most bytes fetched short files at =
+    let file = fetched files at in
+    let is : bytes ≡ file.0 = whole_file most file.0 bytes file.2 short in
+    file.1 ∙ ap Some (sym is)
+
+module _ (told : Option Files) (name source : List ℕ) (fetched : IsFetched told name 1048577 source) where
+  abbrev pub has_source : (P : ProgramTree) → IsSmall source P → (files : Files) → told ≡ Some files → HasSource files name P
+  has_source P small files at = record {
+    bytes = source;
+    found = found_file told name 1048577 source fetched (omega (arith, small.size)) files at;
+    small = small;
+  }
+
+  pub has_no_source : ((P : ProgramTree) → IsSmall source P → ⊥) → WhereTold told (λ files. HasNoSource files name)
+  has_no_source none files at =
+      let file = fetched files at in
+      record {
+        bytes = file.0;
+        found = file.1;
+        none = λ P small. none P (subst (λ bytes. IsSmall bytes P) (sym (short_file 1048577 file.0 source file.2 (omega (arith, small.size)))) small);
+      }

@@ -1,0 +1,15 @@
+use Rattle.std.proofs.Common.{map}
+use Rattle.csub_core.specs.Syntax.{function_tree}
+use Rattle.csub_core.specs.Flows.{flow_of}
+use Rattle.dejavu_cli.proofs.Safety.{selection_is}
+use Rattle.dejavu_cli.proofs.select.selection_text.Goals as goal
+
+pub returns-in-Ok-choices_text : goal.returns-in-Ok-choices_text
+returns-in-Ok-choices_text c =
+    let P = map function_tree c.args.old.now in
+    let P' = map function_tree c.args.new.now in
+    let valid = c.in-Ok.ensures.valid in
+    let counted = c.edges.ensures.listed P c.in-Ok.ensures in
+    selection_is P P' c.args.source.now c.args.bytes.now c.in-Ok-read_entries.history c.in-Ok-choices_text.text.items
+    (c.lockstep.ensures.runs P P' valid c.functions-valid.ensures.valid) (c.bounds.ensures (flow_of P)) (c.edges-2.ensures P) c.a_small_source_means_one_program.ensures
+    valid c.requires (c.in-Ok-read_entries.ensures P counted) (c.in-Ok-choices_text.ensures P P' (c.in-Ok-dangerous_edges.ensures P c.in-Ok.ensures))

@@ -1,0 +1,168 @@
+-- A text that is read line by line, and the first line that breaks a rule.
+use Rattle.std.proofs.Common.{◌≡◌, ◌≢◌, ◌<◌, ◌≤◌, ◌+◌, ◌-◌, ◌*◌, ◌^◌, ◌⊎◌, ℕ, zero, suc, true, List, [], ◌∷◌, ◌++◌, length, drop, codes, get_or, Option, Some, None, refl, sym, ap, subst, ◌∙◌, inl, inr, arith}
+use Rattle.std.specs.Fmt.{decimal}
+use Rattle.std.specs.List.{All, Contains, slice_get}
+use Rattle.std.proofs.lemmas.Bool.{cases_lt}
+use Rattle.std.proofs.lemmas.List.{drop-drop}
+use Rattle.std.proofs.lemmas.Option.{slice_get-get_or}
+use Rattle.hex.specs.Hex.{encode_lower, IsBytes}
+use Rattle.csub_core.specs.Memory.{most_output}
+use Rattle.csub_core.specs.declared.status.Status.{Status}
+use Rattle.line_text.specs.Bytes.{bytes_or_dash}
+use Rattle.line_text.specs.Lines.{TextLine, lines_of, line_with}
+use Rattle.line_text.specs.Words.{line_of_words}
+use Rattle.line_text.proofs.Laws.{lines_of-ended}
+use Rattle.test_suite.specs.Tests.{IsTestName, most_budget, most_input}
+use Rattle.test_history.specs.Faults.{IsReadTo, IsAtEntry}
+use Rattle.test_history.specs.Histories.{IsDigest, IsByteStatus}
+use Rattle.test_history.specs.HistoryTexts.{value_line, status_words, words_or_dash}
+use Rattle.test_history.specs.Rules.{Rule, h1, h2, h3, h4, h5, h6, h7, h8, h9, h10, h11, h12, h13, h14, number_of, IsAsked, Keeps, IsFirstFault, HasLine, HasNumber, HasBytes, HasDigest, HasName, AreRising, SaysEdges, SaysTests, line_at}
+use Rattle.test_history.proofs.AskedLemmas.{same_rule, keeps_same, edges_same, asked_head, asked_entry, asked_after, asked_some}
+use Rattle.test_history.proofs.PlainLemmas.{IsPlain, plain_value, plain_word, plain_decimal, plain_bytes, plain_digest, plain_name, plain_status, plain_numbers}
+use Rattle.test_history.proofs.ValueLemmas.{one_line, one_value}
+
+-- ---- lines
+
+slice_get-drop : {X : Type 0} (n : ℕ) (xs : List X) → slice_get (drop n xs) 0 ≡ slice_get xs n
+slice_get-drop zero xs = refl
+slice_get-drop (suc n) [] = refl
+slice_get-drop (suc n) (x ∷ xs) = slice_get-drop n xs
+
+-- the line after those that are read is the first of the rest
+pub line_next : (text rest : List ℕ) (n : ℕ) → drop n (lines_of text) ≡ lines_of rest → line_at text (n + 1) ≡ line_at rest 1
+line_next text rest n lines =
+    let at : n + 1 - 1 ≡ n = omega arith in
+    ap (slice_get (lines_of text)) at ∙ sym (slice_get-drop n (lines_of text)) ∙ ap (λ ls. slice_get ls 0) lines
+
+pub in_rest : (text rest : List ℕ) (n : ℕ) (line : List ℕ) → IsReadTo text n rest → HasLine text (n + 1) line → HasLine rest 1 line
+in_rest text rest n line read has = sym (line_next text rest n read.lines) ∙ has
+
+lines_cut : (rest line left : List ℕ) → rest ≡ line ++ 10 ∷ left → IsPlain line → lines_of rest ≡ line_with line true ∷ lines_of left
+lines_cut rest line left cut plain = ap lines_of cut ∙ lines_of-ended line left plain
+
+pub has_next : (text rest line left : List ℕ) (n : ℕ) → IsReadTo text n rest → rest ≡ line ++ 10 ∷ left → IsPlain line → HasLine text (n + 1) line
+has_next text rest line left n read cut plain = line_next text rest n read.lines ∙ ap (λ ls. slice_get ls 0) (lines_cut rest line left cut plain)
+
+-- nothing is read at first
+pub none_read : (text : List ℕ) → IsReadTo text 0 text
+none_read text = record {
+  lines = refl;
+  keeps = λ m rule low asked. absurd (omega (arith, asked_some text m rule asked));
+}
+
+-- one more line is read, which keeps the rules of its place
+pub one_more : (text rest line left : List ℕ) (n : ℕ) → IsReadTo text n rest → rest ≡ line ++ 10 ∷ left → IsPlain line
+    → ((rule : Rule) → IsAsked text rule (n + 1) → Keeps text rule (n + 1)) → IsReadTo text (n + 1) left
+one_more text rest line left n read cut plain keeps = record {
+  lines = sym (drop-drop 1 n (lines_of text)) ∙ ap (drop 1) (read.lines ∙ lines_cut rest line left cut plain);
+  keeps = λ m rule low asked. elim (cases_lt n m) [
+    | inl last ↦
+        let same : m ≡ n + 1 = omega arith in
+        subst (Keeps text rule) (sym same) (keeps rule (subst (IsAsked text rule) same asked))
+    | inr before ↦ read.keeps m rule before asked
+  ];
+}
+
+-- the line after those that are read breaks a rule
+pub fault_next : (text rest : List ℕ) (n : ℕ) (rule : Rule) → IsReadTo text n rest → IsAsked text rule (n + 1) → ¬ Keeps text rule (n + 1)
+    → ((other : Rule) → IsAsked text other (n + 1) → number_of other < number_of rule → Keeps text other (n + 1)) → IsFirstFault text (n + 1) (number_of rule)
+fault_next text rest n rule read asked broken least = record {
+  rule = rule;
+  number = refl;
+  asked = asked;
+  broken = broken;
+  least = least;
+  earlier = λ m other before. read.keeps m other (omega arith);
+}
+
+pub at_line : (text rest : List ℕ) (n m : ℕ) → n ≡ m → IsReadTo text n rest → IsReadTo text m rest
+at_line text rest n m same read = subst (λ k. IsReadTo text k rest) same read
+
+-- ---- the first four lines
+
+asked_line : (text : List ℕ) (rule : Rule) (n m : ℕ) → n ≡ m → IsAsked text rule n → IsAsked text rule m
+asked_line text rule n m same asked = subst (IsAsked text rule) same asked
+
+pub head_line : (text rest line left : List ℕ) (n : ℕ) (rule : Rule) → number_of rule ≡ n + 1 → n < 4 → IsReadTo text n rest → rest ≡ line ++ 10 ∷ left → IsPlain line
+    → (HasLine text (n + 1) line → Keeps text rule (n + 1)) → IsReadTo text (n + 1) left
+head_line text rest line left n rule number few read cut plain keeps =
+    one_more text rest line left n read cut plain
+    (λ other asked. keeps_same text (n + 1) rule other (asked_head text (n + 1) other (omega arith) asked ∙ sym number) (keeps (has_next text rest line left n read cut plain)))
+
+pub head_fault : (text rest : List ℕ) (n : ℕ) (rule : Rule) → number_of rule ≡ n + 1 → n < 4 → IsAsked text rule (n + 1) → IsReadTo text n rest
+    → ¬ Keeps text rule (n + 1) → IsFirstFault text (n + 1) (number_of rule)
+head_fault text rest n rule number few asked read broken =
+    fault_next text rest n rule read asked broken
+    (λ other also less. absurd (omega (arith, asked_head text (n + 1) other (omega arith) also)))
+
+-- ---- the lines of an entry
+
+-- one of its lines but the first: m lines are read, k of them of the entry
+pub entry_line : (text : List ℕ) (edges : ℕ) (names : List (List ℕ)) (rest line left : List ℕ) (m k : ℕ) (rule : Rule) → IsAtEntry text edges names → m ≡ 4 + 7 * length names + k → 0 < k → k < 7
+    → number_of rule ≡ k + 6 → IsReadTo text m rest → rest ≡ line ++ 10 ∷ left → IsPlain line → (HasLine text (m + 1) line → Keeps text rule (m + 1)) → IsReadTo text (m + 1) left
+entry_line text edges names rest line left m k rule at is some few number read cut plain keeps =
+    one_more text rest line left m read cut plain
+    (λ other asked. elim (asked_entry text at.tests (length names) k (m + 1) other at.says at.more few (omega arith) asked) [
+      | inl same ↦ keeps_same text (m + 1) rule other (same ∙ sym number) (keeps (has_next text rest line left m read cut plain))
+      | inr first ↦ absurd (omega (arith, first.0))
+    ])
+
+pub entry_fault : (text : List ℕ) (edges : ℕ) (names : List (List ℕ)) (rest : List ℕ) (m k : ℕ) (rule : Rule) → IsAtEntry text edges names → m ≡ 4 + 7 * length names + k → 0 < k → k < 7
+    → number_of rule ≡ k + 6 → IsAsked text rule (m + 1) → IsReadTo text m rest → ¬ Keeps text rule (m + 1) → IsFirstFault text (m + 1) (number_of rule)
+entry_fault text edges names rest m k rule at is some few number asked read broken =
+    fault_next text rest m rule read asked broken
+    (λ other also less. elim (asked_entry text at.tests (length names) k (m + 1) other at.says at.more few (omega arith) also) [
+      | inl same ↦ absurd (omega (arith, same))
+      | inr first ↦ absurd (omega (arith, first.0))
+    ])
+
+-- its first line: the name
+of_earlier : (text : List ℕ) (edges : ℕ) (names : List (List ℕ)) (m place : ℕ) (name : List ℕ) → IsAtEntry text edges names → m ≡ 5 + 7 * place → place < length names → HasName text m name → Contains names name
+of_earlier text edges names m place name at is before has =
+    let there : HasName text (5 + 7 * place) (get_or names place name) = at.named place (get_or names place name) (slice_get-get_or names place name before) in
+    (place, before, one_value text (5 + 7 * place) (codes "test") (get_or names place name) name there.1 (subst (λ n. HasLine text n (value_line (codes "test") name)) is has.1))
+
+keeps_new : (text : List ℕ) (edges : ℕ) (names : List (List ℕ)) (n : ℕ) (name : List ℕ) → IsAtEntry text edges names → n ≡ 4 + 7 * length names → HasName text (n + 1) name → ¬ Contains names name → Keeps text h6 (n + 1)
+keeps_new text edges names n name at is has new = λ other other_has m before asked earlier.
+    let same : other ≡ name = one_value text (n + 1) (codes "test") other name other_has.1 has.1 in
+    let first : m ≡ 5 + 7 * asked.1 = omega (arith, asked.4) in
+    new (subst (Contains names) same (of_earlier text edges names m asked.1 other at first (omega (arith, asked.4)) earlier))
+
+pub name_line : (text : List ℕ) (edges : ℕ) (names : List (List ℕ)) (rest name left : List ℕ) (n : ℕ) → IsAtEntry text edges names → n ≡ 4 + 7 * length names → IsReadTo text n rest
+    → rest ≡ value_line (codes "test") name ++ 10 ∷ left → IsTestName name → ¬ Contains names name → IsReadTo text (n + 1) left × HasName text (n + 1) name
+name_line text edges names rest name left n at is read cut good new =
+    let line : List ℕ = value_line (codes "test") name in
+    let plain : IsPlain (value_line (codes "test") name) = plain_value (codes "test") name refl (plain_name name good) in
+    let here : HasName text (n + 1) name = (good, has_next text rest (value_line (codes "test") name) left n read cut plain) in (
+      one_more text rest (value_line (codes "test") name) left n read cut plain
+          (λ other asked. elim (asked_entry text at.tests (length names) 0 (n + 1) other at.says at.more (omega arith) (omega arith) asked) [
+            | inl second ↦ keeps_same text (n + 1) h6 other second (keeps_new text edges names n name at is here new)
+            | inr first ↦ keeps_same text (n + 1) h5 other first.1 (name, here)
+          ]),
+      here,
+    )
+
+pub no_name : (text : List ℕ) (edges : ℕ) (names : List (List ℕ)) (rest : List ℕ) (n : ℕ) → IsAtEntry text edges names → n ≡ 4 + 7 * length names → IsReadTo text n rest
+    → ((name : List ℕ) → ¬ HasName rest 1 name) → IsFirstFault text (n + 1) 5
+no_name text edges names rest n at is read none =
+    fault_next text rest n h5 read (at.tests, length names, at.says, at.more, omega arith)
+    (λ keeps. none keeps.0 (keeps.1.0, in_rest text rest n (value_line (codes "test") keeps.0) read keeps.1.1))
+    (λ other also less. elim (asked_entry text at.tests (length names) 0 (n + 1) other at.says at.more (omega arith) (omega arith) also) [
+      | inl second ↦ absurd (omega (arith, second))
+      | inr first ↦ absurd (omega (arith, first.1))
+    ])
+
+pub old_name : (text : List ℕ) (edges : ℕ) (names : List (List ℕ)) (rest name left : List ℕ) (n : ℕ) → IsAtEntry text edges names → n ≡ 4 + 7 * length names → IsReadTo text n rest
+    → rest ≡ value_line (codes "test") name ++ 10 ∷ left → IsTestName name → Contains names name → IsFirstFault text (n + 1) 6
+old_name text edges names rest name left n at is read cut good has =
+    let plain : IsPlain (value_line (codes "test") name) = plain_value (codes "test") name refl (plain_name name good) in
+    let here : HasName text (n + 1) name = (good, has_next text rest (value_line (codes "test") name) left n read cut plain) in
+    let place : ℕ = has.0 in
+    let before : place < length names = has.1 in
+    let there : HasName text (5 + 7 * place) (get_or names place name) = at.named place (get_or names place name) (slice_get-get_or names place name before) in
+    fault_next text rest n h6 read (at.tests, length names, at.says, at.more, omega arith)
+    (λ keeps. keeps name here (5 + 7 * place) (omega arith) (at.tests, place, at.says, omega (arith, at.more), omega arith) (subst (HasName text (5 + 7 * place)) has.2 there))
+    (λ other also less. elim (asked_entry text at.tests (length names) 0 (n + 1) other at.says at.more (omega arith) (omega arith) also) [
+      | inl second ↦ absurd (omega (arith, second))
+      | inr first ↦ keeps_same text (n + 1) h5 other first.1 (name, here)
+    ])
