@@ -62,7 +62,7 @@ pub fn dejavu<R: Threads + Sync, S: Shelf, K: Sink, G: Gate>(
 {
     let _runtime = rt;
     let _gate = gate;
-    // By this law a file that is ready is read as what it is ready as.
+    // A history that is one of the old source's program is one of the program that was read: there is no other.
     a_small_source_means_one_program();
     match work(alloc, words, shelf) {
         Ok(text) => say(out, Status8::Done, &text),

@@ -60,7 +60,7 @@ pub(crate) fn selection_text(
     let Ok(danger) = dangerous_edges(alloc, &graph, new) else {
         return Err(Refusal::Memory);
     };
-    // Why a test that is left may be left.
+    // Why a test that is left may be left: the laws of valid programs.
     let _valid = new.functions();
     lockstep();
     bounds();

@@ -71,17 +71,17 @@ fn select<S: Shelf>(
         (HasCauseOf (select_files old_name.now new_name.now history_name.now) (S.files shelf.old) (S.faults shelf.old) (S.faults shelf.new)) }
     ensures counts { NeverFalls (S.faults shelf.old) (S.faults shelf.new) }
 {
-    let source = fetch_file(shelf, old_name, SOURCE_AND_ONE)?;
-    let old = match read_source(alloc, Role::Old, &source) {
+    let old_source = fetch_file(shelf, old_name, SOURCE_AND_ONE)?;
+    let old = match read_source(alloc, Role::Old, &old_source) {
         Ok(program) => program,
         Err(refusal) => return Err(refusal),
     };
-    let other = fetch_file(shelf, new_name, SOURCE_AND_ONE)?;
-    let new = match read_source(alloc, Role::New, &other) {
+    let new_source = fetch_file(shelf, new_name, SOURCE_AND_ONE)?;
+    let new = match read_source(alloc, Role::New, &new_source) {
         Ok(program) => program,
         Err(refusal) => return Err(refusal),
     };
     a_small_source_means_one_program();
     let bytes = fetch_file(shelf, history_name, HISTORY_AND_ONE)?;
-    selection_text(alloc, &source, &old, &new, &bytes)
+    selection_text(alloc, &old_source, &old, &new, &bytes)
 }

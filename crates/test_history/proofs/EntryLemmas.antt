@@ -1,19 +1,19 @@
 -- The lines of an entry, read one by one.
-use Rattle.std.proofs.Common.{◌≡◌, ◌≢◌, ◌<◌, ◌≤◌, ◌+◌, ◌-◌, ◌*◌, ◌^◌, ◌⊎◌, ℕ, zero, suc, true, List, [], ◌∷◌, ◌++◌, length, drop, codes, get_or, Option, Some, None, refl, sym, ap, subst, ◌∙◌, inl, inr, arith, append_assoc}
+use Rattle.std.proofs.Common.{◌≡◌, ◌≤◌, ◌+◌, ◌-◌, ◌*◌, ℕ, List, [], ◌∷◌, ◌++◌, length, drop, codes, refl, sym, ap, subst, ◌∙◌, arith, append_assoc}
 use Rattle.std.specs.Fmt.{decimal}
 use Rattle.std.proofs.lemmas.Fmt.{decimal_injective}
-use Rattle.std.specs.List.{All, Contains, slice_get}
+use Rattle.std.specs.List.{Contains}
 use Rattle.hex.specs.Hex.{IsBytes}
 use Rattle.csub_core.specs.Memory.{most_output}
 use Rattle.csub_core.specs.declared.status.Status.{Status}
 use Rattle.line_text.specs.Bytes.{bytes_or_dash}
-use Rattle.line_text.specs.Lines.{lines_of, text_of_lines}
+use Rattle.line_text.specs.Lines.{text_of_lines}
 use Rattle.line_text.specs.Words.{line_of_words}
-use Rattle.test_suite.specs.Tests.{TestParts, IsTestName, most_budget, most_input}
+use Rattle.test_suite.specs.Tests.{TestParts, most_budget, most_input}
 use Rattle.test_history.specs.Faults.{IsReadTo, IsAtEntry, IsGoodEntry}
-use Rattle.test_history.specs.Histories.{EntryParts, IsDigest, IsByteStatus}
+use Rattle.test_history.specs.Histories.{EntryParts, IsByteStatus}
 use Rattle.test_history.specs.HistoryTexts.{value_line, status_words, words_or_dash, crossed_numbers, entry_lines}
-use Rattle.test_history.specs.Rules.{Rule, h6, h7, h8, h9, h10, h11, h12, number_of, IsAsked, Keeps, IsFirstFault, HasLine, HasNumber, HasBytes, HasName, AreRising, SaysEdges, SaysTests}
+use Rattle.test_history.specs.Rules.{h7, h8, h9, h10, h11, h12, IsFirstFault, HasLine, HasNumber, HasBytes, HasName, AreRising}
 use Rattle.test_history.proofs.AskedLemmas.{edges_same}
 use Rattle.test_history.proofs.PlainLemmas.{IsPlain, plain_value, plain_decimal, plain_bytes, plain_status, plain_numbers}
 use Rattle.test_history.proofs.ReadLemmas.{in_rest, has_next, at_line, entry_line, entry_fault, name_line}
@@ -145,15 +145,6 @@ module _ (text : List ℕ) (edges : ℕ) (names : List (List ℕ)) (n : ℕ) (at
       next_line line more = append_assoc line (10 ∷ more) left
 
 -- the text of an entry, by its lines
-pub results_are : (r3 r4 r5 r6 rest : List ℕ) (entry : EntryParts) → r3 ≡ line_of_words (codes "status" ∷ status_words entry.status) ++ 10 ∷ r4 → r4 ≡ value_line (codes "turns") (decimal entry.turns) ++ 10 ∷ r5
-    → r5 ≡ value_line (codes "output") (bytes_or_dash entry.output) ++ 10 ∷ r6 → r6 ≡ line_of_words (codes "crossed" ∷ words_or_dash (crossed_numbers entry.crossed)) ++ 10 ∷ rest
-    → r3 ≡ text_of_lines (drop 3 (entry_lines entry)) ++ rest
-results_are r3 r4 r5 r6 rest entry one two three four =
-    lines_cons r3 (line_of_words (codes "status" ∷ status_words entry.status)) r4 rest (drop 4 (entry_lines entry)) one
-    (lines_cons r4 (value_line (codes "turns") (decimal entry.turns)) r5 rest (drop 5 (entry_lines entry)) two
-    (lines_cons r5 (value_line (codes "output") (bytes_or_dash entry.output)) r6 rest (drop 6 (entry_lines entry)) three
-    (lines_cons r6 (line_of_words (codes "crossed" ∷ words_or_dash (crossed_numbers entry.crossed))) rest rest [] four refl)))
-
 pub entry_is : (text r1 r2 r3 rest : List ℕ) (entry : EntryParts) (test : TestParts) → entry.test ≡ test → text ≡ value_line (codes "test") test.name ++ 10 ∷ r1 → r1 ≡ value_line (codes "budget") (decimal test.budget) ++ 10 ∷ r2
     → r2 ≡ value_line (codes "input") (bytes_or_dash test.input) ++ 10 ∷ r3 → r3 ≡ text_of_lines (drop 3 (entry_lines entry)) ++ rest → text ≡ text_of_lines (entry_lines entry) ++ rest
 entry_is text r1 r2 r3 rest entry test same one two three results =

@@ -1,6 +1,6 @@
 -- A text has a history or one cause of refusal and never both, and its history is determined.
-use Rattle.std.proofs.Common.{◌≡◌, ◌≢◌, ◌<◌, ◌≤◌, ◌+◌, ◌*◌, ◌⊎◌, ℕ, zero, suc, List, [], ◌∷◌, ◌++◌, length, codes, get_or, Some, None, Result, Ok, Err, MatchResult, refl, sym, ap, subst, ◌∙◌, inl, inr, arith, append_assoc}
-use Rattle.std.specs.List.{All, flat_map, slice_get}
+use Rattle.std.proofs.Common.{◌≡◌, ◌≢◌, ◌<◌, ◌≤◌, ◌+◌, ◌*◌, ℕ, zero, suc, List, [], ◌∷◌, ◌++◌, length, codes, get_or, None, Result, Ok, Err, MatchResult, refl, sym, ap, subst, ◌∙◌, inl, inr, arith, append_assoc}
+use Rattle.std.specs.List.{flat_map}
 use Rattle.std.specs.Fmt.{decimal}
 use Rattle.std.specs.Result.{IsErrAnd}
 use Rattle.std.proofs.lemmas.Bool.{cases_lt}
@@ -8,19 +8,19 @@ use Rattle.std.proofs.lemmas.Fmt.{decimal_injective}
 use Rattle.hex.specs.Hex.{encode_lower, IsBytes}
 use Rattle.std.specs.Int.{w32, to_be_bytes, bytes_high_first, byte_at}
 use Rattle.sha2.specs.Sha256.{sha256, digest_bytes}
-use Rattle.line_text.specs.Lines.{lines_of, text_of_lines}
+use Rattle.line_text.specs.Lines.{text_of_lines}
 use Rattle.test_history.specs.declared.error.HistoryError.{HistoryError}
 use Rattle.test_history.specs.declared.error.HistoryError.TheVariants.{TooLong, Version, Malformed, Sum, Foreign, EdgeCount, Memory}
 use Rattle.test_history.specs.Causes.{IsOfVersion, SaysHistory, HasHistoryCause, IsOnlyCause}
 use Rattle.test_history.specs.Faults.{IsReadTo, IsHead, IsRefusalOf, head_lines}
-use Rattle.test_history.specs.Histories.{EntryParts, HistoryParts, IsDigest, IsReadable}
+use Rattle.test_history.specs.Histories.{HistoryParts, IsDigest, IsReadable}
 use Rattle.test_history.specs.HistoryTexts.{value_line, entry_lines, text_before_end, text_with_sum, history_text, most_history_bytes}
-use Rattle.test_history.specs.Rules.{Rule, h14, number_of, IsAsked, Keeps, IsFirstFault, HasLine, SaysTests, line_at}
+use Rattle.test_history.specs.Rules.{h14, number_of, IsFirstFault, HasLine, SaysTests, line_at}
 use Rattle.test_history.proofs.AskedLemmas.{keeps_same, asked_after, asked_within}
 use Rattle.test_history.proofs.LengthLemmas.{length-sha256}
 use Rattle.test_history.proofs.ReadLemmas.{line_next, at_line}
 use Rattle.test_history.proofs.SameLemmas.{good_entries, histories_same}
-use Rattle.test_history.proofs.WholeLemmas.{head_read, HeadRead, entries_end, end_read, no_version}
+use Rattle.test_history.proofs.WholeLemmas.{head_read, entries_end, end_read, no_version}
 use Rattle.test_history.proofs.ValueLemmas.{one_value}
 
 -- ---- a text of a history has no fault
@@ -45,7 +45,6 @@ whole_read text history sum says =
 pub says_no_fault : (text : List ℕ) (history : HistoryParts) (sum : List ℕ) (n r : ℕ) → SaysHistory text history sum → ¬ IsFirstFault text n r
 says_no_fault text history sum n r says fault =
     let read = whole_read text history sum says in
-    let tests : ℕ = length history.entries in
     let within : n ≤ 6 + 7 * length history.entries = asked_within text (length history.entries) n fault.rule read.1 fault.asked in
     elim (cases_lt (5 + 7 * length history.entries) n) [
       | inl beyond ↦

@@ -1,7 +1,7 @@
 -- No line of a history has a newline in it.
-use Rattle.std.proofs.Common.{◌≡◌, ◌≢◌, ◌<◌, ◌≤◌, ◌^◌, ℕ, Bool, true, false, not, ◌&&◌, eqb, List, [], ◌∷◌, ◌++◌, length, map, codes, refl, sym, ap, subst, arith}
+use Rattle.std.proofs.Common.{◌≡◌, ◌≢◌, ◌<◌, ◌^◌, ℕ, Bool, true, not, ◌&&◌, eqb, List, [], ◌∷◌, map, codes, refl, arith}
 use Rattle.std.specs.Fmt.{decimal}
-use Rattle.std.specs.List.{All, flat_map}
+use Rattle.std.specs.List.{All}
 use Rattle.std.proofs.lemmas.Bool.{and_parts}
 use Rattle.std.proofs.lemmas.List.Elements.{All-nil, All-cons, All-head, All-tail, All-append, All-map, All-weaker}
 use Rattle.hex.specs.Hex.{encode_lower}
@@ -13,12 +13,9 @@ use Rattle.line_text.specs.Bytes.{bytes_or_dash}
 use Rattle.line_text.specs.Words.{line_of_words}
 use Rattle.line_text.proofs.Laws.{IsWord-decimal, IsWord-bytes_or_dash}
 use Rattle.test_suite.specs.Tests.{IsTestName, goes_in_name}
-use Rattle.test_history.specs.Histories.{EntryParts, HistoryParts, IsDigest, IsByteStatus}
-use Rattle.test_history.specs.HistoryTexts.{value_line, status_words, trap_name, words_or_dash, crossed_numbers, entry_lines, first_lines}
-use Rattle.test_history.specs.Faults.{IsGoodEntry}
+use Rattle.test_history.specs.Histories.{IsDigest, IsByteStatus}
+use Rattle.test_history.specs.HistoryTexts.{value_line, status_words, trap_name, words_or_dash}
 use Rattle.test_history.specs.Rules.{AreRising}
-use Rattle.test_history.proofs.RowLemmas.{AreRising-crossed_numbers}
-use Rattle.test_history.proofs.NumbersLemmas.{numbers_line}
 
 -- no newline in a line
 abbrev pub IsPlain : List ℕ → Type 0

@@ -1,25 +1,18 @@
 -- A text that is read line by line, and the first line that breaks a rule.
-use Rattle.std.proofs.Common.{◌≡◌, ◌≢◌, ◌<◌, ◌≤◌, ◌+◌, ◌-◌, ◌*◌, ◌^◌, ◌⊎◌, ℕ, zero, suc, true, List, [], ◌∷◌, ◌++◌, length, drop, codes, get_or, Option, Some, None, refl, sym, ap, subst, ◌∙◌, inl, inr, arith}
-use Rattle.std.specs.Fmt.{decimal}
-use Rattle.std.specs.List.{All, Contains, slice_get}
+use Rattle.std.proofs.Common.{◌≡◌, ◌<◌, ◌+◌, ◌-◌, ◌*◌, ℕ, zero, suc, true, List, [], ◌∷◌, ◌++◌, length, drop, codes, get_or, refl, sym, ap, subst, ◌∙◌, inl, inr, arith}
+use Rattle.std.specs.List.{Contains, slice_get}
 use Rattle.std.proofs.lemmas.Bool.{cases_lt}
 use Rattle.std.proofs.lemmas.List.{drop-drop}
 use Rattle.std.proofs.lemmas.Option.{slice_get-get_or}
-use Rattle.hex.specs.Hex.{encode_lower, IsBytes}
-use Rattle.csub_core.specs.Memory.{most_output}
-use Rattle.csub_core.specs.declared.status.Status.{Status}
-use Rattle.line_text.specs.Bytes.{bytes_or_dash}
-use Rattle.line_text.specs.Lines.{TextLine, lines_of, line_with}
-use Rattle.line_text.specs.Words.{line_of_words}
+use Rattle.line_text.specs.Lines.{lines_of, line_with}
 use Rattle.line_text.proofs.Laws.{lines_of-ended}
-use Rattle.test_suite.specs.Tests.{IsTestName, most_budget, most_input}
+use Rattle.test_suite.specs.Tests.{IsTestName}
 use Rattle.test_history.specs.Faults.{IsReadTo, IsAtEntry}
-use Rattle.test_history.specs.Histories.{IsDigest, IsByteStatus}
-use Rattle.test_history.specs.HistoryTexts.{value_line, status_words, words_or_dash}
-use Rattle.test_history.specs.Rules.{Rule, h1, h2, h3, h4, h5, h6, h7, h8, h9, h10, h11, h12, h13, h14, number_of, IsAsked, Keeps, IsFirstFault, HasLine, HasNumber, HasBytes, HasDigest, HasName, AreRising, SaysEdges, SaysTests, line_at}
-use Rattle.test_history.proofs.AskedLemmas.{same_rule, keeps_same, edges_same, asked_head, asked_entry, asked_after, asked_some}
-use Rattle.test_history.proofs.PlainLemmas.{IsPlain, plain_value, plain_word, plain_decimal, plain_bytes, plain_digest, plain_name, plain_status, plain_numbers}
-use Rattle.test_history.proofs.ValueLemmas.{one_line, one_value}
+use Rattle.test_history.specs.HistoryTexts.{value_line}
+use Rattle.test_history.specs.Rules.{Rule, h5, h6, number_of, IsAsked, Keeps, IsFirstFault, HasLine, HasName, line_at}
+use Rattle.test_history.proofs.AskedLemmas.{keeps_same, asked_head, asked_entry, asked_some}
+use Rattle.test_history.proofs.PlainLemmas.{IsPlain, plain_value, plain_name}
+use Rattle.test_history.proofs.ValueLemmas.{one_value}
 
 -- ---- lines
 
@@ -80,9 +73,6 @@ at_line text rest n m same read = subst (λ k. IsReadTo text k rest) same read
 
 -- ---- the first four lines
 
-asked_line : (text : List ℕ) (rule : Rule) (n m : ℕ) → n ≡ m → IsAsked text rule n → IsAsked text rule m
-asked_line text rule n m same asked = subst (IsAsked text rule) same asked
-
 pub head_line : (text rest line left : List ℕ) (n : ℕ) (rule : Rule) → number_of rule ≡ n + 1 → n < 4 → IsReadTo text n rest → rest ≡ line ++ 10 ∷ left → IsPlain line
     → (HasLine text (n + 1) line → Keeps text rule (n + 1)) → IsReadTo text (n + 1) left
 head_line text rest line left n rule number few read cut plain keeps =
@@ -131,7 +121,6 @@ keeps_new text edges names n name at is has new = λ other other_has m before as
 pub name_line : (text : List ℕ) (edges : ℕ) (names : List (List ℕ)) (rest name left : List ℕ) (n : ℕ) → IsAtEntry text edges names → n ≡ 4 + 7 * length names → IsReadTo text n rest
     → rest ≡ value_line (codes "test") name ++ 10 ∷ left → IsTestName name → ¬ Contains names name → IsReadTo text (n + 1) left × HasName text (n + 1) name
 name_line text edges names rest name left n at is read cut good new =
-    let line : List ℕ = value_line (codes "test") name in
     let plain : IsPlain (value_line (codes "test") name) = plain_value (codes "test") name refl (plain_name name good) in
     let here : HasName text (n + 1) name = (good, has_next text rest (value_line (codes "test") name) left n read cut plain) in (
       one_more text rest (value_line (codes "test") name) left n read cut plain

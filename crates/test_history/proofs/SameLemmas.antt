@@ -1,5 +1,5 @@
 -- A text is that of one history.
-use Rattle.std.proofs.Common.{◌≡◌, ◌≢◌, ◌<◌, ◌≤◌, ◌+◌, ◌^◌, ℕ, eqb, cond, Bool, true, false, List, [], ◌∷◌, ◌++◌, length, length-append, map, drop, codes, get_or, refl, sym, ap, subst, ◌∙◌, arith, append_assoc, append-nil}
+use Rattle.std.proofs.Common.{◌≡◌, ◌≢◌, ◌<◌, ◌^◌, ℕ, eqb, cond, Bool, true, List, [], ◌∷◌, ◌++◌, length, length-append, map, drop, codes, get_or, refl, sym, ap, subst, ◌∙◌, arith, append_assoc, append-nil}
 use Rattle.std.specs.Fmt.{decimal}
 use Rattle.std.specs.List.{All, flat_map}
 use Rattle.std.proofs.lemmas.Fmt.{decimal_injective, decimal_nonempty}
@@ -12,10 +12,10 @@ use Rattle.csub_types.specs.declared.trap.Trap.{Trap}
 use Rattle.csub_types.specs.declared.trap.Trap.TheVariants.{Overflow, Divide, Shift, Bounds, Unset, Flood, Depth, Missing}
 use Rattle.line_text.specs.Bytes.{bytes_or_dash}
 use Rattle.line_text.specs.Lines.{TextLine, lines_of, line_with, text_of_lines}
-use Rattle.line_text.specs.Words.{line_of_words, pieces}
+use Rattle.line_text.specs.Words.{line_of_words}
 use Rattle.line_text.proofs.Laws.{lines_of-text_of_lines, bytes_or_dash-injective}
 use Rattle.line_text.proofs.NumberLemmas.{decimal-all_digits}
-use Rattle.test_suite.specs.Tests.{TestParts, most_budget}
+use Rattle.test_suite.specs.Tests.{TestParts}
 use Rattle.test_history.specs.Faults.{IsGoodEntry}
 use Rattle.test_history.specs.Histories.{EntryParts, HistoryParts, IsDigest, IsByteStatus, IsReadable}
 use Rattle.test_history.specs.HistoryTexts.{value_line, status_words, trap_name, words_or_dash, crossed_numbers, entry_lines, first_lines, text_with_sum}

@@ -1,12 +1,12 @@
 -- The first line of a text: a word and a value.
-use Rattle.std.proofs.Common.{◌≡◌, ◌≢◌, ℕ, Bool, true, false, List, [], ◌∷◌, ◌++◌, length, codes, Some, None, refl, sym, ap, ◌∙◌, arith}
+use Rattle.std.proofs.Common.{◌≡◌, ◌≢◌, ℕ, Bool, true, List, ◌∷◌, ◌++◌, Some, refl, sym, ap, ◌∙◌}
 use Rattle.std.proofs.lemmas.List.{append_cancel_left}
 use Rattle.line_text.specs.Lines.{TextLine, lines_of, line_with}
 use Rattle.line_text.specs.Words.{line_of_words}
 use Rattle.csub_core.specs.declared.status.Status.{Status}
 use Rattle.csub_core.specs.declared.status.Status.TheVariants as status
 use Rattle.test_history.specs.HistoryTexts.{value_line, status_words}
-use Rattle.test_history.specs.Rules.{HasLine, line_at}
+use Rattle.test_history.specs.Rules.{HasLine}
 
 abbrev bytes_in : TextLine → List ℕ
 bytes_in line = line.bytes

@@ -1,10 +1,9 @@
 -- A whole text, read from its first line to its last.
-use Rattle.std.proofs.Common.{◌≡◌, ◌≢◌, ◌<◌, ◌≤◌, ◌+◌, ◌-◌, ◌*◌, ◌^◌, ◌⊎◌, ℕ, zero, suc, add-one, eqb, true, false, List, [], ◌∷◌, ◌++◌, length, length-append, map, drop, codes, get_or, Option, Some, None, refl, sym, ap, subst, ◌∙◌, inl, inr, arith, append_assoc, append-nil}
+use Rattle.std.proofs.Common.{◌≡◌, ◌≢◌, ◌<◌, ◌≤◌, ◌+◌, ◌*◌, ◌⊎◌, ℕ, zero, suc, eqb, false, List, [], ◌∷◌, ◌++◌, length, length-append, drop, codes, get_or, Some, None, refl, sym, ap, subst, ◌∙◌, inl, inr, arith, append_assoc, append-nil}
 use Rattle.std.specs.Fmt.{decimal}
 use Rattle.std.specs.List.{All, AllPairs, Contains, flat_map, slice_get, slice_split, join_with_byte}
 use Rattle.std.proofs.lemmas.List.Splits.{join_with_byte-slice_split}
 use Rattle.std.proofs.Math.Seq.{get_or-append_seam}
-use Rattle.std.proofs.lemmas.Bool.{cases_lt}
 use Rattle.std.proofs.lemmas.Fmt.{decimal_injective, decimal_digit}
 use Rattle.std.proofs.lemmas.List.{get_or_append_left, get_or_default, length-map, map-append}
 use Rattle.std.proofs.lemmas.List.Concat.{flat_map-append}
@@ -14,16 +13,16 @@ use Rattle.hex.specs.Hex.{encode_lower}
 use Rattle.csub_core.specs.Valid.{most_edges}
 use Rattle.line_text.specs.Lines.{lines_of, lines_between, text_of_lines}
 use Rattle.test_suite.specs.Suites.{most_tests}
-use Rattle.test_history.specs.Causes.{IsOfVersion, SaysHistory}
+use Rattle.test_history.specs.Causes.{IsOfVersion}
 use Rattle.test_history.specs.declared.fault.Fault.{Fault}
 use Rattle.test_history.specs.declared.fault.Fault.TheVariants.{Broken, Memory}
 use Rattle.test_history.specs.Faults.{IsReadTo, IsAtEntry, IsGoodEntry, IsHead, head_lines, IsFaultAfter, IsEntryFault, IsRestRefusal, IsEntriesRefusal, IsEndFault, IsRefusalOf, refusal_after}
 use Rattle.test_history.specs.declared.error.HistoryError.{HistoryError}
 use Rattle.test_history.specs.declared.error.HistoryError.TheVariants as error
-use Rattle.test_history.specs.Histories.{EntryParts, HistoryParts, IsDigest, IsReadable, names_of}
-use Rattle.test_history.specs.HistoryTexts.{value_line, entry_lines, text_before_end, text_with_sum}
-use Rattle.test_history.specs.Rules.{Rule, h1, h2, h3, h4, h13, h14, number_of, IsAsked, Keeps, IsFirstFault, HasLine, HasNumber, HasDigest, HasName, SaysEdges, SaysTests, line_at}
-use Rattle.test_history.proofs.AskedLemmas.{keeps_same, tests_same, asked_after, asked_within}
+use Rattle.test_history.specs.Histories.{EntryParts, IsDigest, names_of}
+use Rattle.test_history.specs.HistoryTexts.{value_line, entry_lines, text_before_end}
+use Rattle.test_history.specs.Rules.{h1, h2, h3, h4, h13, h14, IsFirstFault, HasLine, HasNumber, HasDigest, HasName, SaysEdges, SaysTests, line_at}
+use Rattle.test_history.proofs.AskedLemmas.{keeps_same, asked_after}
 use Rattle.test_history.proofs.EntryLemmas.{entry_read}
 use Rattle.test_history.proofs.PlainLemmas.{IsPlain, plain_value, plain_word, plain_decimal, plain_digest}
 use Rattle.test_history.proofs.ReadLemmas.{in_rest, has_next, none_read, one_more, fault_next, at_line, head_line, head_fault, line_next}
@@ -64,9 +63,7 @@ entries_read text edges tests [] names n rest left bound says named is read good
     let same : n ≡ n + 7 * 0 = omega arith in
     (at_line text left n (n + 7 * 0) same (subst (IsReadTo text n) cut read), subst (AreNamed text) (sym (append-nil names)) named)
 entries_read text edges tests (entry ∷ entries) names n rest left bound says named is read good apart few cut =
-    let name : List ℕ = entry.test.name in
     let at : IsAtEntry text edges names = record { bound = bound; tests = tests; says = says; more = omega (arith, few); named = named } in
-    let more : List ℕ = text_of_lines (flat_map entry_lines entries) ++ left in
     let one = entry_read text edges names n at is rest (text_of_lines (flat_map entry_lines entries) ++ left) entry read (All-head (IsGoodEntry edges) entry entries good) (fresh names (names_of entries) entry.test.name apart)
     (cut ∙ lines_append (entry_lines entry) (flat_map entry_lines entries) left) in
     let size : length (names ++ entry.test.name ∷ []) ≡ length names + 1 = length-append names (entry.test.name ∷ []) in
@@ -202,7 +199,6 @@ tests_fault text rest read none = head_fault text rest 3 h4 refl (omega arith) r
 
 pub end_read : (text rest left sum : List ℕ) (tests n : ℕ) → SaysTests text tests → n ≡ 4 + 7 * tests → IsReadTo text n rest → rest ≡ value_line (codes "end") (encode_lower sum) ++ 10 ∷ left → IsDigest sum → IsReadTo text (n + 1) left
 end_read text rest left sum tests n says is read cut good =
-    let line : List ℕ = value_line (codes "end") (encode_lower sum) in
     let plain : IsPlain (value_line (codes "end") (encode_lower sum)) = plain_value (codes "end") (encode_lower sum) refl (plain_digest sum good) in
     one_more text rest (value_line (codes "end") (encode_lower sum)) left n read cut plain
     (λ other asked. keeps_same text (n + 1) h13 other (asked_after text tests 0 (n + 1) other says (omega arith) asked)
@@ -227,7 +223,6 @@ no_parts (line ∷ next ∷ more) none = absurd (cc none)
 
 no_lines : (text : List ℕ) → lines_of text ≡ [] → text ≡ []
 no_lines text none =
-    let parts = slice_split (λ byte. eqb byte 10) text in
     let whole : join_with_byte 10 (slice_split (λ byte. eqb byte 10) text) ≡ text = join_with_byte-slice_split 10 text in
     elim (no_parts (slice_split (λ byte. eqb byte 10) text) none) [
       | inl is ↦ sym whole ∙ ap (join_with_byte 10) is

@@ -56,35 +56,35 @@ fn with_bytes(
 ) -> Result<Vec<u8>, AllocError> {
     let mut out = Vec::new(alloc);
     let mut rest = text;
-    let mut at = 1u32;
-    while let Some(line) = cut_line(rest) {
+    for at in 1..21 {
         if at == number {
             out.extend_from_slice(bytes)?;
-        } else {
+        }
+        let Some(line) = cut_line(rest) else {
+            break;
+        };
+        if at != number {
             out.extend_from_slice(line.bytes)?;
             out.push(b'\n')?;
         }
-        at = at.saturating_add(1);
         rest = line.rest;
-    }
-    if at == number {
-        out.extend_from_slice(bytes)?;
     }
     Ok(out)
 }
 
-/// The first lines of a text.
-fn lines_before(text: &[u8], number: u32) -> &[u8] {
+/// The lines of a text before its line `number`.
+fn lines_before(alloc: Global, text: &[u8], number: u32) -> Result<Vec<u8>, AllocError> {
+    let mut out = Vec::new(alloc);
     let mut rest = text;
-    let mut at = 1u32;
-    while at < number {
-        match cut_line(rest) {
-            Some(line) => rest = line.rest,
-            None => return text,
-        }
-        at = at.saturating_add(1);
+    for _ in 1..number {
+        let Some(line) = cut_line(rest) else {
+            break;
+        };
+        out.extend_from_slice(line.bytes)?;
+        out.push(b'\n')?;
+        rest = line.rest;
     }
-    &text[..text.len().saturating_sub(rest.len())]
+    Ok(out)
 }
 
 /// The rule of a line of `TWO_TESTS`; of lines 5 and 12 the lesser.
@@ -259,17 +259,16 @@ fn every_line_has_a_rule(rt: HostRuntime) -> Result<(), Fail> {
 }
 
 #[test]
-fn a_line_that_is_missing_or_has_no_newline_breaks_its_rule(rt: HostRuntime) {
+fn a_line_that_is_missing_or_has_no_newline_breaks_its_rule(rt: HostRuntime) -> Result<(), Fail> {
     for line in 1..20 {
-        let before = lines_before(TWO_TESTS, line);
-        let after = lines_before(TWO_TESTS, line + 1);
         let want = Some(HistoryError::Malformed(line, rule_of(line)));
-        assert!(rt; refusal(rt.alloc(), before) == want, "{line}");
-        assert!(rt;
-            refusal(rt.alloc(), &after[..after.len().saturating_sub(1)]) == want,
-            "{line}"
-        );
+        let before = lines_before(rt.alloc(), TWO_TESTS, line)?;
+        assert!(rt; refusal(rt.alloc(), &before) == want, "{line}");
+        let mut unended = lines_before(rt.alloc(), TWO_TESTS, line + 1)?;
+        unended.pop();
+        assert!(rt; refusal(rt.alloc(), &unended) == want, "{line}");
     }
+    Ok(())
 }
 
 #[test]

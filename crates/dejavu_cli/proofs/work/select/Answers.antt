@@ -6,25 +6,25 @@ use Rattle.dejavu_cli.proofs.work.select.Goals as goal
 
 pub returns-in-Err-clause-answer : goal.returns-in-Err-clause-answer
 returns-in-Err-clause-answer g c =
-    let fetched = subst (IsFetched (g.S.Shelf.files c.args.shelf.now) c.args.old_name.now 1048577) (sym c.deref.ensures.value) c.in_ok-source.ensures.bytes in
+    let fetched = subst (IsFetched (g.S.Shelf.files c.args.shelf.now) c.args.old_name.now 1048577) (sym c.deref.ensures.value) c.in_ok-old_source.ensures.bytes in
     bad_old c.args.old_name.now c.args.new_name.now c.args.history_name.now (g.S.Shelf.files c.args.shelf.now) (g.S.Shelf.faults c.args.shelf.now) (g.S.Shelf.faults c.fetch_file.new.shelf)
     c.deref.result.now fetched c.in-Err.refusal c.in-Err.ensures.cause
 
 pub returns-in-Err-read_source-clause-answer : goal.returns-in-Err-read_source-clause-answer
 returns-in-Err-read_source-clause-answer g c =
-    let fetched = subst (IsFetched (g.S.Shelf.files c.args.shelf.now) c.args.old_name.now 1048577) (sym c.deref.ensures.value) c.in_ok-source.ensures.bytes in
-    let taken = subst (IsFetched (g.S.Shelf.files c.fetch_file.new.shelf) c.args.new_name.now 1048577) (sym c.deref-2.ensures.value) c.in_ok-other.ensures.bytes in
+    let fetched = subst (IsFetched (g.S.Shelf.files c.args.shelf.now) c.args.old_name.now 1048577) (sym c.deref.ensures.value) c.in_ok-old_source.ensures.bytes in
+    let taken = subst (IsFetched (g.S.Shelf.files c.fetch_file.new.shelf) c.args.new_name.now 1048577) (sym c.deref-2.ensures.value) c.in_ok-new_source.ensures.bytes in
     bad_new c.args.old_name.now c.args.new_name.now c.args.history_name.now (g.S.Shelf.files c.args.shelf.now) (g.S.Shelf.faults c.args.shelf.now) (g.S.Shelf.faults c.fetch_file-2.new.shelf)
-    c.deref.result.now fetched (map function_tree c.in-Ok.program) c.in-Ok.ensures.small (g.S.Shelf.files c.fetch_file.new.shelf) c.in_ok-source.ensures.same
+    c.deref.result.now fetched (map function_tree c.in-Ok.program) c.in-Ok.ensures.small (g.S.Shelf.files c.fetch_file.new.shelf) c.in_ok-old_source.ensures.same
     c.deref-2.result.now taken c.in-Err-read_source.refusal c.in-Err-read_source.ensures.cause
 
 pub returns-clause-answer : goal.returns-clause-answer
 returns-clause-answer g c =
-    let fetched = subst (IsFetched (g.S.Shelf.files c.args.shelf.now) c.args.old_name.now 1048577) (sym c.deref.ensures.value) c.in_ok-source.ensures.bytes in
-    let taken = subst (IsFetched (g.S.Shelf.files c.fetch_file.new.shelf) c.args.new_name.now 1048577) (sym c.deref-2.ensures.value) c.in_ok-other.ensures.bytes in
+    let fetched = subst (IsFetched (g.S.Shelf.files c.args.shelf.now) c.args.old_name.now 1048577) (sym c.deref.ensures.value) c.in_ok-old_source.ensures.bytes in
+    let taken = subst (IsFetched (g.S.Shelf.files c.fetch_file.new.shelf) c.args.new_name.now 1048577) (sym c.deref-2.ensures.value) c.in_ok-new_source.ensures.bytes in
     selected c.args.old_name.now c.args.new_name.now c.args.history_name.now (g.S.Shelf.files c.args.shelf.now) (g.S.Shelf.faults c.args.shelf.now) (g.S.Shelf.faults c.fetch_file-3.new.shelf)
-    c.deref.result.now fetched (map function_tree c.in-Ok.program) c.in-Ok.ensures.small (g.S.Shelf.files c.fetch_file.new.shelf) c.in_ok-source.ensures.same
+    c.deref.result.now fetched (map function_tree c.in-Ok.program) c.in-Ok.ensures.small (g.S.Shelf.files c.fetch_file.new.shelf) c.in_ok-old_source.ensures.same
     c.deref-2.result.now taken (map function_tree c.in-Ok-read_source.program) c.in-Ok-read_source.ensures.small
-    (g.S.Shelf.files c.fetch_file-2.new.shelf) (c.in_ok-other.ensures.same ∙ c.in_ok-source.ensures.same) c.in_ok-bytes.bytes.items c.in_ok-bytes.ensures.bytes
+    (g.S.Shelf.files c.fetch_file-2.new.shelf) (c.in_ok-new_source.ensures.same ∙ c.in_ok-old_source.ensures.same) c.in_ok-bytes.bytes.items c.in_ok-bytes.ensures.bytes
     c.a_small_source_means_one_program.ensures c.selection_text.result c.deref-3.result.now c.deref-4.result.now
     (c.deref-3.ensures.value ∙ sym c.deref.ensures.value) c.deref-4.ensures.value c.selection_text.ensures

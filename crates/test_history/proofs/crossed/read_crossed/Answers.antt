@@ -1,7 +1,6 @@
 use Rattle.std.proofs.Common.{codes, subst}
 use Rattle.test_history.specs.Rules.{HasLine}
 use Rattle.test_history.proofs.NumbersLemmas.{numbers_line}
-use Rattle.test_history.proofs.ValueLemmas.{one_value}
 use Rattle.test_history.proofs.crossed.read_crossed.Goals as goal
 
 pub returns-in_default : goal.returns-in_default

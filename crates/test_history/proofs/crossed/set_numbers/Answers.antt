@@ -1,4 +1,4 @@
-use Rattle.std.proofs.Common.{◌≡◌, ◌≤◌, ◌∙◌, ◌∷◌, ◌++◌, [], ℕ, List, true, length, length-set, ap, refl, sym, arith, append-nil}
+use Rattle.std.proofs.Common.{◌≡◌, ◌≤◌, ◌∙◌, ◌∷◌, [], true, length, length-set, refl, arith, append-nil}
 use Rattle.line_text.specs.Words.{pieces}
 use Rattle.test_history.proofs.NumbersLemmas.{begins, no_word, no_number, bad_number, next_left, clear_set, said_more, said_first, clear_first}
 use Rattle.test_history.proofs.crossed.set_numbers.Goals as goal

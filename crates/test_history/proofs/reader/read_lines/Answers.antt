@@ -1,4 +1,4 @@
-use Rattle.std.proofs.Common.{◌≡◌, ◌∙◌, ◌++◌, sym, ap}
+use Rattle.std.proofs.Common.{◌∙◌, sym, ap}
 use Rattle.test_history.specs.Faults.{IsRefusalOf}
 use Rattle.test_history.specs.HistoryTexts.{text_before_end}
 use Rattle.test_history.proofs.TextLemmas.{passed_err, front_is}

@@ -1,4 +1,4 @@
-use Rattle.std.proofs.Common.{codes, subst, sym}
+use Rattle.std.proofs.Common.{codes, subst}
 use Rattle.test_suite.specs.Tests.{IsTestName}
 use Rattle.test_history.proofs.ValueLemmas.{one_value}
 use Rattle.test_history.proofs.values.read_name.Goals as goal
