@@ -1,0 +1,11 @@
+pub mod Runs
+pub mod Taken
+pub mod Local
+pub mod Series
+pub mod Spelled
+pub mod ExprSound
+pub mod ExprLocal
+pub mod ExprComplete
+pub mod Unrolled
+pub mod InitLaws
+pub mod Repeats

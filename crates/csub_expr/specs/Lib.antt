@@ -1,0 +1,5 @@
+pub mod Looks
+pub mod Answers
+pub mod ListDescent
+pub mod ExprDescent
+pub mod InitDescent

@@ -1,0 +1,30 @@
+//! Why a part of the descent stopped.
+ghost use Rattle.std.specs.Prelude.{◌≡◌};
+ghost use Rattle.csub_expr.specs.declared.stop.Stop.TheVariants.{Memory};
+
+use std::alloc::{AllocError, AllocFailed};
+
+/// Why no tree was read.
+#[derive(Debug, Drop)]
+pub enum Stop {
+    /// Memory was wanted.
+    Memory,
+    /// A token was refused where so many tokens were left, itself counted.
+    At(usize),
+}
+
+impl From<AllocError> for Stop {
+    ghost from_gives = { λ _ e. e ≡ Memory };
+
+    fn from(_e: AllocError) -> Stop {
+        Stop::Memory
+    }
+}
+
+impl<T: Drop> From<AllocFailed<T>> for Stop {
+    ghost from_gives = { λ _ e. e ≡ Memory };
+
+    fn from(_e: AllocFailed<T>) -> Stop {
+        Stop::Memory
+    }
+}
