@@ -1,0 +1,80 @@
+-- What the readers of expressions and initialisers are asked for.
+use Rattle.std.proofs.Common.{◌≡◌, ℕ, ◌<◌, ◌≤◌, List, ◌∷◌, ◌++◌, Option, Some, None, Ok, Bool, true, false, refl}
+use Rattle.csub_text.specs.declared.span.Span.{Span}
+use Rattle.csub_lex.specs.declared.token.Mark.TheVariants as marks
+use Rattle.csub_lex.specs.declared.token.Token.{Token}
+use Rattle.csub_tree.specs.Expressions.{Expr}
+use Rattle.csub_tree.specs.Declarations.{Init}
+use Rattle.csub_tree.specs.Depth.{expr_depth, init_depth}
+use Rattle.csub_tree.specs.Tokens.{mark}
+use Rattle.csub_tree.specs.SpellsExpressions.{SpellsExpr, assignment, conditional, loosest}
+use Rattle.csub_tree.specs.SpellsDeclarations.{SpellsInit}
+use Rattle.csub_expr.specs.Looks.{begins, op_at, assignment_at, tail_at}
+use Rattle.csub_expr.specs.ExprDescent.{read}
+use Rattle.csub_expr.specs.InitDescent.{read_init}
+use Rattle.csub_expr.proofs.Local.{Local}
+use Rattle.csub_expr.proofs.ExprComplete.{complete, complete_conditional}
+use Rattle.csub_expr.proofs.InitLaws as inits
+
+-- what comes continues no conditional expression, and no assignment
+abbrev pub EndsConditional : List Token → Type 0
+EndsConditional r = ((tail_at r ≡ None) × (begins marks.OpenParen r ≡ false)) × ((j : ℕ) → j < loosest → op_at j r ≡ None) × (begins marks.Question r ≡ false)
+
+abbrev pub EndsAssignment : List Token → Type 0
+EndsAssignment r = ((tail_at r ≡ None) × (begins marks.OpenParen r ≡ false)) × ((j : ℕ) → j < loosest → op_at j r ≡ None) × (begins marks.Question r ≡ false) × (assignment_at r ≡ None)
+
+pub record TookInit (d : ℕ) (ts : List Token) (i : Init) (r : List Token) : Type 0 where
+  pub s : List Token
+  pub parts : ts ≡ s ++ r
+  pub spelled : SpellsInit i s
+  pub fits : init_depth i ≤ d
+
+-- the laws of the readers below
+pub record Laws : Type 0 where
+  pub assignment_reads : {e : Expr} {s : List Token} → SpellsExpr assignment e s → (d : ℕ) → expr_depth e ≤ d → (r : List Token) → EndsAssignment r → read d assignment (s ++ r) ≡ Ok (e, r)
+  pub conditional_reads : {e : Expr} {s : List Token} → SpellsExpr conditional e s → (d : ℕ) → expr_depth e ≤ d → (r : List Token) → EndsConditional r → read d conditional (s ++ r) ≡ Ok (e, r)
+  pub init_reads : {i : Init} {s : List Token} → SpellsInit i s → (d : ℕ) → init_depth i ≤ d → (r : List Token) → EndsAssignment r → read_init d (s ++ r) ≡ Ok (i, r)
+  pub init_sound : (d : ℕ) (ts : List Token) (i : Init) (r : List Token) → read_init d ts ≡ Ok (i, r) → TookInit d ts i r
+  pub init_local : (d : ℕ) → Local Init (read_init d)
+
+-- the marks that stand behind expressions
+pub ends_comma : (a : Span) (r : List Token) → EndsAssignment (mark marks.Comma a ∷ r)
+unfolding begins op_at assignment_at tail_at
+ends_comma a r = ((refl, refl), (λ j lt. refl), refl, refl)
+
+pub ends_semicolon : (a : Span) (r : List Token) → EndsAssignment (mark marks.Semicolon a ∷ r)
+unfolding begins op_at assignment_at tail_at
+ends_semicolon a r = ((refl, refl), (λ j lt. refl), refl, refl)
+
+pub ends_paren : (a : Span) (r : List Token) → EndsAssignment (mark marks.CloseParen a ∷ r)
+unfolding begins op_at assignment_at tail_at
+ends_paren a r = ((refl, refl), (λ j lt. refl), refl, refl)
+
+pub ends_colon : (a : Span) (r : List Token) → EndsAssignment (mark marks.Colon a ∷ r)
+unfolding begins op_at assignment_at tail_at
+ends_colon a r = ((refl, refl), (λ j lt. refl), refl, refl)
+
+pub stops_bracket : (a : Span) (r : List Token) → EndsConditional (mark marks.CloseBracket a ∷ r)
+unfolding begins op_at tail_at
+stops_bracket a r = ((refl, refl), (λ j lt. refl), refl)
+
+pub stops_colon : (a : Span) (r : List Token) → EndsConditional (mark marks.Colon a ∷ r)
+unfolding begins op_at tail_at
+stops_colon a r = ((refl, refl), (λ j lt. refl), refl)
+
+pub stops_comma : (a : Span) (r : List Token) → EndsConditional (mark marks.Comma a ∷ r)
+unfolding begins op_at tail_at
+stops_comma a r = ((refl, refl), (λ j lt. refl), refl)
+
+pub stops_brace : (a : Span) (r : List Token) → EndsConditional (mark marks.CloseBrace a ∷ r)
+unfolding begins op_at tail_at
+stops_brace a r = ((refl, refl), (λ j lt. refl), refl)
+
+pub laws : Laws
+laws = record {
+  assignment_reads = λ h d fits r ends. complete h d fits r ends;
+  conditional_reads = λ h d fits r ends. complete_conditional h d fits r ends;
+  init_reads = λ h d fits r ends. inits.complete_init h d fits r ends;
+  init_sound = λ d ts i r e. let t = inits.sound_init d ts i r e in record { s = t.s; parts = t.parts; spelled = t.spelled; fits = t.fits };
+  init_local = inits.local_init;
+}

@@ -1,0 +1,17 @@
+pub mod Given
+pub mod Takes
+pub mod Sequences
+pub mod DeclarationSound
+pub mod DeclarationLocal
+pub mod DeclarationComplete
+pub mod StatementShapes
+pub mod StatementSound
+pub mod StatementLocal
+pub mod StatementComplete
+pub mod UnitSound
+pub mod UnitLocal
+pub mod UnitComplete
+pub mod Whole
+pub mod Loops
+pub mod StatementViews
+pub mod Plain

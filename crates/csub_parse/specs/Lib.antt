@@ -1,0 +1,5 @@
+pub mod Openings
+pub mod DeclarationDescent
+pub mod StatementDescent
+pub mod UnitDescent
+pub mod Syntax

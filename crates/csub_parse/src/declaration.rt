@@ -1,0 +1,417 @@
+//! The descent of declarations (C11 6.7). `budget` is the depth that is left for what stands inside.
+ghost use Rattle.std.specs.Prelude.{◌≡◌, ℕ, ◌≤◌, ◌&&◌, nat_le, suc, List, [], ◌∷◌, length, map, Option, Some, None, Ok, Err, IfOk, IfErr};
+ghost use Rattle.csub_lex.specs.declared.token.Mark.TheVariants.{OpenBracket, Equal};
+ghost use Rattle.csub_tree.specs.Expressions.{expr_tree};
+ghost use Rattle.csub_tree.specs.Declarations.{declarator_tree, declare_tree, param_tree};
+ghost use Rattle.csub_expr.specs.Looks.{begins};
+ghost use Rattle.csub_expr.specs.Answers.{Gives};
+ghost use Rattle.csub_expr.specs.declared.stop.Stop.TheVariants.{Memory};
+ghost use Rattle.csub_expr.specs.ListDescent.{separated, repeated, never};
+ghost use Rattle.csub_parse.specs.Openings.{begins_name, begins_base};
+ghost use Rattle.csub_parse.specs.DeclarationDescent.{unsigned_at, numeric_at, base_at, following, length_at, no_length, slot_after, value_after, var_after, slot_at, var_at, declare_end, decl_after, decl_behind, decl_from, decl_at, field_behind, field_at, length_or_none, array_after, param_behind, param_at, params_at};
+ghost use Rattle.std.specs.Option.{option_map};
+
+use csub_expr::expression::conditional;
+use csub_expr::initialiser::init;
+use csub_expr::look::{begins, begins_key, begins_number, expect, expect_name, head_span, skip};
+use csub_expr::stop::Stop;
+use csub_lex::{Key, Mark, Token, TokenKind};
+use csub_text::Span;
+use csub_tree::{Declarator, Declare, Expr, Name, Param, TypeName};
+use std::alloc::Global;
+
+/// Whether the first token is a name.
+#[tactic(auto, unfolding(crate::specs::Openings::begins_name))]
+pub fn begins_name(tokens: &[Token]) -> bool
+    ensures { result ≡ begins_name tokens.now }
+{
+    match tokens {
+        [] => false,
+        [token, ..] => match token.kind {
+            TokenKind::Name(_) => true,
+            _ => false,
+        },
+    }
+}
+
+/// Whether a declaration begins (C11 6.7.2).
+#[tactic(auto, unfolding(crate::specs::Openings::begins_base))]
+pub fn begins_base(tokens: &[Token]) -> bool
+    ensures { result ≡ begins_base tokens.now }
+{
+    begins_key(tokens, Key::Struct) || begins_number(tokens)
+}
+
+// Behind `unsigned`, which ended at `end`.
+#[tactic(auto, unfolding(crate::specs::DeclarationDescent::unsigned_at))]
+fn unsigned(tokens: &[Token], end: u32) -> Result<(TypeName, u32, &[Token]), Stop>
+    ensures { Gives (λ x. ((x.0, x.1), x.2.now)) result (unsigned_at end tokens.now) }
+{
+    if begins_key(tokens, Key::Int) {
+        return Ok((TypeName::Unsigned, head_span(tokens).end, skip(tokens)));
+    }
+    Ok((TypeName::Unsigned, end, tokens))
+}
+
+/// A number type, where it ends, and the tokens behind it.
+#[tactic(auto, unfolding(crate::specs::DeclarationDescent::numeric_at))]
+pub fn numeric(tokens: &[Token]) -> Result<(TypeName, u32, &[Token]), Stop>
+    ensures { Gives (λ x. ((x.0, x.1), x.2.now)) result (numeric_at tokens.now) }
+{
+    let end = head_span(tokens).end;
+    if begins_key(tokens, Key::Char) {
+        return Ok((TypeName::Char, end, skip(tokens)));
+    }
+    if begins_key(tokens, Key::Int) {
+        return Ok((TypeName::Int, end, skip(tokens)));
+    }
+    if begins_key(tokens, Key::Unsigned) {
+        return unsigned(skip(tokens), end);
+    }
+    Err(Stop::At(tokens.len()))
+}
+
+/// The type that a declaration begins with, where it ends, and the tokens behind it.
+#[tactic(auto, unfolding(crate::specs::DeclarationDescent::base_at, crate::specs::DeclarationDescent::tag_at))]
+fn base(tokens: &[Token]) -> Result<(TypeName, u32, &[Token]), Stop>
+    ensures { Gives (λ x. ((x.0, x.1), x.2.now)) result (base_at tokens.now) }
+{
+    if begins_key(tokens, Key::Struct) {
+        let (name, rest) = expect_name(skip(tokens))?;
+        let end = name.span.end;
+        return Ok((TypeName::Struct(name), end, rest));
+    }
+    numeric(tokens)
+}
+
+#[tactic(auto, unfolding(crate::specs::DeclarationDescent::length_at))]
+fn length(alloc: Global, tokens: &[Token], budget: u32) -> Result<(Expr, &[Token]), Stop>
+    requires { budget ≤ 256 }
+    ensures { Gives (λ x. (expr_tree x.0, x.1.now)) result (length_at budget tokens.now) }
+{
+    let (_, rest) = expect(tokens, Mark::OpenBracket)?;
+    let (e, _, rest) = conditional(alloc, rest, budget)?;
+    let (_, rest) = expect(rest, Mark::CloseBracket)?;
+    Ok((e, rest))
+}
+
+// No length comes, or no depth is left for one.
+fn no_length(tokens: &[Token], budget: u32) -> bool
+    ensures { result ≡ no_length budget tokens.now }
+{
+    !(begins(tokens, Mark::OpenBracket) && 1 <= budget)
+}
+
+fn lengths(alloc: Global, tokens: &[Token], budget: u32) -> Result<(Vec<Expr>, &[Token]), Stop>
+    requires { budget ≤ 256 }
+    ensures { Gives (λ x. (map expr_tree x.0.items, x.1.now)) result (repeated (length_at budget) (no_length budget) (suc (length tokens.now)) tokens.now) }
+{
+    let mut all = Vec::new(alloc);
+    let mut rest = tokens;
+    'each: while !no_length(rest, budget) {
+        let (one, after) = length(alloc, rest, budget)?;
+        all.push(one)?;
+        rest = after;
+    }
+    Ok((all, rest))
+}
+
+#[tactic(auto, unfolding(crate::specs::DeclarationDescent::slot_after))]
+fn slot_after(
+    alloc: Global,
+    name: Name,
+    tokens: &[Token],
+    budget: u32,
+) -> Result<(Declarator, &[Token]), Stop>
+    requires { budget ≤ 256 }
+    ensures { Gives (λ x. (declarator_tree x.0, x.1.now)) result (slot_after budget name tokens.now) }
+{
+    let (dims, rest) = lengths(alloc, tokens, budget)?;
+    let init = None;
+    Ok((Declarator { name, dims, init }, rest))
+}
+
+// A value comes, and depth is left for it and an expression in it.
+fn has_value(tokens: &[Token], budget: u32) -> bool
+    ensures { result ≡ (begins Equal tokens.now && nat_le 2 budget) }
+{
+    begins(tokens, Mark::Equal) && 2 <= budget
+}
+
+#[tactic(auto, unfolding(crate::specs::DeclarationDescent::value_after))]
+fn value_after(
+    alloc: Global,
+    slot: Declarator,
+    tokens: &[Token],
+    budget: u32,
+) -> Result<(Declarator, &[Token]), Stop>
+    requires { budget ≤ 256 }
+    ensures { Gives (λ x. (declarator_tree x.0, x.1.now)) result (value_after budget (declarator_tree slot) tokens.now) }
+{
+    if has_value(tokens, budget) {
+        let (value, rest) = init(alloc, skip(tokens), budget)?;
+        let Declarator { name, dims, .. } = slot;
+        let init = Some(value);
+        return Ok((Declarator { name, dims, init }, rest));
+    }
+    Ok((slot, tokens))
+}
+
+#[tactic(auto, unfolding(crate::specs::DeclarationDescent::var_after))]
+fn var_after(
+    alloc: Global,
+    name: Name,
+    tokens: &[Token],
+    budget: u32,
+) -> Result<(Declarator, &[Token]), Stop>
+    requires { budget ≤ 256 }
+    ensures { Gives (λ x. (declarator_tree x.0, x.1.now)) result (var_after budget name tokens.now) }
+{
+    let (slot, rest) = slot_after(alloc, name, tokens, budget)?;
+    value_after(alloc, slot, rest, budget)
+}
+
+#[tactic(auto, unfolding(crate::specs::DeclarationDescent::slot_at))]
+fn slot(alloc: Global, tokens: &[Token], budget: u32) -> Result<(Declarator, &[Token]), Stop>
+    requires { budget ≤ 256 }
+    ensures { Gives (λ x. (declarator_tree x.0, x.1.now)) result (slot_at budget tokens.now) }
+{
+    let (name, rest) = expect_name(tokens)?;
+    slot_after(alloc, name, rest, budget)
+}
+
+#[tactic(auto, unfolding(crate::specs::DeclarationDescent::var_at))]
+fn var(alloc: Global, tokens: &[Token], budget: u32) -> Result<(Declarator, &[Token]), Stop>
+    requires { budget ≤ 256 }
+    ensures { Gives (λ x. (declarator_tree x.0, x.1.now)) result (var_at budget tokens.now) }
+{
+    let (name, rest) = expect_name(tokens)?;
+    var_after(alloc, name, rest, budget)
+}
+
+fn alone(alloc: Global, first: Declarator) -> Result<Vec<Declarator>, Stop>
+    ensures ok { IfOk result (λ all. map declarator_tree all.items ≡ declarator_tree first ∷ []) }
+    ensures err { IfErr result (λ e. e ≡ Memory) }
+{
+    let mut all = Vec::new(alloc);
+    all.push(first)?;
+    Ok(all)
+}
+
+// The declarators behind the first, which was read.
+fn vars(
+    alloc: Global,
+    first: Declarator,
+    tokens: &[Token],
+    budget: u32,
+) -> Result<(Vec<Declarator>, &[Token]), Stop>
+    requires { budget ≤ 256 }
+    ensures { Gives (λ x. (map declarator_tree x.0.items, x.1.now)) result (following (var_at budget) (declarator_tree first) tokens.now) }
+{
+    let mut all = alone(alloc, first)?;
+    let mut rest = tokens;
+    'each: while begins(rest, Mark::Comma) {
+        let (one, after) = var(alloc, skip(rest), budget)?;
+        all.push(one)?;
+        rest = after;
+    }
+    Ok((all, rest))
+}
+
+fn slots(alloc: Global, tokens: &[Token], budget: u32) -> Result<(Vec<Declarator>, &[Token]), Stop>
+    requires { budget ≤ 256 }
+    ensures { Gives (λ x. (map declarator_tree x.0.items, x.1.now)) result (separated (slot_at budget) never (suc (length tokens.now)) tokens.now) }
+{
+    let mut all = Vec::new(alloc);
+    let mut rest = tokens;
+    'each: loop {
+        let (one, after) = slot(alloc, rest, budget)?;
+        all.push(one)?;
+        if !begins(after, Mark::Comma) {
+            return Ok((all, after));
+        }
+        rest = skip(after);
+    }
+}
+
+#[tactic(auto, unfolding(crate::specs::DeclarationDescent::declare_end))]
+fn declare_end(
+    base: TypeName,
+    start: u32,
+    vars: Vec<Declarator>,
+    tokens: &[Token],
+    budget: u32,
+) -> Result<(Declare, &[Token]), Stop>
+    ensures { Gives (λ x. (declare_tree x.0, x.1.now)) result (declare_end budget base start (map declarator_tree vars.items) tokens.now) }
+{
+    let (semicolon, rest) = expect(tokens, Mark::Semicolon)?;
+    let span = Span {
+        start,
+        end: semicolon.end,
+    };
+    Ok((Declare { base, vars, span }, rest))
+}
+
+/// A declaration whose type, which began at `start`, and first name were read.
+#[tactic(auto, unfolding(crate::specs::DeclarationDescent::decl_after))]
+pub fn decl_after(
+    alloc: Global,
+    base: TypeName,
+    start: u32,
+    name: Name,
+    tokens: &[Token],
+    budget: u32,
+) -> Result<(Declare, &[Token]), Stop>
+    requires { budget ≤ 256 }
+    ensures { Gives (λ x. (declare_tree x.0, x.1.now)) result (decl_after budget base start name tokens.now) }
+{
+    let (first, rest) = var_after(alloc, name, tokens, budget)?;
+    let (all, rest) = vars(alloc, first, rest, budget)?;
+    declare_end(base, start, all, rest, budget)
+}
+
+/// A declaration whose type, which began at `start`, was read.
+#[tactic(auto, unfolding(crate::specs::DeclarationDescent::decl_behind))]
+pub fn decl_behind(
+    alloc: Global,
+    base: TypeName,
+    start: u32,
+    tokens: &[Token],
+    budget: u32,
+) -> Result<(Declare, &[Token]), Stop>
+    requires { budget ≤ 256 }
+    ensures { Gives (λ x. (declare_tree x.0, x.1.now)) result (decl_behind budget base start tokens.now) }
+{
+    let (name, rest) = expect_name(tokens)?;
+    decl_after(alloc, base, start, name, rest, budget)
+}
+
+/// A declaration (C11 6.7), and the tokens behind it.
+#[tactic(auto, unfolding(crate::specs::DeclarationDescent::decl_at, crate::specs::DeclarationDescent::decl_from))]
+pub fn decl(alloc: Global, tokens: &[Token], budget: u32) -> Result<(Declare, &[Token]), Stop>
+    requires { budget ≤ 256 }
+    ensures { Gives (λ x. (declare_tree x.0, x.1.now)) result (decl_at budget tokens.now) }
+{
+    let start = head_span(tokens).start;
+    let (base, _, rest) = base(tokens)?;
+    decl_behind(alloc, base, start, rest, budget)
+}
+
+/// A declaration of members of a struct (C11 6.7.2.1), and the tokens behind it.
+#[tactic(auto, unfolding(crate::specs::DeclarationDescent::field_at, crate::specs::DeclarationDescent::field_from, crate::specs::DeclarationDescent::field_behind))]
+pub fn field(alloc: Global, tokens: &[Token], budget: u32) -> Result<(Declare, &[Token]), Stop>
+    requires { budget ≤ 256 }
+    ensures { Gives (λ x. (declare_tree x.0, x.1.now)) result (field_at budget tokens.now) }
+{
+    let start = head_span(tokens).start;
+    let (base, _, rest) = base(tokens)?;
+    let (all, rest) = slots(alloc, rest, budget)?;
+    declare_end(base, start, all, rest, budget)
+}
+
+#[tactic(auto, unfolding(crate::specs::DeclarationDescent::length_or_none))]
+fn length_or_none(
+    alloc: Global,
+    tokens: &[Token],
+    budget: u32,
+) -> Result<(Option<Expr>, &[Token]), Stop>
+    requires { budget ≤ 256 }
+    ensures { Gives (λ x. (option_map expr_tree x.0, x.1.now)) result (length_or_none budget tokens.now) }
+{
+    if begins(tokens, Mark::CloseBracket) {
+        return Ok((None, tokens));
+    }
+    let (e, _, rest) = conditional(alloc, tokens, budget)?;
+    Ok((Some(e), rest))
+}
+
+// The brackets of a parameter that so far runs from `start` to `end`.
+#[tactic(auto, unfolding(crate::specs::DeclarationDescent::array_after))]
+fn array_after(
+    alloc: Global,
+    base: TypeName,
+    name: Option<Name>,
+    start: u32,
+    end: u32,
+    tokens: &[Token],
+    budget: u32,
+) -> Result<(Param, &[Token]), Stop>
+    requires { budget ≤ 256 }
+    ensures { Gives (λ x. (param_tree x.0, x.1.now)) result (array_after budget base name start end tokens.now) }
+{
+    if begins(tokens, Mark::OpenBracket) {
+        let (length, rest) = length_or_none(alloc, skip(tokens), budget)?;
+        let (close, rest) = expect(rest, Mark::CloseBracket)?;
+        let span = Span {
+            start,
+            end: close.end,
+        };
+        let array = true;
+        return Ok((
+            Param {
+                base,
+                name,
+                array,
+                length,
+                span,
+            },
+            rest,
+        ));
+    }
+    Ok((
+        Param {
+            base,
+            name,
+            array: false,
+            length: None,
+            span: Span { start, end },
+        },
+        tokens,
+    ))
+}
+
+#[tactic(auto, unfolding(crate::specs::DeclarationDescent::param_at, crate::specs::DeclarationDescent::param_from, crate::specs::DeclarationDescent::param_behind))]
+fn param(alloc: Global, tokens: &[Token], budget: u32) -> Result<(Param, &[Token]), Stop>
+    requires { budget ≤ 256 }
+    ensures { Gives (λ x. (param_tree x.0, x.1.now)) result (param_at budget tokens.now) }
+{
+    let start = head_span(tokens).start;
+    let (base, end, rest) = base(tokens)?;
+    if begins_name(rest) {
+        let (name, rest) = expect_name(rest)?;
+        let end = name.span.end;
+        return array_after(alloc, base, Some(name), start, end, rest, budget);
+    }
+    array_after(alloc, base, None, start, end, rest, budget)
+}
+
+fn some_params(alloc: Global, tokens: &[Token], budget: u32) -> Result<(Vec<Param>, &[Token]), Stop>
+    requires { budget ≤ 256 }
+    ensures { Gives (λ x. (map param_tree x.0.items, x.1.now)) result (separated (param_at budget) never (suc (length tokens.now)) tokens.now) }
+{
+    let mut all = Vec::new(alloc);
+    let mut rest = tokens;
+    'each: loop {
+        let (one, after) = param(alloc, rest, budget)?;
+        all.push(one)?;
+        if !begins(after, Mark::Comma) {
+            return Ok((all, after));
+        }
+        rest = skip(after);
+    }
+}
+
+/// The parameters of a function (C11 6.7.6.3) before the closing parenthesis, and the tokens behind them.
+#[tactic(auto, unfolding(crate::specs::DeclarationDescent::params_at))]
+pub fn params(alloc: Global, tokens: &[Token], budget: u32) -> Result<(Vec<Param>, &[Token]), Stop>
+    requires { budget ≤ 256 }
+    ensures { Gives (λ x. (map param_tree x.0.items, x.1.now)) result (params_at budget tokens.now) }
+{
+    if begins(tokens, Mark::CloseParen) {
+        return Ok((Vec::new(alloc), tokens));
+    }
+    if begins_key(tokens, Key::Void) {
+        return Ok((Vec::new(alloc), skip(tokens)));
+    }
+    some_params(alloc, tokens, budget)
+}

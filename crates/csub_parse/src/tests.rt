@@ -1,0 +1,136 @@
+// Sources with the depth of their unit and what it holds, or with the place of the token that is refused.
+mod expressions;
+mod items;
+mod nesting;
+mod statements;
+
+use crate::{ParseError, parse};
+use csub_lex::{Token, lex};
+use csub_tree::{Item, Stmt, StmtKind, Unit, depth};
+use std::alloc::{AllocError, Global};
+use std::process::Abort;
+use std::test::Fail;
+
+fn line_word(line: &Stmt) -> &'static str {
+    match line.kind {
+        StmtKind::Declare(_) => " declare",
+        StmtKind::Eval(_) => " eval",
+        StmtKind::Empty => " empty",
+        StmtKind::Block(_) => " block",
+        StmtKind::If(_, _, _) => " if",
+        StmtKind::While(_, _) => " while",
+        StmtKind::Do(_, _) => " do",
+        StmtKind::For(_, _, _, _) => " for",
+        StmtKind::Switch(_, _) => " switch",
+        StmtKind::Case(_) => " case",
+        StmtKind::Default => " default",
+        StmtKind::Break => " break",
+        StmtKind::Continue => " continue",
+        StmtKind::Goto(_) => " goto",
+        StmtKind::Label(_, _) => " label",
+        StmtKind::Return(_) => " return",
+    }
+}
+
+// Appends what an item is, and what the lines of a function are.
+fn push_item(text: &mut String, item: &Item) -> Result<(), AllocError> {
+    match item {
+        Item::Struct(_, _) => text.push_str(" struct"),
+        Item::Enum(_, _) => text.push_str(" enum"),
+        Item::Object(_) => text.push_str(" object"),
+        Item::Prototype(_) => text.push_str(" prototype"),
+        Item::Function(_, lines, _) => {
+            text.push_str(" function")?;
+            for line in lines {
+                text.push_str(line_word(line))?;
+            }
+            Ok(())
+        }
+    }
+}
+
+fn answer(alloc: Global, tokens: &[Token]) -> Result<String, AllocError> {
+    if tokens.len() > 1_048_576 {
+        return String::from_str(alloc, "too many");
+    }
+    let unit = match parse(alloc, tokens) {
+        Ok(unit) => unit,
+        Err(ParseError::Syntax(at)) => return format!(in alloc; "syntax {at}"),
+        Err(ParseError::Memory) => return Err(AllocError),
+    };
+    let mut text = format!(in alloc; "{}", depth(&unit))?;
+    for item in &unit.items {
+        push_item(&mut text, item)?;
+    }
+    Ok(text)
+}
+
+// The depth and the items of a source, or the place of the refusal.
+fn shown(alloc: Global, source: &str) -> Result<String, AllocError> {
+    if source.len() > 1_048_576 {
+        return String::from_str(alloc, "too long");
+    }
+    match lex(alloc, source.as_bytes()) {
+        Ok(tokens) => answer(alloc, &tokens),
+        Err(fault) => format!(in alloc; "{fault:?}"),
+    }
+}
+
+// Each row's text, between `front` and `back`, is shown as the row says.
+fn agrees(
+    rt: &impl Abort,
+    alloc: Global,
+    front: &str,
+    back: &str,
+    rows: &[(&str, &str)],
+) -> Result<(), Fail> {
+    for (middle, expected) in rows {
+        let source = format!(in alloc; "{front}{middle}{back}")?;
+        let found = shown(alloc, source.as_str())?;
+        assert!(rt; found.as_str() == *expected, "{source} gave {found}");
+    }
+    Ok(())
+}
+
+#[test]
+fn no_tokens_are_a_unit_without_items(rt: HostRuntime) -> Result<(), Fail> {
+    agrees(&rt, rt.alloc(), "", "", &[("", "1"), (" /* int */ ", "1")])
+}
+
+#[test]
+fn the_least_place_where_no_unit_goes_on(rt: HostRuntime) -> Result<(), Fail> {
+    agrees(
+        &rt,
+        rt.alloc(),
+        "",
+        "",
+        &[
+            ("int main(void) { return 0 }", "syntax 8"),
+            ("int main(void) { return", "syntax 7"),
+        ],
+    )
+}
+
+#[test]
+fn whole_programs(rt: HostRuntime) -> Result<(), Fail> {
+    agrees(
+        &rt,
+        rt.alloc(),
+        "",
+        "",
+        &[
+            (
+                "int main(void) { switch (getchar()) { case 65: putchar(97); break; default: putchar(63); } return 0; }",
+                "6 function switch return",
+            ),
+            (
+                "int f(int n) { return f(n + 1); } int main(void) { return f(0); }",
+                "6 function return function return",
+            ),
+            (
+                "int f(int n) { int pad[1000]; return f(n + 1); } int main(void) { return f(0); }",
+                "6 function declare return function return",
+            ),
+        ],
+    )
+}
