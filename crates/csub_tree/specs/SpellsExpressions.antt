@@ -146,7 +146,8 @@ mutual
     tighter : {k : ℕ} {e : Expr} {s : List Token} → SpellsExpr (binary k) e s → SpellsExpr (binary (suc k)) e s
     operated : {k : ℕ} {o : Operator} {l r : Expr} {s t : List Token} (m : Mark) (a : Span) → operator_of m ≡ Some o → level_of o ≡ k → SpellsExpr (binary (suc k)) l s → SpellsExpr (binary k) r t
         → SpellsExpr (binary (suc k)) (Node (joined o l r) (runs (s ++ mark m a ∷ t))) (s ++ mark m a ∷ t)
-    -- unary = ("+" | "-" | "!" | "~" | "++" | "--") unary (6.5.3)
+    -- unary = ("+" | "-" | "!" | "~" | "++" | "--") unary (6.5.3). C allows only a unary expression behind `++`; `++(int)x`
+    -- is spelled here too, and refused by the rule that a number place stands there (6.5.3.1)
     prefixed : {o : Prefix} {e : Expr} {s : List Token} (m : Mark) (a : Span) → prefix_of m ≡ Some o → SpellsExpr (binary 0) e s
         → SpellsExpr (binary 0) (Node (applied o e) (runs (mark m a ∷ s))) (mark m a ∷ s)
     -- | "(" number ")" unary (6.5.4)

@@ -40,27 +40,14 @@ fn same_items(a: &[Item], b: &[Item]) -> bool
 fn same_item(a: &Item, b: &Item) -> bool
     ensures { IsTrue result ↔ (item_shape (item_tree a.now) ≡ item_shape (item_tree b.now)) }
 {
-    match a {
-        Item::Struct(a0, a1) => match b {
-            Item::Struct(b0, b1) => same_name(a0, b0) && same_declares(a1, b1),
-            _ => false,
-        },
-        Item::Enum(a0, a1) => match b {
-            Item::Enum(b0, b1) => same_names(a0, b0) && same_constants(a1, b1),
-            _ => false,
-        },
-        Item::Object(a0) => match b {
-            Item::Object(b0) => same_declare(a0, b0),
-            _ => false,
-        },
-        Item::Prototype(a0) => match b {
-            Item::Prototype(b0) => same_head(a0, b0),
-            _ => false,
-        },
-        Item::Function(a0, a1, _) => match b {
-            Item::Function(b0, b1, _) => same_head(a0, b0) && same_stmts(a1, b1),
-            _ => false,
-        },
+    match (a, b) {
+        (Item::Struct(a0, a1), Item::Struct(b0, b1)) => same_name(a0, b0) && same_declares(a1, b1),
+        (Item::Enum(a0, a1), Item::Enum(b0, b1)) => same_names(a0, b0) && same_constants(a1, b1),
+        (Item::Object(a0), Item::Object(b0)) => same_declare(a0, b0),
+        (Item::Prototype(a0), Item::Prototype(b0)) => same_head(a0, b0),
+        (Item::Function(a0, a1, _), Item::Function(b0, b1, _)) => same_head(a0, b0)
+            && same_stmts(a1, b1),
+        _ => false,
     }
 }
 
@@ -160,15 +147,10 @@ fn same_declarator(a: &Declarator, b: &Declarator) -> bool
 fn same_init_option(a: &Option<Init>, b: &Option<Init>) -> bool
     ensures { IsTrue result ↔ (option_map init_shape (option_map init_tree a.now) ≡ option_map init_shape (option_map init_tree b.now)) }
 {
-    match a {
-        None => match b {
-            None => true,
-            Some(_) => false,
-        },
-        Some(one) => match b {
-            None => false,
-            Some(other) => same_init(one, other),
-        },
+    match (a, b) {
+        (None, None) => true,
+        (Some(one), Some(other)) => same_init(one, other),
+        _ => false,
     }
 }
 
@@ -176,15 +158,10 @@ fn same_init_option(a: &Option<Init>, b: &Option<Init>) -> bool
 fn same_init(a: &Init, b: &Init) -> bool
     ensures { IsTrue result ↔ (init_shape (init_tree a.now) ≡ init_shape (init_tree b.now)) }
 {
-    match a {
-        Init::One(a0) => match b {
-            Init::One(b0) => same_expr(a0, b0),
-            _ => false,
-        },
-        Init::List(a0, _) => match b {
-            Init::List(b0, _) => same_inits(a0, b0),
-            _ => false,
-        },
+    match (a, b) {
+        (Init::One(a0), Init::One(b0)) => same_expr(a0, b0),
+        (Init::List(a0, _), Init::List(b0, _)) => same_inits(a0, b0),
+        _ => false,
     }
 }
 
@@ -214,85 +191,37 @@ fn same_stmt(a: &Stmt, b: &Stmt) -> bool
 fn same_line(a: &StmtKind, b: &StmtKind) -> bool
     ensures { IsTrue result ↔ (line_shape (line_tree a.now) ≡ line_shape (line_tree b.now)) }
 {
-    match a {
-        StmtKind::Declare(a0) => match b {
-            StmtKind::Declare(b0) => same_declare(a0, b0),
-            _ => false,
-        },
-        StmtKind::Eval(a0) => match b {
-            StmtKind::Eval(b0) => same_expr(a0, b0),
-            _ => false,
-        },
-        StmtKind::Empty => match b {
-            StmtKind::Empty => true,
-            _ => false,
-        },
-        StmtKind::Block(a0) => match b {
-            StmtKind::Block(b0) => same_stmts(a0, b0),
-            _ => false,
-        },
-        StmtKind::If(a0, a1, None) => match b {
-            StmtKind::If(b0, b1, None) => same_expr(a0, b0) && same_stmt(a1, b1),
-            _ => false,
-        },
-        StmtKind::If(a0, a1, Some(a2)) => match b {
-            StmtKind::If(b0, b1, Some(b2)) => {
-                same_expr(a0, b0) && same_stmt(a1, b1) && same_stmt(a2, b2)
-            }
-            _ => false,
-        },
-        StmtKind::While(a0, a1) => match b {
-            StmtKind::While(b0, b1) => same_expr(a0, b0) && same_stmt(a1, b1),
-            _ => false,
-        },
-        StmtKind::Do(a0, a1) => match b {
-            StmtKind::Do(b0, b1) => same_stmt(a0, b0) && same_expr(a1, b1),
-            _ => false,
-        },
-        StmtKind::For(None, a1, a2, a3) => match b {
-            StmtKind::For(None, b1, b2, b3) => {
-                same_option(a1, b1) && same_option(a2, b2) && same_stmt(a3, b3)
-            }
-            _ => false,
-        },
-        StmtKind::For(Some(a0), a1, a2, a3) => match b {
-            StmtKind::For(Some(b0), b1, b2, b3) => {
-                same_stmt(a0, b0) && same_option(a1, b1) && same_option(a2, b2) && same_stmt(a3, b3)
-            }
-            _ => false,
-        },
-        StmtKind::Switch(a0, a1) => match b {
-            StmtKind::Switch(b0, b1) => same_expr(a0, b0) && same_stmts(a1, b1),
-            _ => false,
-        },
-        StmtKind::Case(a0) => match b {
-            StmtKind::Case(b0) => same_expr(a0, b0),
-            _ => false,
-        },
-        StmtKind::Default => match b {
-            StmtKind::Default => true,
-            _ => false,
-        },
-        StmtKind::Break => match b {
-            StmtKind::Break => true,
-            _ => false,
-        },
-        StmtKind::Continue => match b {
-            StmtKind::Continue => true,
-            _ => false,
-        },
-        StmtKind::Goto(a0) => match b {
-            StmtKind::Goto(b0) => same_name(a0, b0),
-            _ => false,
-        },
-        StmtKind::Label(a0, a1) => match b {
-            StmtKind::Label(b0, b1) => same_name(a0, b0) && same_stmt(a1, b1),
-            _ => false,
-        },
-        StmtKind::Return(a0) => match b {
-            StmtKind::Return(b0) => same_option(a0, b0),
-            _ => false,
-        },
+    match (a, b) {
+        (StmtKind::Declare(a0), StmtKind::Declare(b0)) => same_declare(a0, b0),
+        (StmtKind::Eval(a0), StmtKind::Eval(b0)) => same_expr(a0, b0),
+        (StmtKind::Empty, StmtKind::Empty) => true,
+        (StmtKind::Block(a0), StmtKind::Block(b0)) => same_stmts(a0, b0),
+        (StmtKind::If(a0, a1, None), StmtKind::If(b0, b1, None)) => same_expr(a0, b0)
+            && same_stmt(a1, b1),
+        (StmtKind::If(a0, a1, Some(a2)), StmtKind::If(b0, b1, Some(b2))) => {
+            same_expr(a0, b0) && same_stmt(a1, b1) && same_stmt(a2, b2)
+        }
+        (StmtKind::While(a0, a1), StmtKind::While(b0, b1)) => same_expr(a0, b0)
+            && same_stmt(a1, b1),
+        (StmtKind::Do(a0, a1), StmtKind::Do(b0, b1)) => same_stmt(a0, b0) && same_expr(a1, b1),
+        (StmtKind::For(None, a1, a2, a3), StmtKind::For(None, b1, b2, b3)) => {
+            same_option(a1, b1) && same_option(a2, b2) && same_stmt(a3, b3)
+        }
+        (StmtKind::For(Some(a0), a1, a2, a3), StmtKind::For(Some(b0), b1, b2, b3)) => {
+            same_stmt(a0, b0) && same_option(a1, b1) && same_option(a2, b2) && same_stmt(a3, b3)
+        }
+        (StmtKind::Switch(a0, a1), StmtKind::Switch(b0, b1)) => {
+            same_expr(a0, b0) && same_stmts(a1, b1)
+        }
+        (StmtKind::Case(a0), StmtKind::Case(b0)) => same_expr(a0, b0),
+        (StmtKind::Default, StmtKind::Default) => true,
+        (StmtKind::Break, StmtKind::Break) => true,
+        (StmtKind::Continue, StmtKind::Continue) => true,
+        (StmtKind::Goto(a0), StmtKind::Goto(b0)) => same_name(a0, b0),
+        (StmtKind::Label(a0, a1), StmtKind::Label(b0, b1)) => same_name(a0, b0)
+            && same_stmt(a1, b1),
+        (StmtKind::Return(a0), StmtKind::Return(b0)) => same_option(a0, b0),
+        _ => false,
     }
 }
 
@@ -314,15 +243,10 @@ fn same_stmts(a: &[Stmt], b: &[Stmt]) -> bool
 fn same_option(a: &Option<Expr>, b: &Option<Expr>) -> bool
     ensures { IsTrue result ↔ (option_map expr_shape (option_map expr_tree a.now) ≡ option_map expr_shape (option_map expr_tree b.now)) }
 {
-    match a {
-        None => match b {
-            None => true,
-            Some(_) => false,
-        },
-        Some(one) => match b {
-            None => false,
-            Some(other) => same_expr(one, other),
-        },
+    match (a, b) {
+        (None, None) => true,
+        (Some(one), Some(other)) => same_expr(one, other),
+        _ => false,
     }
 }
 
@@ -337,73 +261,32 @@ fn same_expr(a: &Expr, b: &Expr) -> bool
 fn same_kind(a: &ExprKind, b: &ExprKind) -> bool
     ensures { IsTrue result ↔ (kind_shape (kind_tree a.now) ≡ kind_shape (kind_tree b.now)) }
 {
-    match a {
-        ExprKind::Number(a0, a1) => match b {
-            ExprKind::Number(b0, b1) => a0 == b0 && a1 == b1,
-            _ => false,
-        },
-        ExprKind::Char(a0) => match b {
-            ExprKind::Char(b0) => a0 == b0,
-            _ => false,
-        },
-        ExprKind::Text(a0) => match b {
-            ExprKind::Text(b0) => a0.bytes() == b0.bytes(),
-            _ => false,
-        },
-        ExprKind::Name(a0) => match b {
-            ExprKind::Name(b0) => same_name(a0, b0),
-            _ => false,
-        },
-        ExprKind::Paren(a0) => match b {
-            ExprKind::Paren(b0) => same_expr(a0, b0),
-            _ => false,
-        },
-        ExprKind::Unary(a0, a1) => match b {
-            ExprKind::Unary(b0, b1) => a0 == b0 && same_expr(a1, b1),
-            _ => false,
-        },
-        ExprKind::Cast(a0, a1) => match b {
-            ExprKind::Cast(b0, b1) => same_type(a0, b0) && same_expr(a1, b1),
-            _ => false,
-        },
-        ExprKind::Step(a0, a1) => match b {
-            ExprKind::Step(b0, b1) => a0 == b0 && same_expr(a1, b1),
-            _ => false,
-        },
-        ExprKind::Binary(a0, a1, a2) => match b {
-            ExprKind::Binary(b0, b1, b2) => a0 == b0 && same_expr(a1, b1) && same_expr(a2, b2),
-            _ => false,
-        },
-        ExprKind::And(a0, a1) => match b {
-            ExprKind::And(b0, b1) => same_expr(a0, b0) && same_expr(a1, b1),
-            _ => false,
-        },
-        ExprKind::Or(a0, a1) => match b {
-            ExprKind::Or(b0, b1) => same_expr(a0, b0) && same_expr(a1, b1),
-            _ => false,
-        },
-        ExprKind::Choose(a0, a1, a2) => match b {
-            ExprKind::Choose(b0, b1, b2) => same_expr(a0, b0)
-                && same_expr(a1, b1)
-                && same_expr(a2, b2),
-            _ => false,
-        },
-        ExprKind::Assign(a0, a1, a2) => match b {
-            ExprKind::Assign(b0, b1, b2) => a0 == b0 && same_expr(a1, b1) && same_expr(a2, b2),
-            _ => false,
-        },
-        ExprKind::Call(a0, a1) => match b {
-            ExprKind::Call(b0, b1) => same_name(a0, b0) && same_exprs(a1, b1),
-            _ => false,
-        },
-        ExprKind::Index(a0, a1) => match b {
-            ExprKind::Index(b0, b1) => same_expr(a0, b0) && same_expr(a1, b1),
-            _ => false,
-        },
-        ExprKind::Member(a0, a1) => match b {
-            ExprKind::Member(b0, b1) => same_expr(a0, b0) && same_name(a1, b1),
-            _ => false,
-        },
+    match (a, b) {
+        (ExprKind::Number(a0, a1), ExprKind::Number(b0, b1)) => a0 == b0 && a1 == b1,
+        (ExprKind::Char(a0), ExprKind::Char(b0)) => a0 == b0,
+        (ExprKind::Text(a0), ExprKind::Text(b0)) => a0.bytes() == b0.bytes(),
+        (ExprKind::Name(a0), ExprKind::Name(b0)) => same_name(a0, b0),
+        (ExprKind::Paren(a0), ExprKind::Paren(b0)) => same_expr(a0, b0),
+        (ExprKind::Unary(a0, a1), ExprKind::Unary(b0, b1)) => a0 == b0 && same_expr(a1, b1),
+        (ExprKind::Cast(a0, a1), ExprKind::Cast(b0, b1)) => same_type(a0, b0) && same_expr(a1, b1),
+        (ExprKind::Step(a0, a1), ExprKind::Step(b0, b1)) => a0 == b0 && same_expr(a1, b1),
+        (ExprKind::Binary(a0, a1, a2), ExprKind::Binary(b0, b1, b2)) => a0 == b0
+            && same_expr(a1, b1)
+            && same_expr(a2, b2),
+        (ExprKind::And(a0, a1), ExprKind::And(b0, b1)) => same_expr(a0, b0) && same_expr(a1, b1),
+        (ExprKind::Or(a0, a1), ExprKind::Or(b0, b1)) => same_expr(a0, b0) && same_expr(a1, b1),
+        (ExprKind::Choose(a0, a1, a2), ExprKind::Choose(b0, b1, b2)) => same_expr(a0, b0)
+            && same_expr(a1, b1)
+            && same_expr(a2, b2),
+        (ExprKind::Assign(a0, a1, a2), ExprKind::Assign(b0, b1, b2)) => a0 == b0
+            && same_expr(a1, b1)
+            && same_expr(a2, b2),
+        (ExprKind::Call(a0, a1), ExprKind::Call(b0, b1)) => same_name(a0, b0) && same_exprs(a1, b1),
+        (ExprKind::Index(a0, a1), ExprKind::Index(b0, b1)) => same_expr(a0, b0)
+            && same_expr(a1, b1),
+        (ExprKind::Member(a0, a1), ExprKind::Member(b0, b1)) => same_expr(a0, b0)
+            && same_name(a1, b1),
+        _ => false,
     }
 }
 
@@ -425,42 +308,23 @@ fn same_exprs(a: &[Expr], b: &[Expr]) -> bool
 fn same_names(a: &Option<Name>, b: &Option<Name>) -> bool
     ensures { IsTrue result ↔ (option_map name_shape a.now ≡ option_map name_shape b.now) }
 {
-    match a {
-        None => match b {
-            None => true,
-            Some(_) => false,
-        },
-        Some(one) => match b {
-            None => false,
-            Some(other) => same_name(one, other),
-        },
+    match (a, b) {
+        (None, None) => true,
+        (Some(one), Some(other)) => same_name(one, other),
+        _ => false,
     }
 }
 
 fn same_type(a: &TypeName, b: &TypeName) -> bool
     ensures { IsTrue result ↔ (type_shape a.now ≡ type_shape b.now) }
 {
-    match a {
-        TypeName::Void => match b {
-            TypeName::Void => true,
-            _ => false,
-        },
-        TypeName::Char => match b {
-            TypeName::Char => true,
-            _ => false,
-        },
-        TypeName::Int => match b {
-            TypeName::Int => true,
-            _ => false,
-        },
-        TypeName::Unsigned => match b {
-            TypeName::Unsigned => true,
-            _ => false,
-        },
-        TypeName::Struct(a0) => match b {
-            TypeName::Struct(b0) => same_name(a0, b0),
-            _ => false,
-        },
+    match (a, b) {
+        (TypeName::Void, TypeName::Void) => true,
+        (TypeName::Char, TypeName::Char) => true,
+        (TypeName::Int, TypeName::Int) => true,
+        (TypeName::Unsigned, TypeName::Unsigned) => true,
+        (TypeName::Struct(a0), TypeName::Struct(b0)) => same_name(a0, b0),
+        _ => false,
     }
 }
 

@@ -12,4 +12,4 @@ same_exprs-returns-then-not-same_expr t c =
 pub same_kind-returns-then-same_name : goal.same_kind-returns-then-same_name
 same_kind-returns-then-same_name t c =
     let list = rw (c.deref-then-same_name.ensures.value, c.deref-then-same_name-2.ensures.value) at c.same_exprs.ensures in
-    rw (c.in-Call.is, c.in-Call-b.is) (call_same _ c.in-Call.a0 c.in-Call-b.b0 c.in-Call.a1 c.in-Call-b.b1 (c.if-same_name.ensures.0 refl) list)
+    rw (c.in-Call-Call.is-0, c.in-Call-Call.is-1) (call_same _ c.in-Call-Call.a0 c.in-Call-Call.b0 c.in-Call-Call.a1 c.in-Call-Call.b1 (c.if-same_name.ensures.0 refl) list)
