@@ -1,10 +1,15 @@
 pub mod Runs
+pub mod Answered
+pub mod SameWords
 pub mod Taken
 pub mod Local
 pub mod Series
 pub mod Spelled
 pub mod ExprSound
 pub mod ExprLocal
+pub mod ExprReads
+pub mod UnaryComplete
+pub mod ChainComplete
 pub mod ExprComplete
 pub mod Unrolled
 pub mod InitLaws

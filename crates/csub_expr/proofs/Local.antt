@@ -12,7 +12,7 @@ use Rattle.csub_tree.specs.SpellsExpressions.{Operator, Prefix, operator_of, ass
 use Rattle.csub_expr.specs.declared.operator.Tail.{Tail}
 use Rattle.csub_expr.specs.Looks.{begins, begins_key, rest, head_span, same_mark, same_key, of_mark, of_key, of_level, op_at, assignment_at, prefix_at, tail_at, tail_of, begins_number, is_number_key}
 use Rattle.csub_expr.specs.Answers.{Answer, ◌>>=◌, done, refuse, expect, expect_name, name_of}
-use Rattle.csub_expr.proofs.Taken.{bind_ok}
+use Rattle.csub_expr.proofs.Answered.{bind_ok}
 
 abbrev pub head : List Token → Option Token
 head [] = None

@@ -7,7 +7,7 @@ use Rattle.csub_expr.specs.declared.stop.Stop.{Stop}
 use Rattle.csub_expr.specs.declared.stop.Stop.TheVariants as stops
 use Rattle.csub_expr.specs.Answers.{Answer, ◌>>=◌, Fails, done, refuse}
 use Rattle.csub_expr.specs.ListDescent.{repeated}
-use Rattle.csub_expr.proofs.Taken.{bind_ok, ok_value, ok_rest, chosen}
+use Rattle.csub_expr.proofs.Answered.{bind_ok, ok_value, ok_rest, chosen}
 use Rattle.csub_expr.proofs.Local.{Local, SameAtHead, local_bind, local_done, local_refuse, local_if, local_fuel, bind_same}
 use Rattle.csub_expr.proofs.Series.{with_front}
 

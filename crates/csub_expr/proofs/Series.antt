@@ -9,7 +9,8 @@ use Rattle.csub_tree.specs.Lists.{Separated, last_one, before, Trailing, no_comm
 use Rattle.csub_expr.specs.Looks.{begins, rest, head_span}
 use Rattle.csub_expr.specs.Answers.{Answer, ◌>>=◌, done}
 use Rattle.csub_expr.specs.ListDescent.{separated}
-use Rattle.csub_expr.proofs.Taken.{bind_ok, ok_value, ok_rest, chosen, begins_is}
+use Rattle.csub_expr.proofs.Answered.{bind_ok, ok_value, ok_rest, chosen}
+use Rattle.csub_expr.proofs.Taken.{begins_is}
 use Rattle.csub_expr.proofs.Local.{Local, SameAtHead, local_bind, local_done, local_refuse, local_rest, local_if, same_begins, local_fuel, bind_same}
 
 pub rest_shorter : (ts : List Token) → length (rest ts) ≤ length ts

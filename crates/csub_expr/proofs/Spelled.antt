@@ -12,7 +12,8 @@ use Rattle.csub_tree.specs.Tokens.{mark, id, runs}
 use Rattle.csub_tree.specs.SpellsExpressions.{Rank, SpellsExpr, no_assignment, assigned, no_choice, choice, tighter, operated, prefixed, cast, no_prefix, no_postfix, indexed, member, stepped, named, called, number, character, string, enclosed, Operator, Plain, Both, Either, joined, Prefix, Signed, Counted, applied, prefix_of}
 use Rattle.csub_expr.specs.Looks.{begins, begins_key, same_mark, begins_number}
 use Rattle.csub_expr.specs.ExprDescent.{is_unary}
-use Rattle.csub_expr.proofs.Taken.{same_mark_is, not_true}
+use Rattle.csub_expr.proofs.SameWords.{same_mark_is}
+use Rattle.csub_expr.proofs.Answered.{not_true}
 use Rattle.csub_expr.proofs.Runs.{nonempty_append}
 
 pub depth_pos : (e : Expr) → 0 < expr_depth e
