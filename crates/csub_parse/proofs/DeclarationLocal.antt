@@ -1,5 +1,5 @@
 -- The descent of declarations depends on what it took, and on the token after it.
-use Rattle.std.proofs.Common.{◌≡◌, ℕ, zero, suc, List, [], ◌∷◌, ◌++◌, length, Option, Some, None, Result, Ok, Err, Bool, true, false, cond, refl, sym, ap, ◌∙◌, arith}
+use Rattle.std.proofs.Common.{ℕ, suc, List, [], length, Option, Some, None, Err, Bool, true, false, cond, refl, ap}
 use Rattle.std.specs.Prelude.{nat_le, ◌&&◌, ◌||◌, not}
 use Rattle.csub_text.specs.declared.span.Span.{Span}
 use Rattle.csub_lex.specs.declared.token.Key.TheVariants as keys

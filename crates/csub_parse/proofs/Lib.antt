@@ -1,12 +1,17 @@
 pub mod Given
 pub mod Takes
 pub mod Sequences
+pub mod BaseSound
 pub mod DeclarationSound
 pub mod DeclarationLocal
+pub mod DeclarationOpens
 pub mod DeclarationComplete
 pub mod StatementShapes
+pub mod StatementParts
+pub mod StatementMade
 pub mod StatementSound
 pub mod StatementLocal
+pub mod StatementOpens
 pub mod StatementComplete
 pub mod UnitSound
 pub mod UnitLocal

@@ -1,5 +1,5 @@
 -- The loops over lists: those read so far stand in front of those still to come.
-use Rattle.std.proofs.Common.{◌≡◌, ℕ, zero, suc, ◌+◌, ◌-◌, ◌<◌, List, [], ◌∷◌, ◌++◌, length, Ok, Err, Bool, true, false, cond, refl, ap, sym, ◌∙◌, arith, append_assoc}
+use Rattle.std.proofs.Common.{◌≡◌, ℕ, zero, suc, ◌-◌, ◌<◌, List, [], ◌∷◌, ◌++◌, length, Ok, Err, Bool, true, false, cond, refl, ap, sym, arith, append_assoc}
 use Rattle.csub_lex.specs.declared.token.Mark.TheVariants as marks
 use Rattle.csub_lex.specs.declared.token.Token.{Token}
 use Rattle.csub_expr.specs.declared.stop.Stop.{Stop}

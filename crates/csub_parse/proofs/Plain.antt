@@ -1,5 +1,5 @@
 -- A statement that begins with an expression, by what stands behind that.
-use Rattle.std.proofs.Common.{◌≡◌, ℕ, List, ◌∷◌, length, Option, Some, None, Ok, Err, true, false, refl, ap, ◌∙◌}
+use Rattle.std.proofs.Common.{◌≡◌, ℕ, List, length, Option, Some, None, Ok, Err, true, false, refl, ap}
 use Rattle.csub_lex.specs.declared.token.Mark.TheVariants as marks
 use Rattle.csub_lex.specs.declared.token.Token.{Token}
 use Rattle.csub_tree.specs.declared.name.Name.{Name}

@@ -1,20 +1,21 @@
 -- Lists of pieces: what is read is spelled so, what is spelled so is read, and a reading depends on what it took and on
 -- the token after it.
-use Rattle.std.proofs.Common.{◌≡◌, ℕ, zero, suc, ◌+◌, ◌<◌, ◌≤◌, max, map, List, [], ◌∷◌, ◌++◌, length, Result, Ok, Err, Bool, true, false, cond, refl, sym, ap, subst, ◌∙◌, arith, append_assoc, length-append, inl, inr, ◌⊎◌}
+use Rattle.std.proofs.Common.{◌≡◌, ℕ, zero, suc, ◌<◌, ◌≤◌, map, List, [], ◌∷◌, ◌++◌, length, Ok, Err, Bool, true, false, cond, refl, ap, subst, ◌∙◌, arith, append_assoc, length-append, inl, inr, ◌⊎◌}
 use Rattle.csub_text.specs.declared.span.Span.{Span}
 use Rattle.csub_lex.specs.declared.token.Mark.TheVariants as marks
 use Rattle.csub_lex.specs.declared.token.Token.{Token}
 use Rattle.csub_tree.specs.Tokens.{mark}
-use Rattle.csub_tree.specs.Lists.{Each, no_more, one_more, Separated, last_one, before, Trailing, no_comma, comma}
+use Rattle.csub_tree.specs.Lists.{Each, no_more, one_more, Separated, last_one, before, Trailing}
 use Rattle.csub_tree.specs.Depth.{most}
 use Rattle.csub_expr.specs.Looks.{begins, rest, head_span}
 use Rattle.csub_expr.specs.Answers.{Answer, ◌>>=◌, done, refuse}
 use Rattle.csub_expr.specs.ListDescent.{separated, repeated, never}
-use Rattle.csub_expr.proofs.Taken.{bind_ok, ok_value, ok_rest, chosen, begins_is}
+use Rattle.csub_expr.proofs.Answered.{bind_ok, ok_value, ok_rest, chosen}
+use Rattle.csub_expr.proofs.Taken.{begins_is}
 use Rattle.csub_expr.proofs.Local.{Local, SameAtHead, local_bind, local_done, local_refuse, local_rest, local_if, same_begins, local_fuel, bind_same}
-use Rattle.csub_expr.proofs.Series.{TookList, separated_sound, local_separated, separated_last, separated_trailing, separated_next}
+use Rattle.csub_expr.proofs.Series.{separated_sound, local_separated, separated_last, separated_trailing, separated_next}
 use Rattle.csub_parse.specs.DeclarationDescent.{following}
-use Rattle.csub_parse.proofs.Takes.{Took, Sound, Shorter, took_done, cut_two, cut_at}
+use Rattle.csub_parse.proofs.Takes.{Took, Sound, Shorter, cut_two, cut_at}
 
 -- pieces that are spelled so, and within a depth
 module _ (A : Type 0) (R : A → List Token → Type 0) (deep : A → ℕ) (d : ℕ) where

@@ -1,11 +1,8 @@
 -- A statement that is spelled so is read, whatever follows, but no `else` behind an `if` that has none.
-use Rattle.std.proofs.Common.{◌≡◌, ℕ, zero, suc, ◌+◌, ◌<◌, ◌≤◌, max, map, List, [], ◌∷◌, ◌++◌, length, Option, Some, None, Result, Ok, Err, Bool, true, false, cond, refl, sym, ap, subst, ◌∙◌, arith, append_assoc, length-append}
-use Rattle.std.specs.Prelude.{nat_le}
+use Rattle.std.proofs.Common.{◌≡◌, ℕ, zero, suc, ◌<◌, ◌≤◌, List, [], ◌∷◌, ◌++◌, length, Option, Some, None, Ok, Bool, true, false, refl, sym, ap, ◌∙◌, arith, append_assoc, length-append}
 use Rattle.std.proofs.lemmas.Bool.{le-leb}
 use Rattle.csub_text.specs.declared.span.Span.{Span}
-use Rattle.csub_lex.specs.declared.token.Key.{Key}
 use Rattle.csub_lex.specs.declared.token.Key.TheVariants as keys
-use Rattle.csub_lex.specs.declared.token.Mark.{Mark}
 use Rattle.csub_lex.specs.declared.token.Mark.TheVariants as marks
 use Rattle.csub_lex.specs.declared.token.Token.{Token}
 use Rattle.csub_tree.specs.declared.name.Name.{Name}
@@ -13,119 +10,27 @@ use Rattle.csub_tree.specs.Expressions.{Expr, Node, Named, span_of}
 use Rattle.csub_tree.specs.Declarations.{Declare}
 use Rattle.csub_tree.specs.Statements.{Stmt, StmtKind, Stmts, Perhaps, Line, Declared, Eval, Empty, Block, If, While, Do, For, Switch, Case, Default, Break, Continue, Goto, Label, Return, NoStmt, OneStmt, NoStmts, MoreStmts, stmts_of}
 use Rattle.csub_tree.specs.Depth.{if_there, expr_depth, declare_depth, stmt_depth, stmts_depth, perhaps_depth}
-use Rattle.csub_tree.specs.Tokens.{mark, key, id, first, last, runs}
-use Rattle.csub_tree.specs.Lists.{Optional, missing, present}
-use Rattle.csub_tree.specs.SpellsExpressions.{SpellsExpr, assignment, conditional, Prefix, prefix_of, no_assignment, no_choice, tighter, no_prefix, no_postfix, named}
+use Rattle.csub_tree.specs.Tokens.{mark, key, id, last, runs}
+use Rattle.csub_tree.specs.Lists.{missing, present}
+use Rattle.csub_tree.specs.SpellsExpressions.{SpellsExpr, assignment, conditional, no_assignment, no_choice, tighter, no_prefix, no_postfix, named}
 use Rattle.csub_tree.specs.SpellsDeclarations.{SpellsDecl}
 use Rattle.csub_tree.specs.SpellsStatements.{ends_open, SpellsMaybe, SpellsFirst, first_declared, first_evaluated, first_empty, SpellsStmt, block, empty, evaluated, labelled, if_alone, if_else, while_loop, do_loop, for_loop, switched, broken_off, continued, gone_to, returned, SpellsLine, declaring, stating, SpellsLines, no_lines, more_lines, SpellsSwitchLine, plain_line, case_line, default_line, SpellsSwitchLines, no_switch_lines, more_switch_lines}
 use Rattle.csub_parse.specs.declared.opening.Opening.{Opening}
 use Rattle.csub_parse.specs.declared.opening.Opening.TheVariants as openings
-use Rattle.csub_expr.specs.Looks.{begins, begins_key, begins_number, rest, head_span}
-use Rattle.csub_expr.specs.Answers.{Answer, ◌>>=◌, done, expect, expect_name}
+use Rattle.csub_expr.specs.Looks.{begins, begins_key, rest, head_span}
+use Rattle.csub_expr.specs.Answers.{Answer, done, expect, expect_name}
 use Rattle.csub_expr.specs.ListDescent.{repeated}
-use Rattle.csub_expr.specs.ExprDescent.{read}
-use Rattle.csub_expr.proofs.Taken.{begins_is}
 use Rattle.csub_expr.proofs.Spelled as spelled
 use Rattle.csub_expr.proofs.Spelled.{Lead, lead, lead_no_key, lead_no_number, lead_no_mark, by_prefix, by_open, by_name, by_number, by_character, by_string}
-use Rattle.csub_expr.proofs.Runs.{first_append, last_token, last_behind, last_cons, nonempty_append}
-use Rattle.csub_parse.specs.Openings.{begins_base, opening_at, opening_of_mark}
-use Rattle.csub_parse.specs.DeclarationDescent.{decl_at}
-use Rattle.csub_parse.specs.StatementDescent.{stmt_span, line, bare_name, expect_key, maybe_at, declared_at, evaluated_end, evaluated_at, first_at, line_by, case_at, default_at, switch_line_by, ended_by, test_at, block_at, else_at, if_at, while_at, do_at, for_body, for_parts, for_at, switch_body, switch_at, goto_at, return_at, label_at, after_at, plain_at, inner, outer, empty_at, stmt_by, stmt_at, read_stmt, read_line}
-use Rattle.csub_parse.proofs.Given.{Laws, EndsAssignment, ends_semicolon, ends_paren, ends_colon, stops_colon}
+use Rattle.csub_expr.proofs.Runs.{first_append, last_token, last_behind, nonempty_append}
+use Rattle.csub_parse.specs.Openings.{opening_at}
+use Rattle.csub_parse.specs.StatementDescent.{stmt_span, line, bare_name, expect_key, maybe_at, declared_at, evaluated_end, evaluated_at, first_at, line_by, case_at, default_at, switch_line_by, ended_by, test_at, block_at, else_at, if_at, while_at, do_at, for_body, for_parts, for_at, switch_body, switch_at, goto_at, return_at, label_at, after_at, plain_at, inner, outer, empty_at, stmt_by, stmt_at, read_stmt}
+use Rattle.csub_parse.proofs.Given.{Laws, ends_semicolon, ends_paren, ends_colon, stops_colon}
 use Rattle.csub_parse.proofs.Sequences.{repeated_ends, repeated_goes}
-use Rattle.csub_parse.proofs.DeclarationComplete.{Based, decl_opens, decl_reads}
+use Rattle.csub_parse.proofs.DeclarationOpens.{decl_opens}
+use Rattle.csub_parse.proofs.DeclarationComplete.{decl_reads}
 use Rattle.csub_parse.proofs.StatementShapes.{stmt_some, stmt_spanned, decl_spanned, line_some, switch_line_some, line_runs, end_of, stmt_deep}
-
--- how an expression is looked at where a statement may stand
-pub record Plain (ts : List Token) : Type 0 where
-  pub opens : opening_at ts ≡ openings.Plain
-  pub no_base : begins_base ts ≡ false
-  pub no_brace : begins marks.CloseBrace ts ≡ false
-  pub no_semicolon : begins marks.Semicolon ts ≡ false
-  pub no_paren : begins marks.CloseParen ts ≡ false
-  pub no_key : (k : Key) → begins_key k ts ≡ false
-
-prefix_plain : (m : Mark) (o : Prefix) → prefix_of m ≡ Some o → opening_of_mark m ≡ openings.Plain
-prefix_plain marks.Plus o e = refl
-prefix_plain marks.Minus o e = refl
-prefix_plain marks.Bang o e = refl
-prefix_plain marks.Tilde o e = refl
-prefix_plain marks.PlusPlus o e = refl
-prefix_plain marks.MinusMinus o e = refl
-prefix_plain _ o e = absurd cc
-
-lead_opens : {ts : List Token} → Lead ts → opening_at ts ≡ openings.Plain
-unfolding opening_at
-lead_opens (by_prefix m o a ts e) = prefix_plain m o e
-lead_opens (by_open a ts) = refl
-lead_opens (by_name n a ts) = refl
-lead_opens (by_number n u a ts) = refl
-lead_opens (by_character b a ts) = refl
-lead_opens (by_string t a ts) = refl
-
-lead_plain : {ts : List Token} → Lead ts → Plain ts
-unfolding begins_base
-lead_plain h = record {
-  opens = lead_opens h;
-  no_base = rw (lead_no_key h keys.Struct, lead_no_number h) refl;
-  no_brace = lead_no_mark h marks.CloseBrace refl refl;
-  no_semicolon = lead_no_mark h marks.Semicolon refl refl;
-  no_paren = lead_no_mark h marks.CloseParen refl refl;
-  no_key = λ k. lead_no_key h k;
-}
-
--- what no line begins with: a closing brace and `else`, and what no statement begins with
-pub record Opens (ts : List Token) : Type 0 where
-  pub no_close : begins marks.CloseBrace ts ≡ false
-  pub no_else : begins_key keys.Else ts ≡ false
-
-record Words (ts : List Token) : Type 0 where
-  no_base : begins_base ts ≡ false
-  no_close : begins marks.CloseBrace ts ≡ false
-  no_else : begins_key keys.Else ts ≡ false
-  no_case : begins_key keys.Case ts ≡ false
-  no_default : begins_key keys.Default ts ≡ false
-
-stmt_words : {x : Stmt} {s : List Token} → SpellsStmt x s → (r : List Token) → Words (s ++ r)
-unfolding begins begins_key begins_base begins_number
-stmt_words (block a b h) r = record { no_base = refl; no_close = refl; no_else = refl; no_case = refl; no_default = refl }
-stmt_words (empty a) r = record { no_base = refl; no_close = refl; no_else = refl; no_case = refl; no_default = refl }
-stmt_words (evaluated {s = s} a h) r =
-    let p = lead_plain (lead h (mark marks.Semicolon a ∷ r)) in
-    rw (append_assoc s (mark marks.Semicolon a ∷ []) r) (record { no_base = p.no_base; no_close = p.no_brace; no_else = p.no_key keys.Else; no_case = p.no_key keys.Case; no_default = p.no_key keys.Default })
-stmt_words (labelled n a h) r = record { no_base = refl; no_close = refl; no_else = refl; no_case = refl; no_default = refl }
-stmt_words (if_alone a b c h x) r = record { no_base = refl; no_close = refl; no_else = refl; no_case = refl; no_default = refl }
-stmt_words (if_else a b c d h x o y) r = record { no_base = refl; no_close = refl; no_else = refl; no_case = refl; no_default = refl }
-stmt_words (while_loop a b c h x) r = record { no_base = refl; no_close = refl; no_else = refl; no_case = refl; no_default = refl }
-stmt_words (do_loop a b c d f x h) r = record { no_base = refl; no_close = refl; no_else = refl; no_case = refl; no_default = refl }
-stmt_words (for_loop a b c d p e f x) r = record { no_base = refl; no_close = refl; no_else = refl; no_case = refl; no_default = refl }
-stmt_words (switched a b c d f h x) r = record { no_base = refl; no_close = refl; no_else = refl; no_case = refl; no_default = refl }
-stmt_words (broken_off a b) r = record { no_base = refl; no_close = refl; no_else = refl; no_case = refl; no_default = refl }
-stmt_words (continued a b) r = record { no_base = refl; no_close = refl; no_else = refl; no_case = refl; no_default = refl }
-stmt_words (gone_to n a b) r = record { no_base = refl; no_close = refl; no_else = refl; no_case = refl; no_default = refl }
-stmt_words (returned a b h) r = record { no_base = refl; no_close = refl; no_else = refl; no_case = refl; no_default = refl }
-
-pub line_opens : {x : Stmt} {s : List Token} → SpellsLine x s → (r : List Token) → Opens (s ++ r)
-line_opens (declaring h) r = let b = decl_opens h r in record { no_close = b.no_brace; no_else = b.no_else }
-line_opens (stating h) r = let w = stmt_words h r in record { no_close = w.no_close; no_else = w.no_else }
-
-switch_line_opens : {x : Stmt} {s : List Token} → SpellsSwitchLine x s → (r : List Token) → Opens (s ++ r)
-unfolding begins begins_key
-switch_line_opens (plain_line h) r = line_opens h r
-switch_line_opens (case_line a b h) r = record { no_close = refl; no_else = refl }
-switch_line_opens (default_line a b) r = record { no_close = refl; no_else = refl }
-
-brace_no_else : (r : List Token) → begins marks.CloseBrace r ≡ true → begins_key keys.Else r ≡ false
-unfolding begins_key
-brace_no_else r h = rw (begins_is marks.CloseBrace r h) refl
-
-lines_no_else : {xs : Stmts} {s : List Token} → SpellsLines xs s → (r : List Token) → begins marks.CloseBrace r ≡ true → begins_key keys.Else (s ++ r) ≡ false
-lines_no_else no_lines r h = brace_no_else r h
-lines_no_else (more_lines {s = s} {t = t} x xs) r h = rw (append_assoc s t r) (line_opens x (t ++ r)).no_else
-
-switch_no_else : {xs : Stmts} {s : List Token} → SpellsSwitchLines xs s → (r : List Token) → begins marks.CloseBrace r ≡ true → begins_key keys.Else (s ++ r) ≡ false
-switch_no_else no_switch_lines r h = brace_no_else r h
-switch_no_else (more_switch_lines {s = s} {t = t} x xs) r h = rw (append_assoc s t r) (switch_line_opens x (t ++ r)).no_else
+use Rattle.csub_parse.proofs.StatementOpens.{Opens, lead_plain, line_opens, lines_no_else, stmt_words, switch_line_opens, switch_no_else}
 
 -- lines as a list
 abbrev pub list_of : Stmts → List Stmt

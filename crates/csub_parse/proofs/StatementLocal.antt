@@ -1,5 +1,5 @@
 -- The descent of statements depends on what it took, and on the token after it.
-use Rattle.std.proofs.Common.{◌≡◌, ℕ, zero, suc, List, [], ◌∷◌, ◌++◌, length, Option, Some, None, Result, Ok, Err, Bool, true, false, cond, refl, sym, ap, ◌∙◌, arith}
+use Rattle.std.proofs.Common.{ℕ, zero, suc, List, length, Option, Some, None, Err, cond, refl}
 use Rattle.std.specs.Prelude.{nat_le}
 use Rattle.csub_text.specs.declared.span.Span.{Span}
 use Rattle.csub_lex.specs.declared.token.Key.{Key}
@@ -18,7 +18,7 @@ use Rattle.csub_expr.specs.Looks.{begins, begins_key, rest, head_span}
 use Rattle.csub_expr.specs.Answers.{Answer, ◌>>=◌, done, refuse, expect, expect_name}
 use Rattle.csub_expr.specs.ListDescent.{repeated}
 use Rattle.csub_expr.specs.ExprDescent.{read}
-use Rattle.csub_expr.proofs.Local.{Local, SameAtHead, local_bind, local_done, local_refuse, local_rest, local_at, local_if, local_choice, local_token, local_expect, local_name, same_begins, same_begins_key, same_head_span, same_by}
+use Rattle.csub_expr.proofs.Local.{Local, SameAtHead, local_bind, local_done, local_refuse, local_rest, local_at, local_if, local_choice, local_token, local_expect, local_name, same_begins, same_begins_key, same_by}
 use Rattle.csub_expr.proofs.ExprLocal.{local_read}
 use Rattle.csub_parse.specs.Openings.{begins_base, opening_at, opening_of}
 use Rattle.csub_parse.specs.DeclarationDescent.{decl_at}

@@ -1,5 +1,5 @@
 -- What every spelling of a statement has: tokens, their place, and how it begins.
-use Rattle.std.proofs.Common.{◌≡◌, ℕ, zero, suc, ◌+◌, ◌<◌, ◌≤◌, max, map, List, [], ◌∷◌, ◌++◌, length, Option, Some, None, Result, Ok, Err, Bool, true, false, refl, sym, ap, subst, ◌∙◌, arith, append_assoc, length-append}
+use Rattle.std.proofs.Common.{◌≡◌, ℕ, ◌<◌, max, map, List, [], ◌∷◌, length, Some, refl, ap, subst, arith}
 use Rattle.csub_text.specs.declared.span.Span.{Span}
 use Rattle.csub_lex.specs.declared.token.Key.{Key}
 use Rattle.csub_lex.specs.declared.token.Key.TheVariants as keys
@@ -11,11 +11,11 @@ use Rattle.csub_lex.specs.declared.token.Token.{Token}
 use Rattle.csub_tree.specs.declared.name.Name.{Name}
 use Rattle.csub_tree.specs.Expressions.{Expr, span_of}
 use Rattle.csub_tree.specs.Declarations.{Declare}
-use Rattle.csub_tree.specs.Statements.{Stmt, StmtKind, Stmts, Line, stmts_of, NoStmts, MoreStmts}
+use Rattle.csub_tree.specs.Statements.{Stmt, StmtKind, Line, stmts_of}
 use Rattle.csub_tree.specs.Depth.{most, stmt_depth, stmts_depth}
 use Rattle.csub_tree.specs.Tokens.{mark, key, id, first, last, runs}
 use Rattle.csub_tree.specs.Lists.{Each, no_more, one_more}
-use Rattle.csub_tree.specs.SpellsExpressions.{SpellsExpr, no_assignment, assigned, no_choice, choice, tighter, operated, prefixed, cast, no_prefix, no_postfix, indexed, member, stepped, named, called, number, character, string, enclosed, Operator, Plain, Both, Either, Prefix, Signed, Counted}
+use Rattle.csub_tree.specs.SpellsExpressions.{SpellsExpr, no_assignment, assigned, no_choice, choice, tighter, operated, prefixed, cast, no_prefix, no_postfix, indexed, member, stepped, named, called, number, character, string, enclosed, Plain, Both, Either, Signed, Counted}
 use Rattle.csub_tree.specs.SpellsDeclarations.{SpellsDecl, decl}
 use Rattle.csub_tree.specs.SpellsStatements.{SpellsStmt, block, empty, evaluated, labelled, if_alone, if_else, while_loop, do_loop, for_loop, switched, broken_off, continued, gone_to, returned, SpellsLine, declaring, stating, SpellsLines, no_lines, more_lines, SpellsSwitchLine, plain_line, case_line, default_line, SpellsSwitchLines, no_switch_lines, more_switch_lines}
 use Rattle.csub_parse.specs.declared.opening.Opening.{Opening}
@@ -24,7 +24,7 @@ use Rattle.csub_expr.specs.Looks.{rest, head_span}
 use Rattle.csub_expr.proofs.Runs.{nonempty_append}
 use Rattle.csub_parse.specs.Openings.{opening_at, opening_of, opening_of_mark, opening_of_key}
 use Rattle.csub_parse.specs.StatementDescent.{stmt_span, line, bare_name}
-use Rattle.csub_parse.proofs.DeclarationSound.{decl_some, span_from}
+use Rattle.csub_parse.proofs.BaseSound.{decl_some, span_from}
 
 pub stmt_some : {x : Stmt} {s : List Token} → SpellsStmt x s → 0 < length s
 stmt_some (block a b h) = omega arith

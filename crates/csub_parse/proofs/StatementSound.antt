@@ -1,249 +1,39 @@
 -- A statement that is read is spelled so, within the depth, and no `else` stands behind it that it wants.
-use Rattle.std.proofs.Common.{◌≡◌, ℕ, zero, suc, ◌+◌, ◌<◌, ◌≤◌, max, map, List, [], ◌∷◌, ◌++◌, length, Option, Some, None, Result, Ok, Err, Bool, true, false, cond, refl, sym, ap, subst, ◌∙◌, arith, append_assoc, length-append, inl, inr, ◌⊎◌}
+use Rattle.std.proofs.Common.{◌≡◌, ℕ, zero, suc, ◌≤◌, List, [], ◌∷◌, ◌++◌, length, Option, Some, None, Ok, Err, true, false, cond, refl, sym, ap, subst, ◌∙◌, arith, inl, inr}
 use Rattle.std.specs.Prelude.{nat_le}
 use Rattle.csub_text.specs.declared.span.Span.{Span}
 use Rattle.csub_lex.specs.declared.token.Key.TheVariants as keys
-use Rattle.csub_lex.specs.declared.token.Mark.{Mark}
 use Rattle.csub_lex.specs.declared.token.Mark.TheVariants as marks
 use Rattle.csub_lex.specs.declared.token.Token.{Token}
 use Rattle.csub_tree.specs.declared.name.Name.{Name}
 use Rattle.csub_tree.specs.Expressions.{Expr, span_of}
 use Rattle.csub_tree.specs.Declarations.{Declare}
-use Rattle.csub_tree.specs.Statements.{Stmt, StmtKind, Perhaps, Line, Declared, Eval, Empty, Block, If, While, Do, For, Switch, Case, Default, Break, Continue, Goto, Label, Return, NoStmt, OneStmt, stmts_of}
-use Rattle.csub_tree.specs.Depth.{if_there, expr_depth, stmt_depth, stmts_depth, perhaps_depth}
-use Rattle.csub_tree.specs.Tokens.{mark, key, id, first, last, runs}
-use Rattle.csub_tree.specs.Lists.{Optional, missing, present}
-use Rattle.csub_tree.specs.SpellsExpressions.{SpellsExpr, assignment, conditional}
+use Rattle.csub_tree.specs.Statements.{Stmt, Perhaps, Line, Declared, Eval, Empty, Block, If, While, Do, For, Switch, Case, Default, Break, Continue, Goto, Label, Return, NoStmt, OneStmt, stmts_of}
+use Rattle.csub_tree.specs.Depth.{if_there, expr_depth, stmt_depth, perhaps_depth}
+use Rattle.csub_tree.specs.Tokens.{mark, key, id, runs}
+use Rattle.csub_tree.specs.SpellsExpressions.{assignment, conditional}
 use Rattle.csub_tree.specs.SpellsDeclarations.{SpellsDecl}
-use Rattle.csub_tree.specs.SpellsStatements.{ends_open, SpellsMaybe, SpellsFirst, first_declared, first_evaluated, first_empty, SpellsStmt, block, empty, evaluated, labelled, if_alone, if_else, while_loop, do_loop, for_loop, switched, broken_off, continued, gone_to, returned, SpellsLine, declaring, stating, SpellsSwitchLine, plain_line, case_line, default_line}
+use Rattle.csub_tree.specs.SpellsStatements.{ends_open, SpellsMaybe, SpellsFirst, first_declared, first_evaluated, first_empty, SpellsStmt, block, empty, evaluated, switched, broken_off, continued, gone_to, returned, SpellsLine, declaring, stating, SpellsSwitchLine, plain_line, case_line, default_line}
 use Rattle.csub_parse.specs.declared.opening.Opening.{Opening}
 use Rattle.csub_parse.specs.declared.opening.Opening.TheVariants as openings
 use Rattle.csub_expr.specs.Looks.{begins, begins_key, rest, head_span}
 use Rattle.csub_expr.specs.Answers.{Answer, ◌>>=◌, done, expect, expect_name}
 use Rattle.csub_expr.specs.ListDescent.{repeated}
 use Rattle.csub_expr.specs.ExprDescent.{read}
-use Rattle.csub_expr.proofs.Taken.{bind_ok, ok_value, ok_rest, chosen, begins_is, begins_key_is, expect_is, expect_name_is}
+use Rattle.csub_expr.proofs.Answered.{bind_ok, ok_value, ok_rest, chosen}
+use Rattle.csub_expr.proofs.Taken.{begins_is, begins_key_is, expect_is, expect_name_is}
 use Rattle.csub_expr.proofs.ExprSound as expressions
-use Rattle.csub_expr.proofs.Spelled as spelled
-use Rattle.csub_expr.proofs.Runs.{first_append, last_token, last_behind, last_cons}
+use Rattle.csub_expr.proofs.Runs.{last_token, last_behind}
 use Rattle.csub_parse.specs.Openings.{begins_base, opening_at}
 use Rattle.csub_parse.specs.DeclarationDescent.{decl_at}
 use Rattle.csub_parse.specs.StatementDescent.{stmt_span, line, bare_name, expect_key, maybe_at, declared_at, evaluated_end, evaluated_at, first_at, line_by, case_at, default_at, switch_line_by, ended_by, test_at, block_at, else_at, if_at, while_at, do_at, for_body, for_parts, for_at, switch_body, switch_at, goto_at, return_at, label_at, after_at, plain_at, inner, outer, empty_at, stmt_by, stmt_at, read_stmt, read_line}
 use Rattle.csub_parse.proofs.Given.{Laws}
-use Rattle.csub_parse.proofs.Takes.{Took, Sound, Shorter, took_done, took_at, took_as, took_shorter, cut_two, cut_at, cut_first, expect_key_is}
-use Rattle.csub_parse.proofs.Sequences.{TookEach, repeated_sound}
+use Rattle.csub_parse.proofs.Takes.{Took, Sound, Shorter, took_done, took_shorter, cut_at, cut_first, expect_key_is}
+use Rattle.csub_parse.proofs.Sequences.{repeated_sound}
 use Rattle.csub_parse.proofs.DeclarationSound.{decl_sound}
-use Rattle.csub_parse.proofs.StatementShapes.{stmt_some, stmt_spanned, decl_spanned, line_some, switch_line_some, line_runs, end_of, lines_of, switch_lines_of, stmts_most, Bare, bare_is, Means, opening_means}
-
--- what was read, and no `else` that it wants stands behind it
-pub record TookOpen (R : Stmt → List Token → Type 0) (d : ℕ) (ts : List Token) (x : Stmt) (r : List Token) : Type 0 where
-  pub s : List Token
-  pub parts : ts ≡ s ++ r
-  pub spelled : R x s
-  pub fits : stmt_depth x ≤ d
-  pub tail : ends_open x ≡ true → begins_key keys.Else r ≡ false
-
-abbrev pub SoundOpen : (Stmt → List Token → Type 0) → ℕ → (List Token → Answer Stmt) → Type 0
-SoundOpen R d p = (ts : List Token) (x : Stmt) (r : List Token) → p ts ≡ Ok (x, r) → TookOpen R d ts x r
-
-open_done : (R : Stmt → List Token → Type 0) (d : ℕ) (ts : List Token) (e x : Stmt) (r y : List Token) → TookOpen R d ts x y → done x y ≡ done e r → TookOpen R d ts e r
-open_done R d ts e x r y h eq = subst (λ (v : Stmt). TookOpen R d ts v r) (ok_value x e y r eq) (subst (λ (v : List Token). TookOpen R d ts x v) (ok_rest x e y r eq) h)
-
-open_as : (R : Stmt → List Token → Type 0) (d : ℕ) (ts : List Token) (e x : Stmt) (r : List Token) → x ≡ e → TookOpen R d ts e r → TookOpen R d ts x r
-open_as R d ts e x r eq h = subst (λ (v : Stmt). TookOpen R d ts v r) (sym eq) h
-
-open_at : (R : Stmt → List Token → Type 0) (d : ℕ) (ts us : List Token) (x : Stmt) (r : List Token) → ts ≡ us → TookOpen R d us x r → TookOpen R d ts x r
-open_at R d ts us x r eq h = subst (λ (v : List Token). TookOpen R d v x r) (sym eq) h
-
--- the tail left out
-pub closed : (R : Stmt → List Token → Type 0) (d : ℕ) (p : List Token → Answer Stmt) → SoundOpen R d p → Sound Stmt R stmt_depth d p
-closed R d p h ts x r e = let t = h ts x r e in record { s = t.s; parts = t.parts; spelled = t.spelled; fits = t.fits }
-
--- [assign]
-maybe_sound : (d : ℕ) (m : Mark) → Sound (Option Expr) SpellsMaybe (if_there expr_depth) d (maybe_at d m)
-unfolding maybe_at
-maybe_sound d m ts e r h = elim (chosen (begins m ts) (done None ts) (read d assignment ts >>= λ x. done (Some x.0) x.1) (Ok (e, r)) h) [
-  | inl p ↦ took_done (Option Expr) SpellsMaybe (if_there expr_depth) d ts e None r ts (record { s = []; parts = refl; spelled = missing; fits = omega arith }) p.1
-  | inr p ↦
-      let i = bind_ok (read d assignment ts) (λ x. done (Some x.0) x.1) (e, r) p.1 in
-      let t = expressions.sound d assignment ts i.0.0 i.0.1 i.1 in
-      took_done (Option Expr) SpellsMaybe (if_there expr_depth) d ts e (Some i.0.0) r i.0.1 (record { s = t.s; parts = t.parts; spelled = present t.spelled; fits = t.fits }) i.2
-]
-
--- an expression and ";"
-record TookEval (d : ℕ) (ts : List Token) (x : Stmt) (r : List Token) : Type 0 where
-  e : Expr
-  s : List Token
-  a : Span
-  parts : ts ≡ s ++ mark marks.Semicolon a ∷ r
-  spelled : SpellsExpr assignment e s
-  fits : expr_depth e ≤ d
-  same : Line (Eval e) (runs (s ++ mark marks.Semicolon a ∷ [])) ≡ x
-
-evaluated_end_sound : (d : ℕ) (e : Expr) (ts us : List Token) → expressions.Took assignment d ts e us → (x : Stmt) (r : List Token) → evaluated_end e us ≡ Ok (x, r) → TookEval d ts x r
-unfolding evaluated_end
-evaluated_end_sound d e ts us t x r h =
-    let c = bind_ok (expect marks.Semicolon us) (λ semi. done (line (Eval e) (span_of e).start semi.0.end) semi.1) (x, r) h in
-    let m = mark marks.Semicolon c.0.0 in
-    let whole : List Token = t.s ++ m ∷ [] in
-    let starts : (span_of e).start ≡ first whole = ap (λ (y : Span). y.start) (spelled.spanned t.spelled) ∙ sym (first_append t.s (m ∷ []) (spelled.nonempty t.spelled)) in
-    record {
-      e = e;
-      s = t.s;
-      a = c.0.0;
-      parts = t.parts ∙ ap (λ (u : List Token). t.s ++ u) (expect_is marks.Semicolon us c.0.0 c.0.1 c.1 ∙ ap (λ (u : List Token). m ∷ u) (ok_rest (line (Eval e) (span_of e).start c.0.0.end) x c.0.1 r c.2));
-      spelled = t.spelled;
-      fits = t.fits;
-      same = sym (line_runs (Eval e) (span_of e).start c.0.0.end whole starts (sym (last_token t.s m))) ∙ ok_value (line (Eval e) (span_of e).start c.0.0.end) x c.0.1 r c.2;
-    }
-
-evaluated_sound : (d : ℕ) (ts : List Token) (x : Stmt) (r : List Token) → evaluated_at d ts ≡ Ok (x, r) → TookEval d ts x r
-unfolding evaluated_at
-evaluated_sound d ts x r h =
-    let i = bind_ok (read d assignment ts) (λ e. evaluated_end e.0 e.1) (x, r) h in
-    evaluated_end_sound d i.0.0 ts i.0.1 (expressions.sound d assignment ts i.0.0 i.0.1 i.1) x r i.2
-
--- ";" behind a statement's other tokens
-record Ended (k : StmtKind) (start : ℕ) (ts : List Token) (x : Stmt) (r : List Token) : Type 0 where
-  a : Span
-  parts : ts ≡ mark marks.Semicolon a ∷ r
-  same : line k start a.end ≡ x
-
-ended_is : (k : StmtKind) (start : ℕ) (ts : List Token) (x : Stmt) (r : List Token) → ended_by k start ts ≡ Ok (x, r) → Ended k start ts x r
-unfolding ended_by
-ended_is k start ts x r h =
-    let c = bind_ok (expect marks.Semicolon ts) (λ semi. done (line k start semi.0.end) semi.1) (x, r) h in
-    record {
-      a = c.0.0;
-      parts = expect_is marks.Semicolon ts c.0.0 c.0.1 c.1 ∙ ap (λ (u : List Token). mark marks.Semicolon c.0.0 ∷ u) (ok_rest (line k start c.0.0.end) x c.0.1 r c.2);
-      same = ok_value (line k start c.0.0.end) x c.0.1 r c.2;
-    }
-
--- "(" assign ")"
-record TookTest (d : ℕ) (ts : List Token) (e : Expr) (r : List Token) : Type 0 where
-  a : Span
-  b : Span
-  s : List Token
-  parts : ts ≡ mark marks.OpenParen a ∷ (s ++ mark marks.CloseParen b ∷ r)
-  spelled : SpellsExpr assignment e s
-  fits : expr_depth e ≤ d
-
-test_done : (d : ℕ) (ts : List Token) (e x : Expr) (r y : List Token) → TookTest d ts x y → done x y ≡ done e r → TookTest d ts e r
-test_done d ts e x r y h eq = subst (λ (v : Expr). TookTest d ts v r) (ok_value x e y r eq) (subst (λ (v : List Token). TookTest d ts x v) (ok_rest x e y r eq) h)
-
-test_sound : (below : List Token → Answer Stmt) (d : ℕ) (ts : List Token) (e : Expr) (r : List Token) → test_at below d ts ≡ Ok (e, r) → TookTest d ts e r
-unfolding test_at
-test_sound below d ts e r h =
-    let o = bind_ok (expect marks.OpenParen ts) (λ o. read d assignment o.1 >>= λ e. expect marks.CloseParen e.1 >>= λ c. done e.0 c.1) (e, r) h in
-    let i = bind_ok (read d assignment o.0.1) (λ e. expect marks.CloseParen e.1 >>= λ c. done e.0 c.1) (e, r) o.2 in
-    let c = bind_ok (expect marks.CloseParen i.0.1) (λ c. done i.0.0 c.1) (e, r) i.2 in
-    let t = expressions.sound d assignment o.0.1 i.0.0 i.0.1 i.1 in
-    test_done d ts e i.0.0 r c.0.1 (record {
-      a = o.0.0;
-      b = c.0.0;
-      s = t.s;
-      parts = expect_is marks.OpenParen ts o.0.0 o.0.1 o.1 ∙ ap (λ (u : List Token). mark marks.OpenParen o.0.0 ∷ u) (t.parts ∙ ap (λ (u : List Token). t.s ++ u) (expect_is marks.CloseParen i.0.1 c.0.0 c.0.1 c.1));
-      spelled = t.spelled;
-      fits = t.fits;
-    }) c.2
-
--- the tokens of a test and what stands behind it
-after_test : (d : ℕ) (k : Token) (ts us : List Token) (e : Expr) (t : TookTest d ts e us) (v r : List Token) → us ≡ v ++ r → k ∷ ts ≡ (k ∷ mark marks.OpenParen t.a ∷ (t.s ++ mark marks.CloseParen t.b ∷ v)) ++ r
-after_test d k ts us e t v r p = ap (λ (u : List Token). k ∷ u) (t.parts ∙ ap (λ (u : List Token). mark marks.OpenParen t.a ∷ (t.s ++ mark marks.CloseParen t.b ∷ u)) p ∙ ap (λ (u : List Token). mark marks.OpenParen t.a ∷ u) (sym (append_assoc t.s (mark marks.CloseParen t.b ∷ v) r)))
-
-make_if : (d : ℕ) (a : Span) (ts us : List Token) (e : Expr) (x : Stmt) (r : List Token) → TookTest d ts e us → TookOpen SpellsStmt d us x r → begins_key keys.Else r ≡ false
-    → TookOpen SpellsStmt (suc d) (key keys.If a ∷ ts) (line (If e x NoStmt) a.start (stmt_span x).end) r
-make_if d a ts us e x r p t no_else =
-    let o = mark marks.OpenParen p.a in
-    let c = mark marks.CloseParen p.b in
-    let whole : List Token = key keys.If a ∷ o ∷ (p.s ++ c ∷ t.s) in
-    open_as SpellsStmt (suc d) (key keys.If a ∷ ts) (Line (If e x NoStmt) (runs whole)) (line (If e x NoStmt) a.start (stmt_span x).end) r
-    (line_runs (If e x NoStmt) a.start (stmt_span x).end whole refl (end_of x t.s (stmt_spanned t.spelled) ∙ sym (last_behind (key keys.If a ∷ o ∷ p.s) c t.s (stmt_some t.spelled))))
-    (record { s = whole; parts = after_test d (key keys.If a) ts us e p t.s r t.parts; spelled = if_alone a p.a p.b p.spelled t.spelled; fits = omega (arith, p.fits, t.fits); tail = λ o. no_else })
-
-make_else : (d : ℕ) (a l : Span) (ts us vs : List Token) (e : Expr) (x y : Stmt) (r : List Token) → TookTest d ts e us → TookOpen SpellsStmt d us x (key keys.Else l ∷ vs) → TookOpen SpellsStmt d vs y r
-    → TookOpen SpellsStmt (suc d) (key keys.If a ∷ ts) (line (If e x (OneStmt y)) a.start (stmt_span y).end) r
-unfolding begins_key
-make_else d a l ts us vs e x y r p t q =
-    let o = mark marks.OpenParen p.a in
-    let c = mark marks.CloseParen p.b in
-    let k = key keys.Else l in
-    let whole : List Token = key keys.If a ∷ o ∷ (p.s ++ c ∷ (t.s ++ k ∷ q.s)) in
-    let shut : ends_open x ≡ false = go (ends_open x) t.tail in
-    open_as SpellsStmt (suc d) (key keys.If a ∷ ts) (Line (If e x (OneStmt y)) (runs whole)) (line (If e x (OneStmt y)) a.start (stmt_span y).end) r
-    (line_runs (If e x (OneStmt y)) a.start (stmt_span y).end whole refl
-    (end_of y q.s (stmt_spanned q.spelled) ∙ sym (last_behind (key keys.If a ∷ o ∷ p.s) c (t.s ++ k ∷ q.s) (omega (arith, length-append t.s (k ∷ q.s))) ∙ last_behind t.s k q.s (stmt_some q.spelled))))
-    (record {
-      s = whole;
-      parts = after_test d (key keys.If a) ts us e p (t.s ++ k ∷ q.s) r (cut_at t.s q.s k us vs r t.parts q.parts);
-      spelled = if_else a p.a p.b l p.spelled t.spelled shut q.spelled;
-      fits = omega (arith, p.fits, t.fits, q.fits);
-      tail = q.tail;
-    })
-  where
-    go : (o : Bool) → (o ≡ true → true ≡ false) → o ≡ false
-    go true h = h refl
-    go false h = refl
-
-make_while : (d : ℕ) (a : Span) (ts us : List Token) (e : Expr) (x : Stmt) (r : List Token) → TookTest d ts e us → TookOpen SpellsStmt d us x r
-    → TookOpen SpellsStmt (suc d) (key keys.While a ∷ ts) (line (While e x) a.start (stmt_span x).end) r
-make_while d a ts us e x r p t =
-    let o = mark marks.OpenParen p.a in
-    let c = mark marks.CloseParen p.b in
-    let whole : List Token = key keys.While a ∷ o ∷ (p.s ++ c ∷ t.s) in
-    open_as SpellsStmt (suc d) (key keys.While a ∷ ts) (Line (While e x) (runs whole)) (line (While e x) a.start (stmt_span x).end) r
-    (line_runs (While e x) a.start (stmt_span x).end whole refl (end_of x t.s (stmt_spanned t.spelled) ∙ sym (last_behind (key keys.While a ∷ o ∷ p.s) c t.s (stmt_some t.spelled))))
-    (record { s = whole; parts = after_test d (key keys.While a) ts us e p t.s r t.parts; spelled = while_loop a p.a p.b p.spelled t.spelled; fits = omega (arith, p.fits, t.fits); tail = t.tail })
-
-make_do : (d : ℕ) (a w f : Span) (ts us vs : List Token) (e : Expr) (x : Stmt) (r : List Token) → TookOpen SpellsStmt d ts x (key keys.While w ∷ us) → TookTest d us e vs → vs ≡ mark marks.Semicolon f ∷ r
-    → TookOpen SpellsStmt (suc d) (key keys.Do a ∷ ts) (line (Do x e) a.start f.end) r
-make_do d a w f ts us vs e x r t p ends =
-    let o = mark marks.OpenParen p.a in
-    let c = mark marks.CloseParen p.b in
-    let m = mark marks.Semicolon f in
-    let k = key keys.While w in
-    let whole : List Token = key keys.Do a ∷ (t.s ++ k ∷ o ∷ (p.s ++ c ∷ m ∷ [])) in
-    open_as SpellsStmt (suc d) (key keys.Do a ∷ ts) (Line (Do x e) (runs whole)) (line (Do x e) a.start f.end) r
-    (line_runs (Do x e) a.start f.end whole refl (sym (last_behind (key keys.Do a ∷ t.s) k (o ∷ (p.s ++ c ∷ m ∷ [])) (omega arith) ∙ last_behind (o ∷ p.s) c (m ∷ []) (omega arith))))
-    (record {
-      s = whole;
-      parts = ap (λ (u : List Token). key keys.Do a ∷ u) (cut_two t.s (k ∷ o ∷ (p.s ++ c ∷ m ∷ [])) ts (k ∷ us) r t.parts (after_test d k us vs e p (m ∷ []) r ends));
-      spelled = do_loop a w p.a p.b f t.spelled p.spelled;
-      fits = omega (arith, p.fits, t.fits);
-      tail = λ o. absurd cc;
-    })
-
-make_for : (d : ℕ) (a b c g : Span) (ts u₁ u₂ u₃ u₄ : List Token) (p : Perhaps) (e f : Option Expr) (x : Stmt) (r : List Token)
-    → ts ≡ mark marks.OpenParen b ∷ u₁ → Took Perhaps SpellsFirst perhaps_depth d u₁ p u₂ → Took (Option Expr) SpellsMaybe (if_there expr_depth) d u₂ e (mark marks.Semicolon c ∷ u₃)
-    → Took (Option Expr) SpellsMaybe (if_there expr_depth) d u₃ f (mark marks.CloseParen g ∷ u₄) → TookOpen SpellsStmt d u₄ x r
-    → TookOpen SpellsStmt (suc d) (key keys.For a ∷ ts) (line (For p e f x) a.start (stmt_span x).end) r
-make_for d a b c g ts u₁ u₂ u₃ u₄ p e f x r opens hp he hf t =
-    let k = key keys.For a in
-    let o = mark marks.OpenParen b in
-    let m = mark marks.Semicolon c in
-    let n = mark marks.CloseParen g in
-    let third : List Token = hf.s ++ n ∷ t.s in
-    let second : List Token = he.s ++ m ∷ third in
-    let whole : List Token = k ∷ o ∷ (hp.s ++ second) in
-    let some_third : 0 < length third = omega (arith, length-append hf.s (n ∷ t.s)) in
-    let last_whole : last whole ≡ last t.s = ap last (sym (append_assoc (k ∷ o ∷ hp.s) he.s (m ∷ third))) ∙ last_behind ((k ∷ o ∷ hp.s) ++ he.s) m third some_third ∙ last_behind hf.s n t.s (stmt_some t.spelled) in
-    open_as SpellsStmt (suc d) (k ∷ ts) (Line (For p e f x) (runs whole)) (line (For p e f x) a.start (stmt_span x).end) r
-    (line_runs (For p e f x) a.start (stmt_span x).end whole refl (end_of x t.s (stmt_spanned t.spelled) ∙ sym last_whole))
-    (record {
-      s = whole;
-      parts = ap (λ (u : List Token). k ∷ u) (cut_first (hp.s ++ second) o ts u₁ r opens (cut_two hp.s second u₁ u₂ r hp.parts (cut_at he.s third m u₂ u₃ r he.parts (cut_at hf.s t.s n u₃ u₄ r hf.parts t.parts))));
-      spelled = for_loop a b c g hp.spelled he.spelled hf.spelled t.spelled;
-      fits = omega (arith, hp.fits, he.fits, hf.fits, t.fits);
-      tail = t.tail;
-    })
-
-make_label : (d : ℕ) (n : Name) (c : Span) (ts : List Token) (x : Stmt) (r : List Token) → TookOpen SpellsStmt d ts x r
-    → TookOpen SpellsStmt (suc d) (id n ∷ mark marks.Colon c ∷ ts) (line (Label n x) n.span.start (stmt_span x).end) r
-make_label d n c ts x r t =
-    let m = mark marks.Colon c in
-    open_as SpellsStmt (suc d) (id n ∷ m ∷ ts) (Line (Label n x) (runs (id n ∷ m ∷ t.s))) (line (Label n x) n.span.start (stmt_span x).end) r
-    (line_runs (Label n x) n.span.start (stmt_span x).end (id n ∷ m ∷ t.s) refl (end_of x t.s (stmt_spanned t.spelled) ∙ sym (last_behind (id n ∷ []) m t.s (stmt_some t.spelled))))
-    (record { s = id n ∷ m ∷ t.s; parts = ap (λ (u : List Token). id n ∷ m ∷ u) t.parts; spelled = labelled n c t.spelled; fits = omega (arith, t.fits); tail = t.tail })
+use Rattle.csub_parse.proofs.StatementShapes.{decl_spanned, line_some, switch_line_some, line_runs, lines_of, switch_lines_of, stmts_most, bare_is, Means, opening_means}
+use Rattle.csub_parse.proofs.StatementParts.{SoundOpen, TookEval, TookOpen, TookTest, after_test, closed, ended_is, evaluated_end_sound, evaluated_sound, maybe_sound, open_as, open_at, open_done, test_sound}
+use Rattle.csub_parse.proofs.StatementMade.{make_do, make_else, make_for, make_if, make_label, make_while}
 
 module _ (laws : Laws) where
   -- declarations as statements

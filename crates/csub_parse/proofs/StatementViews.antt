@@ -1,10 +1,10 @@
 -- Statements of the code that hold a statement or none, level by level.
-use Rattle.std.proofs.Common.{◌≡◌, Option, Some, None, refl, ap, ◌∙◌, rules}
+use Rattle.std.proofs.Common.{◌≡◌, Option, Some, None, rules}
 use Rattle.std.specs.Prelude.{Box}
 use Rattle.std.specs.declared.alloc.Global.{Global}
 use Rattle.csub_text.specs.declared.span.Span.{Span}
 use Rattle.csub_tree.specs.declared.expression.Expr.{Expr}
-use Rattle.csub_tree.specs.declared.statement.Stmt.{Stmt, Stmt-F, roll-Stmt, fold-roll-Stmt}
+use Rattle.csub_tree.specs.declared.statement.Stmt.{Stmt, roll-Stmt}
 use Rattle.csub_tree.specs.declared.statement.StmtKind.{If, For, the_lemmas}
 use Rattle.std.specs.Option.{option_map}
 use Rattle.csub_tree.specs.Expressions.{expr_tree}

@@ -1,12 +1,13 @@
 -- What was read: the tokens that were taken, which spell it, within a depth.
-use Rattle.std.proofs.Common.{◌≡◌, ℕ, zero, suc, ◌+◌, ◌<◌, ◌≤◌, List, [], ◌∷◌, ◌++◌, length, Ok, Err, Bool, true, false, cond, refl, sym, ap, subst, ◌∙◌, arith, append_assoc, length-append, inl, inr, ◌⊎◌}
+use Rattle.std.proofs.Common.{◌≡◌, ℕ, ◌<◌, ◌≤◌, List, ◌∷◌, ◌++◌, length, Ok, Err, sym, ap, subst, ◌∙◌, arith, append_assoc, length-append, inl, inr}
 use Rattle.csub_text.specs.declared.span.Span.{Span}
 use Rattle.csub_lex.specs.declared.token.Key.{Key}
 use Rattle.csub_lex.specs.declared.token.Token.{Token}
 use Rattle.csub_tree.specs.Tokens.{key}
 use Rattle.csub_expr.specs.Looks.{begins_key, rest, head_span}
 use Rattle.csub_expr.specs.Answers.{Answer, done}
-use Rattle.csub_expr.proofs.Taken.{ok_value, ok_rest, chosen, begins_key_is}
+use Rattle.csub_expr.proofs.Answered.{ok_value, ok_rest, chosen}
+use Rattle.csub_expr.proofs.Taken.{begins_key_is}
 use Rattle.csub_parse.specs.StatementDescent.{expect_key}
 
 pub record Took (A : Type 0) (R : A → List Token → Type 0) (deep : A → ℕ) (d : ℕ) (ts : List Token) (x : A) (r : List Token) : Type 0 where

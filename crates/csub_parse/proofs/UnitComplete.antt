@@ -1,6 +1,5 @@
 -- A unit that is spelled so is read.
-use Rattle.std.proofs.Common.{◌≡◌, ℕ, zero, suc, ◌+◌, ◌<◌, ◌≤◌, max, map, List, [], ◌∷◌, ◌++◌, length, Option, Some, None, Result, Ok, Err, Bool, true, false, cond, refl, sym, ap, subst, ◌∙◌, arith, append_assoc, length-append}
-use Rattle.std.specs.Prelude.{nat_le, ◌&&◌}
+use Rattle.std.proofs.Common.{◌≡◌, ℕ, zero, suc, ◌<◌, ◌≤◌, map, List, [], ◌∷◌, ◌++◌, length, Option, Some, None, Ok, true, false, refl, sym, ap, subst, ◌∙◌, arith, append_assoc, length-append}
 use Rattle.std.proofs.lemmas.Bool.{le-leb}
 use Rattle.csub_text.specs.declared.span.Span.{Span}
 use Rattle.csub_lex.specs.declared.token.Key.TheVariants as keys
@@ -9,34 +8,33 @@ use Rattle.csub_lex.specs.declared.token.Token.{Token}
 use Rattle.csub_tree.specs.declared.name.Name.{Name}
 use Rattle.csub_tree.specs.declared.name.TypeName.{TypeName}
 use Rattle.csub_tree.specs.declared.name.TypeName.TheVariants as types
-use Rattle.csub_tree.specs.Expressions.{Expr}
 use Rattle.csub_tree.specs.Declarations.{Declarator, Declare, Param, Head}
-use Rattle.csub_tree.specs.Statements.{Stmts, stmts_of}
+use Rattle.csub_tree.specs.Statements.{Stmts}
 use Rattle.csub_tree.specs.Units.{Constant, Item, Struct, Enum, Object, Prototype, Function, Source}
-use Rattle.csub_tree.specs.Depth.{most, if_there, expr_depth, declarator_depth, declare_depth, param_depth, head_depth, stmts_depth, constant_depth, item_depth, unit_depth}
-use Rattle.csub_tree.specs.Tokens.{mark, key, id, first, last, runs}
-use Rattle.csub_tree.specs.Lists.{Each, no_more, one_more, Separated, last_one, before, Optional, missing, present, Trailing, no_comma, comma}
-use Rattle.csub_tree.specs.SpellsExpressions.{SpellsNumber, conditional}
-use Rattle.csub_tree.specs.SpellsDeclarations.{SpellsBase, numeric, structure, SpellsVar, SpellsField, SpellsDecl, decl, SpellsName, identifier, SpellsParams, SpellsResult, nothing, value, SpellsHead, head}
+use Rattle.csub_tree.specs.Depth.{most, declarator_depth, declare_depth, param_depth, head_depth, stmts_depth, constant_depth, item_depth, unit_depth}
+use Rattle.csub_tree.specs.Tokens.{mark, key, id, last}
+use Rattle.csub_tree.specs.Lists.{Each, one_more, Separated, Optional, missing, present, Trailing, no_comma, comma}
+use Rattle.csub_tree.specs.SpellsExpressions.{SpellsNumber}
+use Rattle.csub_tree.specs.SpellsDeclarations.{numeric, structure, SpellsVar, SpellsField, SpellsDecl, decl, SpellsName, identifier, SpellsParams, nothing, value, SpellsHead, head}
 use Rattle.csub_tree.specs.SpellsStatements.{SpellsLines}
 use Rattle.csub_tree.specs.Spells as spells
 use Rattle.csub_tree.specs.Spells.{SpellsConstant, counted, valued, SpellsItem, Spells, unit}
 use Rattle.csub_expr.specs.Looks.{begins, begins_key, rest, head_span}
-use Rattle.csub_expr.specs.Answers.{Answer, ◌>>=◌, done, expect, expect_name}
+use Rattle.csub_expr.specs.Answers.{done, expect, expect_name}
 use Rattle.csub_expr.specs.ListDescent.{separated, repeated}
-use Rattle.csub_expr.specs.ExprDescent.{read}
 use Rattle.csub_expr.proofs.Spelled.{depth_pos}
 use Rattle.csub_expr.proofs.Runs.{last_token, last_behind, nonempty_append}
 use Rattle.csub_parse.specs.Openings.{begins_name, at_end}
-use Rattle.csub_parse.specs.DeclarationDescent.{from_to, numeric_at, decl_after, decl_behind, field_at, params_at}
+use Rattle.csub_parse.specs.DeclarationDescent.{from_to, decl_after, field_at}
 use Rattle.csub_parse.specs.StatementDescent.{read_line}
 use Rattle.csub_parse.specs.UnitDescent.{constant_after, constant_at, enum_behind, enum_at, fields_after, members_at, object_behind, object_after, tagged_at, struct_at, body_at, head_after, function_at, void_at, numbered_after, numbered_at, item_from, item_at, read_item, read_unit}
 use Rattle.csub_parse.proofs.Given.{Laws, EndsConditional, stops_comma, stops_brace}
 use Rattle.csub_parse.proofs.Sequences.{each_reads, some_reads, trailing_reads}
-use Rattle.csub_parse.proofs.DeclarationSound.{field_some, decl_some}
-use Rattle.csub_parse.proofs.DeclarationComplete.{span_again, numeric_reads, number_opens, base_reads, Based, field_opens, Row, row_behind, decl_behind_reads, decl_behind_name, field_reads, params_reads}
-use Rattle.csub_parse.proofs.StatementComplete.{list_of, list_again, lines_read}
-use Rattle.csub_parse.proofs.UnitSound.{head_some, item_some}
+use Rattle.csub_parse.proofs.BaseSound.{field_some, decl_some}
+use Rattle.csub_parse.proofs.DeclarationOpens.{span_again, numeric_reads, number_opens, field_opens}
+use Rattle.csub_parse.proofs.DeclarationComplete.{row_behind, decl_behind_reads, field_reads, params_reads}
+use Rattle.csub_parse.proofs.StatementComplete.{list_again, lines_read}
+use Rattle.csub_parse.proofs.UnitSound.{item_some}
 
 -- what may follow a constant
 abbrev OkayConstant : List Token → Type 0

@@ -1,10 +1,9 @@
 -- The descent of units depends on what it took, and on the token after it.
-use Rattle.std.proofs.Common.{◌≡◌, ℕ, zero, suc, List, [], ◌∷◌, ◌++◌, length, Option, Some, None, Result, Ok, Err, Bool, true, false, cond, refl, sym, ap, ◌∙◌}
+use Rattle.std.proofs.Common.{ℕ, zero, suc, List, [], ◌∷◌, length, Option, Some, None, Bool, cond, refl, ap}
 use Rattle.std.specs.Prelude.{nat_le, ◌&&◌}
 use Rattle.csub_text.specs.declared.span.Span.{Span}
 use Rattle.csub_lex.specs.declared.token.Key.TheVariants as keys
 use Rattle.csub_lex.specs.declared.token.Mark.TheVariants as marks
-use Rattle.csub_lex.specs.declared.token.Token.{Token}
 use Rattle.csub_tree.specs.declared.name.Name.{Name}
 use Rattle.csub_tree.specs.declared.name.TypeName.{TypeName}
 use Rattle.csub_tree.specs.declared.name.TypeName.TheVariants as types
@@ -13,11 +12,11 @@ use Rattle.csub_tree.specs.Declarations.{Declare, Param, Head}
 use Rattle.csub_tree.specs.Statements.{Stmt, stmts_of}
 use Rattle.csub_tree.specs.Units.{Constant, Item, Struct, Enum, Object, Prototype, Function, Source}
 use Rattle.csub_tree.specs.SpellsExpressions.{conditional}
-use Rattle.csub_expr.specs.Looks.{begins, begins_key, rest, head_span}
-use Rattle.csub_expr.specs.Answers.{Answer, ◌>>=◌, done, refuse, expect, expect_name}
+use Rattle.csub_expr.specs.Looks.{begins, begins_key, rest}
+use Rattle.csub_expr.specs.Answers.{◌>>=◌, done, expect, expect_name}
 use Rattle.csub_expr.specs.ListDescent.{separated, repeated}
 use Rattle.csub_expr.specs.ExprDescent.{read}
-use Rattle.csub_expr.proofs.Local.{Local, SameAtHead, local_bind, local_done, local_refuse, local_rest, local_if, local_expect, local_name, same_begins, same_begins_key, same_by}
+use Rattle.csub_expr.proofs.Local.{Local, SameAtHead, local_bind, local_done, local_refuse, local_rest, local_if, local_expect, local_name, same_begins, same_begins_key}
 use Rattle.csub_expr.proofs.Series.{local_separated}
 use Rattle.csub_expr.proofs.ExprLocal.{local_read}
 use Rattle.csub_parse.specs.Openings.{begins_name, at_end}

@@ -1,5 +1,5 @@
 -- A unit that is read is spelled so, within the depth.
-use Rattle.std.proofs.Common.{◌≡◌, ℕ, zero, suc, ◌+◌, ◌<◌, ◌≤◌, max, map, List, [], ◌∷◌, ◌++◌, length, Option, Some, None, Result, Ok, Err, Bool, true, false, cond, refl, sym, ap, subst, ◌∙◌, arith, append_assoc, length-append, inl, inr, ◌⊎◌}
+use Rattle.std.proofs.Common.{◌≡◌, ℕ, zero, suc, ◌<◌, ◌≤◌, map, List, [], ◌∷◌, ◌++◌, length, Option, Some, None, Ok, true, cond, refl, sym, ap, subst, ◌∙◌, arith, append_assoc, inl, inr}
 use Rattle.std.specs.Prelude.{nat_le, ◌&&◌}
 use Rattle.csub_text.specs.declared.span.Span.{Span}
 use Rattle.csub_lex.specs.declared.token.Key.TheVariants as keys
@@ -8,15 +8,14 @@ use Rattle.csub_lex.specs.declared.token.Token.{Token}
 use Rattle.csub_tree.specs.declared.name.Name.{Name}
 use Rattle.csub_tree.specs.declared.name.TypeName.{TypeName}
 use Rattle.csub_tree.specs.declared.name.TypeName.TheVariants as types
-use Rattle.csub_tree.specs.Expressions.{Expr}
-use Rattle.csub_tree.specs.Declarations.{Declare, Param, Head}
+use Rattle.csub_tree.specs.Declarations.{Declare, Head}
 use Rattle.csub_tree.specs.Statements.{Stmt, stmts_of}
 use Rattle.csub_tree.specs.Units.{Constant, Item, Struct, Enum, Object, Prototype, Function, Source}
-use Rattle.csub_tree.specs.Depth.{most, if_there, expr_depth, declare_depth, param_depth, head_depth, stmt_depth, stmts_depth, constant_depth, item_depth, unit_depth}
+use Rattle.csub_tree.specs.Depth.{most, declare_depth, head_depth, stmt_depth, constant_depth, item_depth, unit_depth}
 use Rattle.csub_tree.specs.Tokens.{mark, key, id, first, last, runs}
-use Rattle.csub_tree.specs.Lists.{Each, one_more, Separated, Optional, missing, present, Trailing}
+use Rattle.csub_tree.specs.Lists.{Each, one_more, Optional, missing, present}
 use Rattle.csub_tree.specs.SpellsExpressions.{SpellsNumber, conditional}
-use Rattle.csub_tree.specs.SpellsDeclarations.{SpellsBase, numeric, structure, SpellsField, SpellsDecl, SpellsName, identifier, SpellsParams, SpellsResult, nothing, value, SpellsHead, head}
+use Rattle.csub_tree.specs.SpellsDeclarations.{numeric, structure, SpellsField, SpellsDecl, SpellsName, identifier, SpellsResult, nothing, value, SpellsHead, head}
 use Rattle.csub_tree.specs.SpellsStatements.{SpellsLine}
 use Rattle.csub_tree.specs.Spells as spells
 use Rattle.csub_tree.specs.Spells.{SpellsConstant, counted, valued, SpellsItem, Spells, unit}
@@ -24,7 +23,8 @@ use Rattle.csub_expr.specs.Looks.{begins, begins_key, rest, head_span}
 use Rattle.csub_expr.specs.Answers.{Answer, ◌>>=◌, done, expect, expect_name}
 use Rattle.csub_expr.specs.ListDescent.{separated, repeated}
 use Rattle.csub_expr.specs.ExprDescent.{read}
-use Rattle.csub_expr.proofs.Taken.{bind_ok, ok_value, ok_rest, chosen, and_true, begins_is, begins_key_is, expect_is, expect_name_is}
+use Rattle.csub_expr.proofs.Answered.{bind_ok, ok_value, ok_rest, chosen, and_true}
+use Rattle.csub_expr.proofs.Taken.{begins_is, begins_key_is, expect_is, expect_name_is}
 use Rattle.csub_expr.proofs.ExprSound as expressions
 use Rattle.csub_expr.proofs.Runs.{first_append, last_token, nonempty_append}
 use Rattle.csub_parse.specs.Openings.{begins_name, at_end}
@@ -32,9 +32,10 @@ use Rattle.csub_parse.specs.DeclarationDescent.{from_to, numeric_at, decl_after,
 use Rattle.csub_parse.specs.StatementDescent.{read_line}
 use Rattle.csub_parse.specs.UnitDescent.{constant_after, constant_at, enum_behind, enum_at, fields_after, members_at, object_behind, object_after, tagged_at, struct_at, body_at, head_after, function_at, void_at, numbered_after, numbered_at, item_from, item_at, read_item, read_unit}
 use Rattle.csub_parse.proofs.Given.{Laws}
-use Rattle.csub_parse.proofs.Takes.{Took, Sound, Shorter, took_done, took_at, took_as, took_shorter, cut_two, cut_at, cut_first}
-use Rattle.csub_parse.proofs.Sequences.{TookEach, TookSome, repeated_sound, some_sound}
-use Rattle.csub_parse.proofs.DeclarationSound.{numeric_sound, starts_at, base_some, field_some, decl_some, span_from, decl_after_sound, decl_behind_sound, field_sound, params_sound}
+use Rattle.csub_parse.proofs.Takes.{Took, Sound, Shorter, took_done, took_at, took_as, took_shorter, cut_two, cut_at}
+use Rattle.csub_parse.proofs.Sequences.{repeated_sound, some_sound}
+use Rattle.csub_parse.proofs.BaseSound.{numeric_sound, starts_at, base_some, decl_some, span_from}
+use Rattle.csub_parse.proofs.DeclarationSound.{decl_after_sound, decl_behind_sound, field_sound, params_sound}
 use Rattle.csub_parse.proofs.StatementShapes.{lines_of, stmts_most}
 use Rattle.csub_parse.proofs.StatementSound.{read_line_sound}
 

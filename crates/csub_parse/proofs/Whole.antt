@@ -1,9 +1,9 @@
 -- What is read as a whole is what the tokens spell, and what is refused no unit spells.
-use Rattle.std.proofs.Common.{◌≡◌, ℕ, zero, suc, ◌+◌, ◌-◌, ◌<◌, ◌≤◌, List, [], ◌∷◌, ◌++◌, length, take, Option, Some, None, Result, Ok, Err, refl, sym, ap, subst, ◌∙◌, arith, append_assoc, length-append}
+use Rattle.std.proofs.Common.{◌≡◌, ℕ, suc, ◌+◌, ◌-◌, ◌<◌, ◌≤◌, List, [], ◌∷◌, ◌++◌, length, take, Ok, Err, refl, sym, ap, subst, ◌∙◌, arith, append_assoc, length-append}
 use Rattle.std.proofs.Math.Seq.{take-append-add}
 use Rattle.csub_lex.specs.declared.token.Token.{Token}
 use Rattle.csub_tree.specs.Units.{Source}
-use Rattle.csub_expr.proofs.Taken.{ok_value}
+use Rattle.csub_expr.proofs.Answered.{ok_value}
 use Rattle.csub_expr.proofs.Local.{head}
 use Rattle.csub_parse.specs.Syntax.{Within, NoneBegins, NoneSpells}
 use Rattle.csub_parse.specs.UnitDescent.{read_unit}

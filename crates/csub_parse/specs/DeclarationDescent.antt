@@ -1,5 +1,5 @@
 -- The descent of declarations as a function on lists of tokens; d is the depth that is left for what stands inside.
-use Rattle.std.specs.Prelude.{ℕ, zero, suc, List, [], ◌∷◌, length, Option, Some, None, Result, Ok, Err, Bool, true, false, ◌&&◌, not, nat_le, if◌then◌else◌}
+use Rattle.std.specs.Prelude.{ℕ, suc, List, [], ◌∷◌, length, Option, Some, None, Ok, Err, Bool, true, false, ◌&&◌, not, nat_le, if◌then◌else◌}
 use Rattle.csub_text.specs.declared.span.Span.{Span}
 use Rattle.csub_lex.specs.declared.token.Key.TheVariants as keys
 use Rattle.csub_lex.specs.declared.token.Mark.TheVariants as marks

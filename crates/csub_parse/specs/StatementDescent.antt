@@ -1,5 +1,5 @@
 -- The descent of statements as a function on lists of tokens; d is the depth that is left for what stands inside.
-use Rattle.std.specs.Prelude.{ℕ, zero, suc, List, [], ◌∷◌, length, Option, Some, None, Result, Ok, Err, Bool, true, false, nat_le, if◌then◌else◌}
+use Rattle.std.specs.Prelude.{ℕ, zero, suc, List, length, Option, Some, None, Ok, Err, nat_le, if◌then◌else◌}
 use Rattle.csub_text.specs.declared.span.Span.{Span}
 use Rattle.csub_lex.specs.declared.token.Key.{Key}
 use Rattle.csub_lex.specs.declared.token.Key.TheVariants as keys
@@ -8,7 +8,6 @@ use Rattle.csub_lex.specs.declared.token.Mark.TheVariants as marks
 use Rattle.csub_lex.specs.declared.token.Token.{Token}
 use Rattle.csub_tree.specs.declared.name.Name.{Name}
 use Rattle.csub_tree.specs.Expressions.{Expr, Node, Named, span_of}
-use Rattle.csub_tree.specs.Declarations.{Declare}
 use Rattle.csub_tree.specs.Statements.{Stmt, StmtKind, Perhaps, Line, Declared, Eval, Empty, Block, If, While, Do, For, Switch, Case, Default, Break, Continue, Goto, Label, Return, NoStmt, OneStmt, stmts_of}
 use Rattle.csub_tree.specs.SpellsExpressions.{assignment, conditional}
 use Rattle.csub_parse.specs.declared.opening.Opening.{Opening}

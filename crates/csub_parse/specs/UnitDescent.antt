@@ -1,12 +1,12 @@
 -- The descent of units as a function on lists of tokens; d is the depth that is left for what stands inside.
-use Rattle.std.specs.Prelude.{ℕ, zero, suc, List, [], ◌∷◌, length, Option, Some, None, Result, Ok, Err, nat_le, ◌&&◌, if◌then◌else◌}
+use Rattle.std.specs.Prelude.{ℕ, zero, suc, List, ◌∷◌, length, Option, Some, None, Ok, Err, nat_le, ◌&&◌, if◌then◌else◌}
 use Rattle.csub_lex.specs.declared.token.Key.TheVariants as keys
 use Rattle.csub_lex.specs.declared.token.Mark.TheVariants as marks
 use Rattle.csub_lex.specs.declared.token.Token.{Token}
 use Rattle.csub_tree.specs.declared.name.Name.{Name}
 use Rattle.csub_tree.specs.declared.name.TypeName.{TypeName}
 use Rattle.csub_tree.specs.declared.name.TypeName.TheVariants as types
-use Rattle.csub_tree.specs.Declarations.{Declare, Head, Param}
+use Rattle.csub_tree.specs.Declarations.{Declare, Head}
 use Rattle.csub_tree.specs.Statements.{stmts_of}
 use Rattle.csub_tree.specs.Units.{Constant, Item, Struct, Enum, Object, Prototype, Function, Source}
 use Rattle.csub_tree.specs.SpellsExpressions.{conditional}

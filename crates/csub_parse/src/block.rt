@@ -10,7 +10,7 @@ ghost use Rattle.csub_expr.specs.Answers.{Gives};
 ghost use Rattle.csub_expr.specs.ListDescent.{repeated};
 ghost use Rattle.csub_parse.specs.StatementDescent.{bare_name, read_stmt, read_line, switch_line_by, first_at, block_at, if_at, while_at, do_at, for_at, switch_at, plain_at, inner};
 
-use crate::declaration::begins_base;
+use crate::base::begins_base;
 use crate::node::{
     block_node, do_node, else_node, for_node, if_node, label_node, switch_node, while_node,
 };

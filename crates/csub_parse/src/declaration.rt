@@ -1,88 +1,23 @@
 //! The descent of declarations (C11 6.7). `budget` is the depth that is left for what stands inside.
-ghost use Rattle.std.specs.Prelude.{◌≡◌, ℕ, ◌≤◌, ◌&&◌, nat_le, suc, List, [], ◌∷◌, length, map, Option, Some, None, Ok, Err, IfOk, IfErr};
-ghost use Rattle.csub_lex.specs.declared.token.Mark.TheVariants.{OpenBracket, Equal};
+ghost use Rattle.std.specs.Prelude.{◌≡◌, ◌≤◌, ◌&&◌, nat_le, suc, [], ◌∷◌, length, map, IfOk, IfErr};
+ghost use Rattle.csub_lex.specs.declared.token.Mark.TheVariants.{Equal};
 ghost use Rattle.csub_tree.specs.Expressions.{expr_tree};
-ghost use Rattle.csub_tree.specs.Declarations.{declarator_tree, declare_tree, param_tree};
+ghost use Rattle.csub_tree.specs.Declarations.{declarator_tree, declare_tree};
 ghost use Rattle.csub_expr.specs.Looks.{begins};
 ghost use Rattle.csub_expr.specs.Answers.{Gives};
 ghost use Rattle.csub_expr.specs.declared.stop.Stop.TheVariants.{Memory};
 ghost use Rattle.csub_expr.specs.ListDescent.{separated, repeated, never};
-ghost use Rattle.csub_parse.specs.Openings.{begins_name, begins_base};
-ghost use Rattle.csub_parse.specs.DeclarationDescent.{unsigned_at, numeric_at, base_at, following, length_at, no_length, slot_after, value_after, var_after, slot_at, var_at, declare_end, decl_after, decl_behind, decl_from, decl_at, field_behind, field_at, length_or_none, array_after, param_behind, param_at, params_at};
-ghost use Rattle.std.specs.Option.{option_map};
+ghost use Rattle.csub_parse.specs.DeclarationDescent.{following, length_at, no_length, slot_after, value_after, var_after, slot_at, var_at, declare_end, decl_after, decl_behind, decl_at, field_at};
 
+use crate::base::base;
 use csub_expr::expression::conditional;
 use csub_expr::initialiser::init;
-use csub_expr::look::{begins, begins_key, begins_number, expect, expect_name, head_span, skip};
+use csub_expr::look::{begins, expect, expect_name, head_span, skip};
 use csub_expr::stop::Stop;
-use csub_lex::{Key, Mark, Token, TokenKind};
+use csub_lex::{Mark, Token};
 use csub_text::Span;
-use csub_tree::{Declarator, Declare, Expr, Name, Param, TypeName};
+use csub_tree::{Declarator, Declare, Expr, Name, TypeName};
 use std::alloc::Global;
-
-/// Whether the first token is a name.
-#[tactic(auto, unfolding(crate::specs::Openings::begins_name))]
-pub fn begins_name(tokens: &[Token]) -> bool
-    ensures { result ≡ begins_name tokens.now }
-{
-    match tokens {
-        [] => false,
-        [token, ..] => match token.kind {
-            TokenKind::Name(_) => true,
-            _ => false,
-        },
-    }
-}
-
-/// Whether a declaration begins (C11 6.7.2).
-#[tactic(auto, unfolding(crate::specs::Openings::begins_base))]
-pub fn begins_base(tokens: &[Token]) -> bool
-    ensures { result ≡ begins_base tokens.now }
-{
-    begins_key(tokens, Key::Struct) || begins_number(tokens)
-}
-
-// Behind `unsigned`, which ended at `end`.
-#[tactic(auto, unfolding(crate::specs::DeclarationDescent::unsigned_at))]
-fn unsigned(tokens: &[Token], end: u32) -> Result<(TypeName, u32, &[Token]), Stop>
-    ensures { Gives (λ x. ((x.0, x.1), x.2.now)) result (unsigned_at end tokens.now) }
-{
-    if begins_key(tokens, Key::Int) {
-        return Ok((TypeName::Unsigned, head_span(tokens).end, skip(tokens)));
-    }
-    Ok((TypeName::Unsigned, end, tokens))
-}
-
-/// A number type, where it ends, and the tokens behind it.
-#[tactic(auto, unfolding(crate::specs::DeclarationDescent::numeric_at))]
-pub fn numeric(tokens: &[Token]) -> Result<(TypeName, u32, &[Token]), Stop>
-    ensures { Gives (λ x. ((x.0, x.1), x.2.now)) result (numeric_at tokens.now) }
-{
-    let end = head_span(tokens).end;
-    if begins_key(tokens, Key::Char) {
-        return Ok((TypeName::Char, end, skip(tokens)));
-    }
-    if begins_key(tokens, Key::Int) {
-        return Ok((TypeName::Int, end, skip(tokens)));
-    }
-    if begins_key(tokens, Key::Unsigned) {
-        return unsigned(skip(tokens), end);
-    }
-    Err(Stop::At(tokens.len()))
-}
-
-/// The type that a declaration begins with, where it ends, and the tokens behind it.
-#[tactic(auto, unfolding(crate::specs::DeclarationDescent::base_at, crate::specs::DeclarationDescent::tag_at))]
-fn base(tokens: &[Token]) -> Result<(TypeName, u32, &[Token]), Stop>
-    ensures { Gives (λ x. ((x.0, x.1), x.2.now)) result (base_at tokens.now) }
-{
-    if begins_key(tokens, Key::Struct) {
-        let (name, rest) = expect_name(skip(tokens))?;
-        let end = name.span.end;
-        return Ok((TypeName::Struct(name), end, rest));
-    }
-    numeric(tokens)
-}
 
 #[tactic(auto, unfolding(crate::specs::DeclarationDescent::length_at))]
 fn length(alloc: Global, tokens: &[Token], budget: u32) -> Result<(Expr, &[Token]), Stop>
@@ -307,111 +242,4 @@ pub fn field(alloc: Global, tokens: &[Token], budget: u32) -> Result<(Declare, &
     let (base, _, rest) = base(tokens)?;
     let (all, rest) = slots(alloc, rest, budget)?;
     declare_end(base, start, all, rest, budget)
-}
-
-#[tactic(auto, unfolding(crate::specs::DeclarationDescent::length_or_none))]
-fn length_or_none(
-    alloc: Global,
-    tokens: &[Token],
-    budget: u32,
-) -> Result<(Option<Expr>, &[Token]), Stop>
-    requires { budget ≤ 256 }
-    ensures { Gives (λ x. (option_map expr_tree x.0, x.1.now)) result (length_or_none budget tokens.now) }
-{
-    if begins(tokens, Mark::CloseBracket) {
-        return Ok((None, tokens));
-    }
-    let (e, _, rest) = conditional(alloc, tokens, budget)?;
-    Ok((Some(e), rest))
-}
-
-// The brackets of a parameter that so far runs from `start` to `end`.
-#[tactic(auto, unfolding(crate::specs::DeclarationDescent::array_after))]
-fn array_after(
-    alloc: Global,
-    base: TypeName,
-    name: Option<Name>,
-    start: u32,
-    end: u32,
-    tokens: &[Token],
-    budget: u32,
-) -> Result<(Param, &[Token]), Stop>
-    requires { budget ≤ 256 }
-    ensures { Gives (λ x. (param_tree x.0, x.1.now)) result (array_after budget base name start end tokens.now) }
-{
-    if begins(tokens, Mark::OpenBracket) {
-        let (length, rest) = length_or_none(alloc, skip(tokens), budget)?;
-        let (close, rest) = expect(rest, Mark::CloseBracket)?;
-        let span = Span {
-            start,
-            end: close.end,
-        };
-        let array = true;
-        return Ok((
-            Param {
-                base,
-                name,
-                array,
-                length,
-                span,
-            },
-            rest,
-        ));
-    }
-    Ok((
-        Param {
-            base,
-            name,
-            array: false,
-            length: None,
-            span: Span { start, end },
-        },
-        tokens,
-    ))
-}
-
-#[tactic(auto, unfolding(crate::specs::DeclarationDescent::param_at, crate::specs::DeclarationDescent::param_from, crate::specs::DeclarationDescent::param_behind))]
-fn param(alloc: Global, tokens: &[Token], budget: u32) -> Result<(Param, &[Token]), Stop>
-    requires { budget ≤ 256 }
-    ensures { Gives (λ x. (param_tree x.0, x.1.now)) result (param_at budget tokens.now) }
-{
-    let start = head_span(tokens).start;
-    let (base, end, rest) = base(tokens)?;
-    if begins_name(rest) {
-        let (name, rest) = expect_name(rest)?;
-        let end = name.span.end;
-        return array_after(alloc, base, Some(name), start, end, rest, budget);
-    }
-    array_after(alloc, base, None, start, end, rest, budget)
-}
-
-fn some_params(alloc: Global, tokens: &[Token], budget: u32) -> Result<(Vec<Param>, &[Token]), Stop>
-    requires { budget ≤ 256 }
-    ensures { Gives (λ x. (map param_tree x.0.items, x.1.now)) result (separated (param_at budget) never (suc (length tokens.now)) tokens.now) }
-{
-    let mut all = Vec::new(alloc);
-    let mut rest = tokens;
-    'each: loop {
-        let (one, after) = param(alloc, rest, budget)?;
-        all.push(one)?;
-        if !begins(after, Mark::Comma) {
-            return Ok((all, after));
-        }
-        rest = skip(after);
-    }
-}
-
-/// The parameters of a function (C11 6.7.6.3) before the closing parenthesis, and the tokens behind them.
-#[tactic(auto, unfolding(crate::specs::DeclarationDescent::params_at))]
-pub fn params(alloc: Global, tokens: &[Token], budget: u32) -> Result<(Vec<Param>, &[Token]), Stop>
-    requires { budget ≤ 256 }
-    ensures { Gives (λ x. (map param_tree x.0.items, x.1.now)) result (params_at budget tokens.now) }
-{
-    if begins(tokens, Mark::CloseParen) {
-        return Ok((Vec::new(alloc), tokens));
-    }
-    if begins_key(tokens, Key::Void) {
-        return Ok((Vec::new(alloc), skip(tokens)));
-    }
-    some_params(alloc, tokens, budget)
 }

@@ -5,12 +5,14 @@
 //! tokens taken and the one after them.
 #![tactic(auto)]
 
+pub mod base;
 pub mod block;
 pub mod declaration;
 pub mod error;
 pub mod item;
 pub mod node;
 pub mod opening;
+pub mod parameter;
 pub mod statement;
 pub mod unit;
 

@@ -2,6 +2,7 @@
 mod expressions;
 mod items;
 mod nesting;
+mod programs;
 mod statements;
 
 use crate::{ParseError, parse};
@@ -107,30 +108,6 @@ fn the_least_place_where_no_unit_goes_on(rt: HostRuntime) -> Result<(), Fail> {
         &[
             ("int main(void) { return 0 }", "syntax 8"),
             ("int main(void) { return", "syntax 7"),
-        ],
-    )
-}
-
-#[test]
-fn whole_programs(rt: HostRuntime) -> Result<(), Fail> {
-    agrees(
-        &rt,
-        rt.alloc(),
-        "",
-        "",
-        &[
-            (
-                "int main(void) { switch (getchar()) { case 65: putchar(97); break; default: putchar(63); } return 0; }",
-                "6 function switch return",
-            ),
-            (
-                "int f(int n) { return f(n + 1); } int main(void) { return f(0); }",
-                "6 function return function return",
-            ),
-            (
-                "int f(int n) { int pad[1000]; return f(n + 1); } int main(void) { return f(0); }",
-                "6 function declare return function return",
-            ),
         ],
     )
 }

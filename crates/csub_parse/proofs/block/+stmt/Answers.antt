@@ -1,4 +1,4 @@
-use Rattle.std.proofs.Common.{arith, refl, Ok, sym, ap, ◌∙◌, ◌≡◌, ◌<◌, ◌-◌, length, map, true, false}
+use Rattle.std.proofs.Common.{arith, Ok, sym, ◌∙◌, ◌≡◌, ◌-◌, map}
 use Rattle.std.proofs.lemmas.Result.{err_from_is_err_and}
 use Rattle.std.proofs.lemmas.List.{map_push}
 use Rattle.csub_lex.specs.declared.token.Mark.TheVariants.{CloseBrace}

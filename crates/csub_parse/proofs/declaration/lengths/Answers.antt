@@ -1,10 +1,9 @@
-use Rattle.std.proofs.Common.{arith, refl, sym, ap, ◌∙◌, ◌≡◌, ◌<◌, ◌-◌, length, map, true, false}
+use Rattle.std.proofs.Common.{arith, sym, ◌∙◌, ◌-◌, map}
 use Rattle.std.proofs.lemmas.Result.{err_from_is_err_and}
 use Rattle.std.proofs.lemmas.List.{map_push}
 use Rattle.csub_parse.specs.DeclarationDescent.{length_at, no_length}
 use Rattle.csub_tree.specs.Expressions.{expr_tree}
 use Rattle.csub_parse.proofs.DeclarationSound.{length_shorter}
-use Rattle.csub_parse.proofs.Given.{laws}
 use Rattle.csub_parse.proofs.Loops.{each_fails, each_goes, each_ends}
 use Rattle.csub_parse.proofs.declaration.lengths.Goals as goal
 

@@ -3,7 +3,6 @@ use Rattle.csub_expr.specs.ListDescent.{repeated}
 use Rattle.csub_expr.proofs.Series.{with_front}
 use Rattle.csub_parse.specs.DeclarationDescent.{length_at, no_length}
 use Rattle.csub_tree.specs.Expressions.{expr_tree}
-use Rattle.csub_parse.proofs.DeclarationSound.{length_shorter}
 use Rattle.csub_parse.proofs.declaration.lengths.Given as goal
 
 abbrev pub invariant-each : goal.invariant-each

@@ -1,6 +1,6 @@
 use Rattle.std.proofs.Common.{◌≡◌, ℕ, ◌<◌, suc, length, map}
 use Rattle.csub_expr.specs.Looks.{begins}
-use Rattle.csub_expr.specs.ListDescent.{separated, never}
+use Rattle.csub_expr.specs.ListDescent.{separated}
 use Rattle.csub_expr.proofs.Series.{with_front}
 use Rattle.csub_parse.specs.UnitDescent.{constant_at}
 use Rattle.csub_tree.specs.Units.{constant_tree}

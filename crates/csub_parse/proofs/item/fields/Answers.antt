@@ -1,13 +1,11 @@
-use Rattle.std.proofs.Common.{arith, refl, sym, ap, ◌∙◌, ◌≡◌, ◌<◌, ◌-◌, suc, length, map, true, false}
+use Rattle.std.proofs.Common.{arith, sym, ◌∙◌, ◌-◌, suc, length, map}
 use Rattle.std.proofs.lemmas.Result.{err_from_is_err_and}
 use Rattle.std.proofs.lemmas.List.{map_push}
 use Rattle.csub_lex.specs.declared.token.Mark.TheVariants.{CloseBrace}
 use Rattle.csub_expr.specs.Looks.{begins}
 use Rattle.csub_parse.specs.DeclarationDescent.{field_at}
-use Rattle.csub_parse.specs.UnitDescent.{fields_after}
 use Rattle.csub_tree.specs.Declarations.{declare_tree}
 use Rattle.csub_parse.proofs.DeclarationSound.{field_shorter}
-use Rattle.csub_parse.proofs.Given.{laws}
 use Rattle.csub_parse.proofs.Loops.{fields_begin, each_fails, each_goes, each_ends}
 use Rattle.csub_parse.proofs.item.fields.Goals as goal
 

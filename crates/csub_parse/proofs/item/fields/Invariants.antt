@@ -1,4 +1,4 @@
-use Rattle.std.proofs.Common.{◌≡◌, ℕ, ◌<◌, suc, length, map}
+use Rattle.std.proofs.Common.{◌≡◌, ℕ, ◌<◌, length, map}
 use Rattle.csub_expr.specs.ListDescent.{repeated}
 use Rattle.csub_expr.proofs.Series.{with_front}
 use Rattle.csub_lex.specs.declared.token.Mark.TheVariants.{CloseBrace}
@@ -6,7 +6,6 @@ use Rattle.csub_expr.specs.Looks.{begins}
 use Rattle.csub_parse.specs.DeclarationDescent.{field_at}
 use Rattle.csub_parse.specs.UnitDescent.{fields_after}
 use Rattle.csub_tree.specs.Declarations.{declare_tree}
-use Rattle.csub_parse.proofs.DeclarationSound.{field_shorter}
 use Rattle.csub_parse.proofs.item.fields.Given as goal
 
 abbrev pub invariant-each : goal.invariant-each

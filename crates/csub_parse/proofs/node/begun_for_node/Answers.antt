@@ -1,8 +1,4 @@
-use Rattle.std.proofs.Common.{rules, ap, ◌∙◌}
-use Rattle.std.specs.Option.{option_map}
-use Rattle.csub_tree.specs.Expressions.{expr_tree}
-use Rattle.csub_tree.specs.Statements.{Stmt, stmt_tree, For, NoStmt, OneStmt}
-use Rattle.csub_parse.specs.StatementDescent.{line}
+use Rattle.std.proofs.Common.{rules}
 use Rattle.csub_tree.specs.declared.statement.StmtKind.{the_lemmas}
 use Rattle.csub_parse.proofs.StatementViews.{view_for_begun}
 use Rattle.csub_parse.proofs.node.begun_for_node.Goals as goal

@@ -1,4 +1,4 @@
-use Rattle.std.proofs.Common.{◌≡◌, ◌-◌, length, Err, arith, sym}
+use Rattle.std.proofs.Common.{◌≡◌, Err, arith, sym}
 use Rattle.csub_tree.specs.Units.{unit_tree}
 use Rattle.csub_parse.specs.UnitDescent.{read_unit}
 use Rattle.csub_parse.proofs.Given.{laws}

@@ -3,7 +3,7 @@ use Rattle.csub_expr.specs.ListDescent.{separated, never}
 use Rattle.csub_expr.proofs.Series.{with_front}
 use Rattle.csub_parse.specs.DeclarationDescent.{param_at}
 use Rattle.csub_tree.specs.Declarations.{param_tree}
-use Rattle.csub_parse.proofs.declaration.some_params.Given as goal
+use Rattle.csub_parse.proofs.parameter.some_params.Given as goal
 
 abbrev pub invariant-each : goal.invariant-each
 invariant-each l = (f : ℕ) × (length l.rest < f) × (separated (param_at l.budget) never (suc (length l.tokens)) l.tokens ≡ with_front (map param_tree l.all.items) (separated (param_at l.budget) never f l.rest))

@@ -1,14 +1,14 @@
-use Rattle.std.proofs.Common.{arith, refl, sym, ap, ◌∙◌, ◌≡◌, ◌<◌, ◌-◌, length, map, true, false}
+use Rattle.std.proofs.Common.{arith, refl, sym, ap, ◌∙◌, ◌≡◌, ◌<◌, ◌-◌, length, map}
 use Rattle.std.proofs.lemmas.Result.{err_from_is_err_and}
 use Rattle.std.proofs.lemmas.List.{map_push}
-use Rattle.csub_expr.specs.Looks.{rest, begins}
+use Rattle.csub_expr.specs.Looks.{rest}
 use Rattle.csub_expr.specs.ListDescent.{never}
 use Rattle.csub_expr.proofs.Series.{rest_shorter}
-use Rattle.csub_expr.proofs.Unrolled.{front_fails, front_goes, front_ends, front_trailing}
+use Rattle.csub_expr.proofs.Unrolled.{front_fails, front_goes, front_ends}
 use Rattle.csub_parse.specs.DeclarationDescent.{param_at}
 use Rattle.csub_tree.specs.Declarations.{param_tree}
 use Rattle.csub_parse.proofs.DeclarationSound.{param_shorter}
-use Rattle.csub_parse.proofs.declaration.some_params.Goals as goal
+use Rattle.csub_parse.proofs.parameter.some_params.Goals as goal
 
 pub returns-in_err-one : goal.returns-in_err-one
 returns-in_err-one c =

@@ -1,5 +1,0 @@
-#include <stdio.h>
-int main(void)
-{
-    return 0; /* ends */
-}
