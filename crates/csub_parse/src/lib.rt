@@ -2,7 +2,7 @@
 //!
 //! The descent as a function on lists of tokens stands in `specs/`, and three laws in `proofs/` tie it to the grammar:
 //! what is read is spelled so and is no deeper than allowed, what is spelled so is read, and an answer depends on the
-//! tokens taken and the one after them.
+//! tokens taken and the one after them. The tests of [`parse`] stand with those of the whole reader, in `reader_bench`.
 #![tactic(auto)]
 
 pub mod base;
@@ -18,6 +18,3 @@ pub mod unit;
 
 pub use error::ParseError;
 pub use unit::parse;
-
-#[cfg(test)]
-mod tests;

@@ -1,5 +1,6 @@
 //! Counts what the reader finds in a source, for measuring how long it takes: `tokens FILE` cuts the file into tokens,
-//! `unit FILE` reads the unit that they spell as well.
+//! `unit FILE` reads the unit that they spell as well. Its tests are those of the reader as a whole: sources, and the
+//! unit or the refusal that each has to give.
 #![tactic(auto)]
 
 use csub_lex::lex;
@@ -53,3 +54,6 @@ fn main(rt: HostRuntime) -> io::Result<()> {
     }
     Ok(())
 }
+
+#[cfg(test)]
+mod tests;

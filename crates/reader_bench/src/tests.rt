@@ -5,8 +5,8 @@ mod nesting;
 mod programs;
 mod statements;
 
-use crate::{ParseError, parse};
 use csub_lex::{Token, lex};
+use csub_parse::{ParseError, parse};
 use csub_tree::{Item, Stmt, StmtKind, Unit, depth};
 use std::alloc::{AllocError, Global};
 use std::process::Abort;
