@@ -1,7 +1,10 @@
 pub mod StmtRows
+pub mod ValidArgs
 pub mod ValidCounts
 pub mod ValidLists
+pub mod ValidObjects
 pub mod ValidParts
+pub mod ValidResults
 pub mod ValidPrograms
 pub mod ValidStmts
 pub mod ValidStart

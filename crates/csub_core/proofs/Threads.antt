@@ -12,10 +12,10 @@ use Rattle.csub_core.specs.contracts.label.Label as Label
 use Rattle.csub_core.specs.contracts.program.Program as Program
 
 pub RExpr-send : IsSend RExpr.the_field.row
-RExpr-send = search (expr.crosses, crosses, sendable) depth 60
+RExpr-send = search (expr.crosses, crosses, sendable) depth 60 fits 5000
 
 pub RExpr-sync : IsSync RExpr.the_field.row
-RExpr-sync = search (expr.crosses, crosses, sendable) depth 60
+RExpr-sync = search (expr.crosses, crosses, sendable) depth 60 fits 5000
 
 pub CallLabel-send : IsSend CallLabel.the_field.row
 CallLabel-send = search (RExpr-send, crosses, sendable) depth 60

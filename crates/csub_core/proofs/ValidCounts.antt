@@ -10,11 +10,11 @@ use Rattle.std.specs.declared.alloc.Global.{Global}
 use Rattle.csub_core.specs.declared.function.Function.{Function}
 use Rattle.csub_core.specs.declared.function.RStmt.{RStmt, Block}
 use Rattle.csub_core.specs.Types.{Name}
-use Rattle.csub_core.specs.Labels.{LabelTree, enters, exits, evaluates, branches, returns, calls}
-use Rattle.csub_core.specs.Syntax.{PartTree, StmtTree, StmtTrees, ElseTree, parts, block, conditional, no_stmt, more_stmts, no_else, else_stmt, FunctionTree, function_tree, stmt_tree, stmts_of}
+use Rattle.csub_core.specs.Labels.{LabelTree, enters, exits, evaluates, initialises, branches, returns, calls}
+use Rattle.csub_core.specs.Syntax.{PartTree, StmtTree, StmtTrees, ElseTree, parts, block, conditional, while_loop, do_loop, for_loop, breaks, continues, no_stmt, more_stmts, no_else, else_stmt, FunctionTree, function_tree, stmt_tree, stmts_of}
 use Rattle.csub_core.proofs.StmtRows.{stmt_tree-Block}
 use Rattle.csub_core.specs.Points.{PointTree, exit, at}
-use Rattle.csub_core.specs.Successors.{Way, Node, Around, own_ways, last_ways, part_nodes, parts_nodes, nodes, nodes_list, nodes_else, leaving, test_ways, enter, enter_list, enter_else, enter_parts}
+use Rattle.csub_core.specs.Successors.{Way, Node, Around, own_ways, last_ways, part_nodes, parts_nodes, nodes, nodes_list, nodes_else, leaving, looping, test_ways, enter, enter_part, enter_list, enter_else, enter_parts}
 use Rattle.csub_core.specs.Flows.{function_nodes, to_exit, end_rule, placed, edges_from, point_list, edge_list}
 use Rattle.csub_core.specs.Checks.{count, count_list, count_else, count_test, count_function}
 
@@ -59,6 +59,7 @@ module _ {X : Type 0} where
   length-own_ways enters past returned = refl
   length-own_ways (exits rule) past returned = refl
   length-own_ways (evaluates e) past returned = refl
+  length-own_ways (initialises owner t init) past returned = refl
   length-own_ways (branches e) past returned = refl
   length-own_ways (returns answer) past returned = refl
   length-own_ways (calls c) past returned = refl
@@ -102,6 +103,26 @@ module _ {X : Type 0} where
         let then' = counts_of_stmt t (λ q. name (0 ∷ q)) around in
         let else' = counts_of_else e (λ q. name (1 ∷ q)) around in
         HasCounts-append _ _ _ _ _ _ here (HasCounts-append _ _ _ _ _ _ then' else')
+    counts_of_stmt (while_loop p s) name around =
+        let inside = looping (enter_part p 0 name around.leave) around in
+        let here = counts_of_test p (λ k. name [] 0 k) (enter s (λ q. name (0 ∷ q)) inside) around.leave in
+        HasCounts-append _ _ _ _ _ _ here (counts_of_stmt s (λ q. name (0 ∷ q)) inside)
+    counts_of_stmt (do_loop s p) name around =
+        let inside = looping (enter_part p 0 name around.leave) around in
+        let here = counts_of_test p (λ k. name [] 0 k) (enter s (λ q. name (0 ∷ q)) inside) around.leave in
+        HasCounts-append _ _ _ _ _ _ (counts_of_stmt s (λ q. name (0 ∷ q)) inside) here
+    counts_of_stmt (for_loop first p third s) name around =
+        let m = length first in
+        let test = enter_part p m name around.leave in
+        let inside = looping (enter_parts third (m + 1) name test) around in
+        let begin = counts_of_parts first 0 name (leaving test around) in
+        let here = counts_of_test p (λ k. name [] m k) (enter s (λ q. name (0 ∷ q)) inside) around.leave in
+        let step = counts_of_parts third (m + 1) name (leaving test around) in
+        let body = counts_of_stmt s (λ q. name (0 ∷ q)) inside in
+        let all = HasCounts-append _ _ _ _ _ _ begin (HasCounts-append _ _ _ _ _ _ here (HasCounts-append _ _ _ _ _ _ step body)) in
+        record { points = omega (arith, all.points); ways = omega (arith, all.ways) }
+    counts_of_stmt breaks name around = record { points = refl; ways = refl }
+    counts_of_stmt continues name around = record { points = refl; ways = refl }
 
     pub counts_of_list : (stmts : StmtTrees) (i : ℕ) (name : List ℕ → ℕ → ℕ → X) (around : Around X) → HasCounts (nodes_list stmts i name around) (count_list 0 stmts) (count_list 1 stmts)
     counts_of_list no_stmt i name around = record { points = refl; ways = refl }

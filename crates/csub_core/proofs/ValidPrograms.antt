@@ -1,19 +1,10 @@
 -- Validity of a program, by what is looked at in turn.
-use Rattle.std.proofs.Common.{◌≡◌, ◌≢◌, ◌↔◌, ◌∙◌, ℕ, ◌<◌, List, map, length, get_or, All, AllPairs, ap, refl, sym}
-use Rattle.std.specs.List.{AllWithin}
-use Rattle.std.proofs.lemmas.List.Elements.{at_read}
+use Rattle.std.proofs.Common.{◌≢◌, ◌↔◌, List, map, All, AllPairs}
 use Rattle.csub_core.specs.declared.function.Function.{Function}
-use Rattle.csub_core.specs.Types.{Name}
 use Rattle.csub_core.specs.Syntax.{ProgramTree, function_tree}
 use Rattle.csub_core.specs.Valid.{IsValid}
 use Rattle.csub_core.specs.Checks.{IsFramed, AreNamed, HasEnds, IsFunction}
 use Rattle.csub_core.proofs.ValidLists.{All-of_map, AllPairs-of_map}
-
--- where all names differ, none before a function is its own
-pub new_from_pairs : (fs : List Function) (i : ℕ) (x : Function) (name : Name) → i < length fs → x ≡ get_or fs i x → name ≡ (get_or fs i x).name → AllPairs (λ (f g : Function). f.name ≢ g.name) fs → AllWithin (λ (f : Function). f.name ≢ name) fs 0 i
-new_from_pairs fs i x name inside is named pairs k d low below same =
-    let here : get_or fs i x ≡ get_or fs i d = sym is ∙ at_read fs (λ y. x ≡ y) i x inside is refl d in
-    pairs k i d below inside (same ∙ (named ∙ ap (λ (f : Function). f.name) here))
 
 pub AreNamed-split : (fs : List Function) → AreNamed (map function_tree fs) ↔ (HasEnds (map function_tree fs) × AllPairs (λ (f g : Function). f.name ≢ g.name) fs)
 AreNamed-split fs =
@@ -23,7 +14,7 @@ AreNamed-split fs =
 valid_parts : (P : ProgramTree) → IsValid P → IsFramed P × All (IsFunction P) P
 valid_parts P h = (
   ((h.functions, h.points, h.edges), ((h.start, h.main), h.distinct)),
-  λ k d below. ((h.plain k d below, h.frames k d below), h.bodies k d below),
+  λ k d below. (((h.frames k d below, h.parameters k d below), h.objects k d below), h.bodies k d below),
 )
 
 valid_from_parts : (P : ProgramTree) → IsFramed P → All (IsFunction P) P → IsValid P
@@ -32,11 +23,12 @@ valid_from_parts P framed each = record {
   main = framed.1.0.1;
   distinct = framed.1.1;
   bodies = λ k d below. (each k d below).1;
-  plain = λ k d below. (each k d below).0.0;
+  objects = λ k d below. (each k d below).0.1;
   functions = framed.0.0;
   points = framed.0.1;
   edges = framed.0.2;
-  frames = λ k d below. (each k d below).0.1;
+  frames = λ k d below. (each k d below).0.0.0;
+  parameters = λ k d below. (each k d below).0.0.1;
 }
 
 pub IsValid-split : (fs : List Function) → IsValid (map function_tree fs) ↔ (IsFramed (map function_tree fs) × All (λ f. IsFunction (map function_tree fs) (function_tree f)) fs)

@@ -1,27 +1,50 @@
 -- Which statements are valid, by the statements and parts of their vectors.
-use Rattle.std.proofs.Common.{◌↔◌, List, [], ◌∷◌, map, All, sym, subst}
+use Rattle.std.proofs.Common.{◌≡◌, ◌↔◌, List, [], ◌∷◌, ◌++◌, ◌||◌, map, All, Option, Some, None, Bool, true, false, refl, sym, subst}
 use Rattle.std.proofs.lemmas.List.Elements.{All-nil, All-cons, All-head, All-tail}
 use Rattle.std.specs.declared.vec.Vec.{Vec}
 use Rattle.std.specs.declared.alloc.Global.{Global}
+use Rattle.csub_text.specs.declared.span.Span.{Span}
+use Rattle.csub_core.specs.declared.function.RCall.{RCall}
 use Rattle.csub_core.specs.declared.function.RPart.{RPart}
+use Rattle.csub_core.specs.Labels.{LabelTree}
 use Rattle.csub_core.specs.declared.function.RStmt.{RStmt, Parts, Block}
-use Rattle.csub_core.specs.declared.valid.role.Role.TheVariants.{Whole}
-use Rattle.csub_core.specs.Syntax.{part_tree, stmt_tree, stmts_of, FunctionTree, ProgramTree}
-use Rattle.csub_core.specs.Valid.{IsPart, IsStmt, AreStmts}
+use Rattle.csub_core.specs.declared.valid.role.Role.TheVariants.{Whole, Effect}
+use Rattle.csub_core.specs.declared.valid.role.Targets.{Targets}
+use Rattle.csub_core.specs.Syntax.{call_stage, own_stage, part_tree, stmt_tree, stmts_of, FunctionTree, ProgramTree}
+use Rattle.csub_core.specs.Valid.{is_declared, declares, IsPart, IsStmt, AreStmts}
+use Rattle.csub_core.specs.Checks.{declared_own}
 use Rattle.csub_core.proofs.StmtRows.{stmt_tree-Block}
 use Rattle.csub_core.proofs.ValidLists.{All-of_map}
 
-module _ (P : ProgramTree) (f : FunctionTree) where
-  pub AreStmts-All : (ss : List RStmt) → AreStmts P f (stmts_of (map stmt_tree ss)) ↔ All (λ s. IsStmt P f (stmt_tree s)) ss
-  AreStmts-All [] = (λ h. All-nil (λ s. IsStmt P f (stmt_tree s)), λ h. tt)
+module _ (P : ProgramTree) (f : FunctionTree) (to : Targets) where
+  pub AreStmts-All : (ss : List RStmt) → AreStmts P f to (stmts_of (map stmt_tree ss)) ↔ All (λ s. IsStmt P f to (stmt_tree s)) ss
+  AreStmts-All [] = (λ h. All-nil (λ s. IsStmt P f to (stmt_tree s)), λ h. tt)
   AreStmts-All (s ∷ ss) =
       let rest = AreStmts-All ss in (
-        λ h. All-cons (λ t. IsStmt P f (stmt_tree t)) s ss h.0 (rest.0 h.1),
-        λ h. (All-head (λ t. IsStmt P f (stmt_tree t)) s ss h, rest.1 (All-tail (λ t. IsStmt P f (stmt_tree t)) s ss h)),
+        λ h. All-cons (λ t. IsStmt P f to (stmt_tree t)) s ss h.0 (rest.0 h.1),
+        λ h. (All-head (λ t. IsStmt P f to (stmt_tree t)) s ss h, rest.1 (All-tail (λ t. IsStmt P f to (stmt_tree t)) s ss h)),
       )
 
-  pub IsStmt-Block : (stmts : Vec RStmt Global) → IsStmt P f (stmt_tree (Block stmts)) ↔ All (λ s. IsStmt P f (stmt_tree s)) stmts.items
-  IsStmt-Block stmts = subst (λ t. IsStmt P f t ↔ All (λ s. IsStmt P f (stmt_tree s)) stmts.items) (sym (stmt_tree-Block stmts)) (AreStmts-All stmts.items)
+  pub IsStmt-Block : (stmts : Vec RStmt Global) → IsStmt P f to (stmt_tree (Block stmts)) ↔ All (λ s. IsStmt P f to (stmt_tree s)) stmts.items
+  IsStmt-Block stmts = subst (λ t. IsStmt P f to t ↔ All (λ s. IsStmt P f to (stmt_tree s)) stmts.items) (sym (stmt_tree-Block stmts)) (AreStmts-All stmts.items)
 
-  pub IsStmt-Parts : (row : Vec RPart Global) → IsStmt P f (stmt_tree (Parts row)) ↔ All (λ p. IsPart P f Whole 1 (part_tree p)) row.items
-  IsStmt-Parts row = All-of_map (IsPart P f Whole 1) part_tree row.items
+  pub IsStmt-Parts : (row : Vec RPart Global) → IsStmt P f to (stmt_tree (Parts row)) ↔ All (λ p. IsPart P f Whole (part_tree p)) row.items
+  IsStmt-Parts row = All-of_map (IsPart P f Whole) part_tree row.items
+
+-- the parts of a list, evaluated for their effects
+pub effects_of_map : (P : ProgramTree) (f : FunctionTree) (ps : List RPart) → All (λ p. IsPart P f Effect p) (map part_tree ps) ↔ All (λ p. IsPart P f Effect (part_tree p)) ps
+effects_of_map P f ps = All-of_map (IsPart P f Effect) part_tree ps
+
+-- none of the parts of a list declares anything
+pub undeclared_of_map : (ps : List RPart) → All (λ p. declares p ≡ false) (map part_tree ps) ↔ All (λ p. declares (part_tree p) ≡ false) ps
+undeclared_of_map ps = All-of_map (λ p. declares p ≡ false) part_tree ps
+
+-- a part declares what its own point declares
+pub declares_own : (cs : List RCall) (span : Span) (own : Option LabelTree) → declared_own own ≡ declares (map call_stage cs ++ own_stage span own)
+declares_own [] span None = refl
+declares_own [] span (Some label) = or_none (is_declared label)
+  where
+    or_none : (b : Bool) → b ≡ (b || false)
+    or_none true = refl
+    or_none false = refl
+declares_own (c ∷ cs) span own = declares_own cs span own

@@ -9,9 +9,9 @@ use Rattle.csub_core.specs.declared.label.EndRule.{EndRule}
 use Rattle.csub_core.specs.declared.label.EndRule.TheVariants.{Nothing, Value, Main, Start}
 use Rattle.csub_core.specs.declared.status.Status.{Status}
 use Rattle.csub_core.specs.declared.status.Status.TheVariants.{Exit, Trap}
-use Rattle.csub_core.specs.Types.{Name, number_kind, MemberTree}
-use Rattle.csub_core.specs.Trees.{NamedArg, value_argument, reading, variable, temporary}
-use Rattle.csub_core.specs.Labels.{LabelTree, enters, exits, evaluates, branches, returns, calls, AnswerTree, CallTree}
+use Rattle.csub_core.specs.Types.{Name, TypeTree, number_kind, MemberTree}
+use Rattle.csub_core.specs.Trees.{NamedArg, value_argument, reading, assignment, variable, object, temporary, OwnerTree}
+use Rattle.csub_core.specs.Labels.{LabelTree, enters, exits, evaluates, initialises, branches, returns, calls, AnswerTree, CallTree, InitTree, one_value}
 use Rattle.csub_core.specs.Points.{ExitTree, next, on_true, on_false}
 use Rattle.csub_core.specs.Memory.{State, Answer, value, trapped, then_do, low_byte}
 use Rattle.csub_core.specs.Evaluation.{eval}
@@ -79,10 +79,16 @@ abbrev pub act_return : Option AnswerTree → ℕ → Option ℤ → Store → O
 act_return None n r s = leaves next r s
 act_return (Some a) n r s = after_value (eval (named (n - 1)) a.value s) (λ v t. leaves next (Some (convert a.kind v)) t)
 
+-- an initialiser: a number is initialised as by an assignment (C11 6.7.9p11)
+abbrev pub act_init : OwnerTree → TypeTree → InitTree → ℕ → Option ℤ → Store → Outcome
+act_init owner t (one_value e) n r s =
+    after_value (eval (named (n - 1)) (assignment (variable (object owner t)) e) s) (λ v u. leaves next r u)
+
 abbrev pub act : LabelTree → ℕ → Option ℤ → Store → Outcome
 act enters n r s = leaves next r s
 act (exits rule) n r s = act_exit rule n r s
 act (evaluates e) n r s = after_value (eval (named (n - 1)) e s) (λ v t. leaves next r t)
+act (initialises owner t init) n r s = act_init owner t init n r s
 act (branches e) n r s =
     after_value (eval (named (n - 1)) e s) (λ v t. leaves (if int_eq v (pos 0) then on_false else on_true) r t)
 act (returns answer) n r s = act_return answer n r s

@@ -32,9 +32,10 @@ result_rule (Some kind) = Value
 abbrev pub end_rule : Name → Option IntKind → EndRule
 end_rule name result = if name_eq name start_name then Start else if name_eq name main_name then Main else result_rule result
 
--- past the end of a body, and at a return, control goes to the function's exit
+-- past the end of a body, and at a return, control goes to the function's exit; no `break` and no `continue` stands
+-- outside a loop
 abbrev pub to_exit : Around PointTree
-to_exit = record { leave = exit; returned = exit }
+to_exit = record { leave = exit; returned = exit; broken = exit; continued = exit }
 
 -- the points of a function: its entry, those of its body in the order of the text, and its exit
 abbrev pub function_nodes : FunctionTree → List (Node PointTree)

@@ -2,13 +2,15 @@
 use Rattle.std.specs.Prelude.{ℕ, ℤ, List, map, Option}
 use Rattle.std.specs.Option.{option_map}
 use Rattle.csub_types.specs.declared.kind.IntKind.{IntKind}
-use Rattle.csub_core.specs.Types.{Name, MemberTree, member_tree}
-use Rattle.csub_core.specs.Trees.{NamedExpr, NamedArg, expr_tree, arg_tree}
+use Rattle.csub_core.specs.Types.{Name, TypeTree, type_tree, MemberTree, member_tree}
+use Rattle.csub_core.specs.Trees.{OwnerTree, NamedExpr, NamedArg, owner_tree, expr_tree, arg_tree}
 use Rattle.csub_core.specs.declared.label.EndRule.{EndRule}
 use Rattle.csub_core.specs.declared.label.Answer.{Answer}
 use Rattle.csub_core.specs.declared.label.CallLabel.{CallLabel}
+use Rattle.csub_core.specs.declared.label.RInit.{RInit}
+use Rattle.csub_core.specs.declared.label.RInit.TheVariants.{One}
 use Rattle.csub_core.specs.declared.label.Label.{Label}
-use Rattle.csub_core.specs.declared.label.Label.TheVariants.{Entry, Exit, Eval, Branch, Return, Call}
+use Rattle.csub_core.specs.declared.label.Label.TheVariants.{Entry, Exit, Eval, Init, Branch, Return, Call}
 
 -- a returned value with the function's result type, to which it is converted (C11 6.8.6.4)
 pub record AnswerTree : Type 0 where
@@ -23,11 +25,16 @@ pub record CallTree : Type 0 where
   pub args : List NamedArg
   pub temp : Option ℕ
 
+-- what an object is initialised with: the initial value of a number
+pub data InitTree : Type 0 where
+  one_value : NamedExpr → InitTree
+
 -- the resolved tree at a point, without spans and parentheses
 pub data LabelTree : Type 0 where
   enters : LabelTree
   exits : EndRule → LabelTree
   evaluates : NamedExpr → LabelTree
+  initialises : OwnerTree → TypeTree → InitTree → LabelTree
   branches : NamedExpr → LabelTree
   returns : Option AnswerTree → LabelTree
   calls : CallTree → LabelTree
@@ -54,10 +61,14 @@ call_tree c = record {
   temp = c.temp;
 }
 
+abbrev pub init_tree : RInit → InitTree
+init_tree (One e) = one_value (expr_tree e)
+
 abbrev pub label_tree : Label → LabelTree
 label_tree Entry = enters
 label_tree (Exit rule) = exits rule
 label_tree (Eval e) = evaluates (expr_tree e)
+label_tree (Init owner ctype init) = initialises (owner_tree owner) (type_tree ctype) (init_tree init)
 label_tree (Branch e) = branches (expr_tree e)
 label_tree (Return answer) = returns (option_map answer_tree answer)
 label_tree (Call call) = calls (call_tree call)

@@ -5,7 +5,7 @@ use Rattle.std.specs.Ordering.{int_eq}
 use Rattle.csub_core.specs.declared.status.Status.{Status}
 use Rattle.csub_core.specs.declared.status.Status.TheVariants.{Turns}
 use Rattle.csub_core.specs.Types.{Name}
-use Rattle.csub_core.specs.Labels.{LabelTree, enters, exits, evaluates, branches, returns, calls, PointLabel}
+use Rattle.csub_core.specs.Labels.{LabelTree, enters, exits, evaluates, initialises, branches, returns, calls, PointLabel}
 use Rattle.csub_core.specs.Points.{PointTree, entry, ExitTree, next, on_case, on_default}
 use Rattle.csub_core.specs.Flows.{Flow, Edge, start_name}
 use Rattle.csub_core.specs.Cells.{Cells, Inner, Root, global_root, local_root, temp_root, Content, number, written}
@@ -54,6 +54,7 @@ come_back_to f below r s (calls c) to = cross f below next f.result (put_result 
 come_back_to f below r s enters to = lost
 come_back_to f below r s (exits rule) to = lost
 come_back_to f below r s (evaluates e) to = lost
+come_back_to f below r s (initialises owner t init) to = lost
 come_back_to f below r s (branches e) to = lost
 come_back_to f below r s (returns answer) to = lost
 

@@ -1,10 +1,10 @@
 -- The points of statements and where they lead, by places in the syntax. All is generic in the type X of points: a
 -- function `name` names the points inside a statement by path, part and stage.
-use Rattle.std.specs.Prelude.{ℕ, ◌+◌, List, [], ◌∷◌, ◌++◌}
+use Rattle.std.specs.Prelude.{ℕ, ◌+◌, List, [], ◌∷◌, ◌++◌, length}
 use Rattle.csub_text.specs.declared.span.Span.{Span}
 use Rattle.csub_core.specs.Labels.{LabelTree, returns}
 use Rattle.csub_core.specs.Points.{ExitTree, next, on_true, on_false}
-use Rattle.csub_core.specs.Syntax.{PartTree, StmtTree, StmtTrees, ElseTree, parts, block, conditional, no_stmt, more_stmts, no_else, else_stmt}
+use Rattle.csub_core.specs.Syntax.{PartTree, StmtTree, StmtTrees, ElseTree, parts, block, conditional, while_loop, do_loop, for_loop, breaks, continues, no_stmt, more_stmts, no_else, else_stmt}
 
 -- a way out with the point to which it leads
 pub record Way (X : Type 0) : Type 0 where
@@ -18,10 +18,13 @@ pub record Node (X : Type 0) : Type 0 where
   pub span : Span
   pub ways : List (Way X)
 
--- where control goes from a statement: past its end, and to the end of its function at a return
+-- where control goes from a statement: past its end, to the end of its function at a return, and in a loop past the
+-- loop at a `break` and to the end of its body at a `continue` (C11 6.8.6)
 pub record Around (X : Type 0) : Type 0 where
   pub leave : X
   pub returned : X
+  pub broken : X
+  pub continued : X
 
 module _ {X : Type 0} where
   abbrev pub way : ExitTree → X → Way X
@@ -30,6 +33,10 @@ module _ {X : Type 0} where
   -- what stands round a statement whose end leads elsewhere
   abbrev pub leaving : X → Around X → Around X
   leaving to around = record around { leave = to }
+
+  -- what stands round the body of a loop: its end, and a `continue`, lead to what comes next in the loop
+  abbrev pub looping : X → Around X → Around X
+  looping onward around = record { leave = onward; returned = around.returned; broken = around.leave; continued = onward }
 
   -- where a part begins: at its first stage, or past it where it has none
   abbrev pub enter_part : PartTree → ℕ → (List ℕ → ℕ → ℕ → X) → X → X
@@ -48,6 +55,11 @@ module _ {X : Type 0} where
     enter (parts ps) name around = enter_parts ps 0 name around.leave
     enter (block stmts) name around = enter_list stmts 0 name around
     enter (conditional p t e) name around = enter_part p 0 name around.leave
+    enter (while_loop p s) name around = enter_part p 0 name around.leave
+    enter (do_loop s p) name around = enter s (λ q. name (0 ∷ q)) (looping (enter_part p 0 name around.leave) around)
+    enter (for_loop first p third s) name around = enter_parts first 0 name (enter_part p (length first) name around.leave)
+    enter breaks name around = around.broken
+    enter continues name around = around.continued
 
     -- the end of a line leads to the next line of its list, and the end of the list to what the list's end leads to
     pub enter_list : StmtTrees → ℕ → (List ℕ → ℕ → ℕ → X) → Around X → X
@@ -96,6 +108,24 @@ module _ {X : Type 0} where
     nodes (conditional p t e) name around =
         part_nodes p 0 (λ k. name [] 0 k) (test_ways (enter t (λ q. name (0 ∷ q)) around) (enter_else e (λ q. name (1 ∷ q)) around))
         ++ (nodes t (λ q. name (0 ∷ q)) around ++ nodes_else e (λ q. name (1 ∷ q)) around)
+    nodes (while_loop p s) name around =
+        let inside = looping (enter_part p 0 name around.leave) around in
+        part_nodes p 0 (λ k. name [] 0 k) (test_ways (enter s (λ q. name (0 ∷ q)) inside) around.leave)
+        ++ nodes s (λ q. name (0 ∷ q)) inside
+    nodes (do_loop s p) name around =
+        let inside = looping (enter_part p 0 name around.leave) around in
+        nodes s (λ q. name (0 ∷ q)) inside
+        ++ part_nodes p 0 (λ k. name [] 0 k) (test_ways (enter s (λ q. name (0 ∷ q)) inside) around.leave)
+    -- the parts of a `for` are numbered in the order of the text; behind its body comes its third part, and then its test
+    nodes (for_loop first p third s) name around =
+        let m = length first in
+        let test = enter_part p m name around.leave in
+        let inside = looping (enter_parts third (m + 1) name test) around in
+        parts_nodes first 0 name (leaving test around)
+        ++ (part_nodes p 0 (λ k. name [] m k) (test_ways (enter s (λ q. name (0 ∷ q)) inside) around.leave)
+        ++ (parts_nodes third (m + 1) name (leaving test around) ++ nodes s (λ q. name (0 ∷ q)) inside))
+    nodes breaks name around = []
+    nodes continues name around = []
 
     pub nodes_list : StmtTrees → ℕ → (List ℕ → ℕ → ℕ → X) → Around X → List (Node X)
     nodes_list no_stmt i name around = []

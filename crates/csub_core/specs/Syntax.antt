@@ -7,7 +7,7 @@ use Rattle.csub_core.specs.Types.{Name, TypeTree, type_tree, MemberTree, member_
 use Rattle.csub_core.specs.Labels.{LabelTree, calls, label_tree, call_tree}
 use Rattle.csub_core.specs.declared.function.RCall.{RCall}
 use Rattle.csub_core.specs.declared.function.RPart.{RPart}
-use Rattle.csub_core.specs.declared.function.RStmt.{RStmt, Parts, Block', If', Row_of-RStmt, end_of-RStmt, more_of-RStmt, Held-RStmt-If-2, None', Some'}
+use Rattle.csub_core.specs.declared.function.RStmt.{RStmt, Parts, Block', If', While', Do', For', Break, Continue, Row_of-RStmt, end_of-RStmt, more_of-RStmt, Held-RStmt-If-2, None', Some'}
 use Rattle.csub_core.specs.declared.function.LocalVar.{LocalVar}
 use Rattle.csub_core.specs.declared.function.Function.{Function}
 
@@ -26,6 +26,11 @@ mutual
     parts : List PartTree → StmtTree
     block : StmtTrees → StmtTree
     conditional : PartTree → StmtTree → ElseTree → StmtTree
+    while_loop : PartTree → StmtTree → StmtTree
+    do_loop : StmtTree → PartTree → StmtTree
+    for_loop : List PartTree → PartTree → List PartTree → StmtTree → StmtTree
+    breaks : StmtTree
+    continues : StmtTree
 
   pub data StmtTrees : Type 0 where
     no_stmt : StmtTrees
@@ -69,6 +74,11 @@ abbrev mutual
   stmt_tree (Parts row) = parts (map part_tree row.items)
   stmt_tree (Block' shape row) = block (row_trees row)
   stmt_tree (If' part p t e) = conditional (part_tree part) (stmt_tree t) (else_tree e)
+  stmt_tree (While' part p s) = while_loop (part_tree part) (stmt_tree s)
+  stmt_tree (Do' p s part) = do_loop (stmt_tree s) (part_tree part)
+  stmt_tree (For' first part third p s) = for_loop (map part_tree first.items) (part_tree part) (map part_tree third.items) (stmt_tree s)
+  stmt_tree Break = breaks
+  stmt_tree Continue = continues
 
   pub else_tree : Held-RStmt-If-2 → ElseTree
   else_tree None' = no_else

@@ -1,27 +1,21 @@
 -- Valid programs: what a program keeps at every moment.
-use Rattle.std.specs.Prelude.{ℕ, ◌+◌, ◌≤◌, ◌≡◌, ◌≢◌, List, [], ◌∷◌, length, All, AllPairs, Option, Some, None, IfSome}
+use Rattle.std.specs.Prelude.{ℕ, ◌+◌, ◌≤◌, ◌≡◌, ◌≢◌, ◌<◌, ◌++◌, Bool, true, false, IsTrue, List, [], ◌∷◌, map, length, slice_get, find, nat_eq, ◌&&◌, All, AllPairs, Option, Some, None, IfSome}
+use Rattle.std.specs.List.{list_any}
+use Rattle.std.specs.Option.{option_map, option_and_then}
 use Rattle.csub_text.specs.declared.operator.BinOp.{BinOp}
-use Rattle.csub_text.specs.declared.operator.BinOp.TheVariants.{Shl, Shr, Lt, Gt, Le, Ge, Eq, Ne}
+use Rattle.csub_text.specs.declared.operator.BinOp.TheVariants.{Shl, Shr}
 use Rattle.csub_types.specs.declared.kind.IntKind.{IntKind}
 use Rattle.csub_types.specs.declared.kind.IntKind.TheVariants.{Int}
 use Rattle.csub_types.specs.Kinds.{IsOf, promote, common}
-use Rattle.csub_core.specs.Types.{number_kind}
-use Rattle.csub_core.specs.Trees.{NamedPlace, NamedExpr, Variable, variable, object, temporary, constant, reading, operation, input_byte, output_byte}
-use Rattle.csub_core.specs.Labels.{LabelTree, evaluates, branches, returns, calls, AnswerTree, CallTree}
-use Rattle.csub_core.specs.Syntax.{PartTree, StmtTree, StmtTrees, ElseTree, parts, block, conditional, no_stmt, more_stmts, no_else, else_stmt, FunctionTree, ProgramTree}
+use Rattle.csub_types.specs.Arithmetic.{unary_kind, binary_kind}
+use Rattle.csub_core.specs.Types.{Name, TypeTree, number_kind, MemberTree}
+use Rattle.csub_core.specs.Trees.{NamedPlace, NamedExpr, Variable, NamedArg, value_argument, OwnerTree, global_owner, local_owner, variable, object, temporary, constant, reading, unary_operation, conversion, stepping, operation, conjunction, disjunction, choice, assignment, update, input_byte, output_byte}
+use Rattle.csub_core.specs.Labels.{LabelTree, evaluates, initialises, branches, returns, calls, AnswerTree, CallTree, InitTree, one_value}
+use Rattle.csub_core.specs.Syntax.{PartTree, StmtTree, StmtTrees, ElseTree, parts, block, conditional, while_loop, do_loop, for_loop, breaks, continues, no_stmt, more_stmts, no_else, else_stmt, Stage, LocalTree, FunctionTree, ProgramTree}
 use Rattle.csub_core.specs.declared.valid.role.Role.{Role}
-use Rattle.csub_core.specs.declared.valid.role.Role.TheVariants.{Whole, Test}
-use Rattle.csub_core.specs.Flows.{start_name, main_name, function_of, point_list, edge_list}
-
--- the kind of an operator's result: comparisons give an `int` (C11 6.5.8 and 6.5.9), all others the kind of the operation
-abbrev pub result_kind : BinOp → IntKind → IntKind
-result_kind Lt k = Int
-result_kind Gt k = Int
-result_kind Le k = Int
-result_kind Ge k = Int
-result_kind Eq k = Int
-result_kind Ne k = Int
-result_kind op k = k
+use Rattle.csub_core.specs.declared.valid.role.Role.TheVariants.{Whole, Test, Effect}
+use Rattle.csub_core.specs.declared.valid.role.Targets.{Targets}
+use Rattle.csub_core.specs.Flows.{name_eq, start_name, main_name, function_of, point_list, edge_list}
 
 -- the kind of an operation: a shift has the promoted kind of its left operand (C11 6.5.7), any other the common kind
 abbrev pub operation_kind : BinOp → IntKind → IntKind → IntKind
@@ -39,17 +33,93 @@ place_kind (variable v) = variable_kind v
 abbrev pub kind_of : NamedExpr → IntKind
 kind_of (constant k v) = k
 kind_of (reading p) = place_kind p
-kind_of (operation op k a b) = result_kind op k
+kind_of (unary_operation op k a) = unary_kind op k
+kind_of (conversion k a) = k
+kind_of (stepping op p) = place_kind p
+kind_of (operation op k a b) = binary_kind op k
+kind_of (conjunction a b) = Int
+kind_of (disjunction a b) = Int
+kind_of (choice k c a b) = k
+kind_of (assignment p e) = place_kind p
+kind_of (update p op k e) = place_kind p
 kind_of input_byte = Int
 kind_of (output_byte e) = Int
 
--- every constant is a number of its kind, and every operation has the kind that its operator and operands state
-abbrev pub IsExpr : NamedExpr → Type 0
-IsExpr (constant k v) = IsOf k v
-IsExpr (reading p) = ⊥
-IsExpr (operation op k a b) = (k ≡ operation_kind op (kind_of a) (kind_of b)) × IsExpr a × IsExpr b
-IsExpr input_byte = Unit {0}
-IsExpr (output_byte e) = IsExpr e
+-- the objects of a function: its parameters, each the first of its name, and its locals
+abbrev pub parameter_object : MemberTree → LocalTree
+parameter_object p = record { name = p.name; number = 1; ctype = p.ctype }
+
+abbrev pub objects_of : FunctionTree → List LocalTree
+objects_of f = map parameter_object f.params ++ f.locals
+
+-- what a stage of a part gives to later ones: the result of its call
+abbrev pub label_result : LabelTree → Option IntKind
+label_result (calls c) = c.result
+label_result label = None
+
+abbrev pub stage_result : Stage → Option IntKind
+stage_result s = label_result s.label
+
+-- what the expressions of a part may name: the objects of its function, and the results of its calls
+pub record Scope : Type 0 where
+  pub objects : List LocalTree
+  pub results : List (Option IntKind)
+
+abbrev pub scope_of : FunctionTree → PartTree → Scope
+scope_of f p = record { objects = objects_of f; results = map stage_result p }
+
+-- the declared type of the object with a name and a number among those of its name
+abbrev pub type_in : List LocalTree → Name → ℕ → Option TypeTree
+type_in objects a n = option_map (λ (o : LocalTree). o.ctype) (find (λ (o : LocalTree). name_eq o.name a && nat_eq o.number n) objects)
+
+-- an object stands with the type that it is declared with (programs have no globals yet)
+abbrev pub IsObject : List LocalTree → OwnerTree → TypeTree → Type 0
+IsObject objects (global_owner a) t = ⊥
+IsObject objects (local_owner a n) t = type_in objects a n ≡ Some t
+
+-- the result of the n-th call of a part, counted from 1
+abbrev pub result_of : List (Option IntKind) → ℕ → Option IntKind
+result_of results n = option_and_then (λ r. r) (slice_get (None ∷ results) n)
+
+-- a place that the k-th stage of a part may read: an object, or the result of an earlier call
+abbrev pub IsPlace : Scope → ℕ → NamedPlace → Type 0
+IsPlace sc k (variable (object owner t)) = IsObject sc.objects owner t
+IsPlace sc k (variable (temporary n kind)) = (n < k) × (result_of sc.results n ≡ Some kind)
+
+-- a place that may be written (a modifiable lvalue, C11 6.3.2.1)
+abbrev pub IsTarget : Scope → NamedPlace → Type 0
+IsTarget sc (variable (object owner t)) = IsObject sc.objects owner t
+IsTarget sc (variable (temporary n kind)) = ⊥
+
+-- an expression at the k-th stage of a part: every constant is a number of its kind, and every operation has the kind that its operator and operands state: a unary
+-- one the promoted kind of its operand (C11 6.5.3.3), `?:` the common kind of its later operands (6.5.15p5), and a
+-- compound assignment that of its operation (6.5.16.2p3)
+module _ (sc : Scope) (number : ℕ) where
+  abbrev pub IsExpr : NamedExpr → Type 0
+  IsExpr (constant k v) = IsOf k v
+  IsExpr (reading p) = IsPlace sc number p
+  IsExpr (unary_operation op k a) = (k ≡ promote (kind_of a)) × IsExpr a
+  IsExpr (conversion k a) = IsExpr a
+  IsExpr (stepping op p) = IsTarget sc p
+  IsExpr (operation op k a b) = (k ≡ operation_kind op (kind_of a) (kind_of b)) × IsExpr a × IsExpr b
+  IsExpr (conjunction a b) = IsExpr a × IsExpr b
+  IsExpr (disjunction a b) = IsExpr a × IsExpr b
+  IsExpr (choice k c a b) = (k ≡ common (kind_of a) (kind_of b)) × IsExpr c × IsExpr a × IsExpr b
+  IsExpr (assignment p e) = IsTarget sc p × IsExpr e
+  IsExpr (update p op k e) = (k ≡ operation_kind op (place_kind p) (kind_of e)) × IsTarget sc p × IsExpr e
+  IsExpr input_byte = Unit {0}
+  IsExpr (output_byte e) = IsExpr e
+
+  -- the arguments of a call fit its parameters: as many, each a number (C11 6.5.2.2p2)
+  abbrev pub AreArgs : List MemberTree → List NamedArg → Type 0
+  AreArgs [] [] = Unit {0}
+  AreArgs [] (a ∷ args) = ⊥
+  AreArgs (p ∷ params) [] = ⊥
+  AreArgs (p ∷ params) (value_argument e ∷ args) = IsExpr e × AreArgs params args
+
+  -- an initialiser of an object
+  abbrev pub IsInit : TypeTree → InitTree → Type 0
+  IsInit t (one_value e) = IsExpr e
 
 -- the k-th call of a part has the temporary k exactly where its callee has a result type
 abbrev pub temp_of : Option IntKind → ℕ → Option ℕ
@@ -61,54 +131,93 @@ abbrev pub IsDefinedAs : Option FunctionTree → CallTree → Type 0
 IsDefinedAs None c = ⊥
 IsDefinedAs (Some g) c = (g.params ≡ c.params) × (g.result ≡ c.result)
 
--- the k-th call of a part, in a function whose parts have at most so many temporaries (user calls take no argument yet)
-pub record IsCall (P : ProgramTree) (temps k : ℕ) (c : CallTree) : Type 0 where
+-- the k-th call of a part, in a function whose parts have at most so many temporaries
+pub record IsCall (P : ProgramTree) (sc : Scope) (temps k : ℕ) (c : CallTree) : Type 0 where
   pub defined : IsDefinedAs (function_of P c.callee) c
-  pub no_argument : c.args ≡ []
-  pub no_parameter : c.params ≡ []
+  pub args : AreArgs sc k c.params c.args
   pub temp : c.temp ≡ temp_of c.result k
   pub few : IfSome c.temp (λ t. t ≤ temps)
 
 -- a return has its function's result kind, and no value exactly where the function has no result type
-abbrev pub IsAnswer : Option IntKind → Option AnswerTree → Type 0
-IsAnswer None None = Unit {0}
-IsAnswer None (Some a) = ⊥
-IsAnswer (Some kind) None = ⊥
-IsAnswer (Some kind) (Some a) = (a.kind ≡ kind) × IsExpr a.value
+abbrev pub IsAnswer : Scope → ℕ → Option IntKind → Option AnswerTree → Type 0
+IsAnswer sc k None None = Unit {0}
+IsAnswer sc k None (Some a) = ⊥
+IsAnswer sc k (Some kind) None = ⊥
+IsAnswer sc k (Some kind) (Some a) = (a.kind ≡ kind) × IsExpr sc k a.value
+
+-- an initialised object is one of the function's locals (C11 6.7.9)
+abbrev pub IsInitialised : FunctionTree → Scope → ℕ → OwnerTree → TypeTree → InitTree → Type 0
+IsInitialised f sc k owner t init = IsObject f.locals owner t × IsInit sc k t init
 
 -- what may stand last in a part: its own point, or where the whole part is a user call, that call
-abbrev pub IsLast : ProgramTree → FunctionTree → Role → ℕ → LabelTree → Type 0
-IsLast P f Whole k (calls c) = IsCall P f.temps k c
-IsLast P f Whole k (evaluates e) = IsExpr e
-IsLast P f Whole k (returns answer) = IsAnswer f.result answer
-IsLast P f Test k (branches e) = IsExpr e
-IsLast P f role k label = ⊥
+abbrev pub IsLast : ProgramTree → FunctionTree → Scope → Role → ℕ → LabelTree → Type 0
+IsLast P f sc Whole k (calls c) = IsCall P sc f.temps k c
+IsLast P f sc Whole k (evaluates e) = IsExpr sc k e
+IsLast P f sc Whole k (initialises owner t init) = IsInitialised f sc k owner t init
+IsLast P f sc Whole k (returns answer) = IsAnswer sc k f.result answer
+IsLast P f sc Test k (branches e) = IsExpr sc k e
+IsLast P f sc Effect k (calls c) = IsCall P sc f.temps k c
+IsLast P f sc Effect k (evaluates e) = IsExpr sc k e
+IsLast P f sc Effect k (initialises owner t init) = IsInitialised f sc k owner t init
+IsLast P f sc role k label = ⊥
 
 -- what may stand before the last: a call
-abbrev pub IsEarlier : ProgramTree → FunctionTree → ℕ → LabelTree → Type 0
-IsEarlier P f k (calls c) = IsCall P f.temps k c
-IsEarlier P f k label = ⊥
+abbrev pub IsEarlier : ProgramTree → FunctionTree → Scope → ℕ → LabelTree → Type 0
+IsEarlier P f sc k (calls c) = IsCall P sc f.temps k c
+IsEarlier P f sc k label = ⊥
 
--- the stages of a part from the k-th on; every part has a call or an own point
-abbrev pub IsPart : ProgramTree → FunctionTree → Role → ℕ → PartTree → Type 0
-IsPart P f role k [] = ⊥
-IsPart P f role k (s ∷ []) = IsLast P f role k s.label
-IsPart P f role k (s ∷ t ∷ rest) = IsEarlier P f k s.label × IsPart P f role (k + 1) (t ∷ rest)
+-- the stages of a part from the k-th on
+abbrev pub AreStages : ProgramTree → FunctionTree → Scope → Role → ℕ → PartTree → Type 0
+AreStages P f sc role k [] = ⊥
+AreStages P f sc role k (s ∷ []) = IsLast P f sc role k s.label
+AreStages P f sc role k (s ∷ t ∷ rest) = IsEarlier P f sc k s.label × AreStages P f sc role (k + 1) (t ∷ rest)
 
--- a label stands only where there is a point of its kind
+-- every part has a call or an own point
+abbrev pub IsPart : ProgramTree → FunctionTree → Role → PartTree → Type 0
+IsPart P f role p = AreStages P f (scope_of f p) role 1 p
+
+-- whether a part is a declared object with its initialiser
+abbrev pub is_declared : LabelTree → Bool
+is_declared (initialises owner t init) = true
+is_declared label = false
+
+abbrev pub declares : PartTree → Bool
+declares p = list_any (λ s. is_declared s.label) p
+
+-- what stands before the body of a `for`: round a test, expressions that are evaluated for their effects; the first may be
+-- a declaration in their place (C11 6.8.5.3)
+pub record IsForHead (P : ProgramTree) (f : FunctionTree) (first : List PartTree) (test : PartTree) (third : List PartTree) : Type 0 where
+  pub begins : All (λ p. IsPart P f Effect p) first
+  pub tests : IsPart P f Test test
+  pub steps : All (λ p. IsPart P f Effect p) third
+  pub undeclared : All (λ p. declares p ≡ false) third
+
+-- a `break` and a `continue` stand in loops alone (C11 6.8.6.2p1 and 6.8.6.3p1)
+abbrev pub no_loop : Targets
+no_loop = record { of_break = false; of_continue = false }
+
+abbrev pub in_loop : Targets
+in_loop = record { of_break = true; of_continue = true }
+
+-- a label stands only where there is a point of its kind, and every test has its own point
 abbrev mutual
-  pub IsStmt : ProgramTree → FunctionTree → StmtTree → Type 0
-  IsStmt P f (parts ps) = All (λ p. IsPart P f Whole 1 p) ps
-  IsStmt P f (block stmts) = AreStmts P f stmts
-  IsStmt P f (conditional p t e) = IsPart P f Test 1 p × IsStmt P f t × IsElse P f e
+  pub IsStmt : ProgramTree → FunctionTree → Targets → StmtTree → Type 0
+  IsStmt P f to (parts ps) = All (λ p. IsPart P f Whole p) ps
+  IsStmt P f to (block stmts) = AreStmts P f to stmts
+  IsStmt P f to (conditional p t e) = IsPart P f Test p × IsStmt P f to t × IsElse P f to e
+  IsStmt P f to (while_loop p s) = IsPart P f Test p × IsStmt P f in_loop s
+  IsStmt P f to (do_loop s p) = IsStmt P f in_loop s × IsPart P f Test p
+  IsStmt P f to (for_loop first p third s) = IsForHead P f first p third × IsStmt P f in_loop s
+  IsStmt P f to breaks = IsTrue to.of_break
+  IsStmt P f to continues = IsTrue to.of_continue
 
-  pub AreStmts : ProgramTree → FunctionTree → StmtTrees → Type 0
-  AreStmts P f no_stmt = Unit {0}
-  AreStmts P f (more_stmts s rest) = IsStmt P f s × AreStmts P f rest
+  pub AreStmts : ProgramTree → FunctionTree → Targets → StmtTrees → Type 0
+  AreStmts P f to no_stmt = Unit {0}
+  AreStmts P f to (more_stmts s rest) = IsStmt P f to s × AreStmts P f to rest
 
-  pub IsElse : ProgramTree → FunctionTree → ElseTree → Type 0
-  IsElse P f no_else = Unit {0}
-  IsElse P f (else_stmt s) = IsStmt P f s
+  pub IsElse : ProgramTree → FunctionTree → Targets → ElseTree → Type 0
+  IsElse P f to no_else = Unit {0}
+  IsElse P f to (else_stmt s) = IsStmt P f to s
 
 -- `#start` has no parameters and no result, and calls `main` into the temporary 1
 abbrev pub start_call : LabelTree
@@ -139,7 +248,8 @@ abbrev pub IsMain : Option FunctionTree → Type 0
 IsMain None = ⊥
 IsMain (Some f) = (f.params ≡ []) × (f.result ≡ Some Int)
 
--- the limits of a program: definitions, points and edges (`#start` among them), and temporaries of one frame
+-- the limits of a program: definitions, points and edges (`#start` among them), parameters of a function, and the cells
+-- of a frame: one for each parameter, and those of the locals, which are numbers, and of the temporaries
 abbrev pub most_functions : ℕ
 most_functions = 500
 
@@ -149,16 +259,27 @@ most_points = 10000
 abbrev pub most_edges : ℕ
 most_edges = 10000
 
+abbrev pub most_parameters : ℕ
+most_parameters = 16
+
 abbrev pub most_cells : ℕ
 most_cells = 4096
+
+abbrev pub frame_cells : FunctionTree → ℕ
+frame_cells f = length f.params + length f.locals + f.temps
+
+-- two objects of a function differ in their names or in their numbers
+abbrev pub AreOther : LocalTree → LocalTree → Type 0
+AreOther a b = a.name ≡ b.name → a.number ≢ b.number
 
 pub record IsValid (P : ProgramTree) : Type 0 where
   pub start : BeginsWithStart P
   pub main : IsMain (function_of P main_name)
   pub distinct : AllPairs (λ f g. f.name ≢ g.name) P
-  pub bodies : All (λ f. AreStmts P f f.body) P
-  pub plain : All (λ f. (f.params ≡ []) × (f.locals ≡ [])) P
+  pub bodies : All (λ f. AreStmts P f no_loop f.body) P
+  pub objects : All (λ f. AllPairs AreOther (objects_of f)) P
   pub functions : length P ≤ most_functions + 1
   pub points : length (point_list P) ≤ most_points
   pub edges : length (edge_list P) ≤ most_edges
-  pub frames : All (λ f. f.temps ≤ most_cells) P
+  pub frames : All (λ f. frame_cells f ≤ most_cells) P
+  pub parameters : All (λ f. length f.params ≤ most_parameters) P

@@ -1,11 +1,11 @@
 //! Copies of labels.
 ghost use Rattle.std.specs.Prelude.{◌≡◌, IfOk, map};
 ghost use Rattle.csub_core.specs.Types.{member_tree, type_tree};
-ghost use Rattle.csub_core.specs.Trees.{expr_tree, arg_tree};
-ghost use Rattle.csub_core.specs.Labels.{answer_tree, call_tree, label_tree};
+ghost use Rattle.csub_core.specs.Trees.{owner_tree, place_tree, expr_tree, arg_tree};
+ghost use Rattle.csub_core.specs.Labels.{answer_tree, call_tree, init_tree, label_tree};
 
-use crate::expression::{RArg, RExpr};
-use crate::label::{Answer, CallLabel, Label};
+use crate::expression::{Owner, Place, RArg, RExpr};
+use crate::label::{Answer, CallLabel, Label, RInit};
 use crate::types::{CType, Member};
 use std::alloc::{AllocError, Global};
 
@@ -17,6 +17,10 @@ pub fn copy_label(alloc: Global, label: &Label) -> Result<Label, AllocError>
         Label::Entry => Ok(Label::Entry),
         Label::Exit(rule) => Ok(Label::Exit(*rule)),
         Label::Eval(expr) => Ok(Label::Eval(copy_expr(alloc, expr)?)),
+        Label::Init(owner, ctype, init) => {
+            let object = copy_owner(owner)?;
+            Ok(Label::Init(object, copy_type(ctype), copy_init(alloc, init)?))
+        }
         Label::Branch(expr) => Ok(Label::Branch(copy_expr(alloc, expr)?)),
         Label::Return(None) => Ok(Label::Return(None)),
         Label::Return(Some(answer)) => Ok(Label::Return(Some(copy_answer(alloc, answer)?))),
@@ -47,28 +51,79 @@ fn copy_answer(alloc: Global, answer: &Answer) -> Result<Answer, AllocError>
     })
 }
 
+fn copy_init(alloc: Global, init: &RInit) -> Result<RInit, AllocError>
+    ensures { IfOk result (λ made. init_tree made ≡ init_tree init.now) }
+{
+    let RInit::One(value) = init;
+    Ok(RInit::One(copy_expr(alloc, value)?))
+}
+
+fn copy_owner(owner: &Owner) -> Result<Owner, AllocError>
+    ensures { IfOk result (λ made. owner_tree made ≡ owner_tree owner.now) }
+{
+    match owner {
+        Owner::Global(name) => Ok(Owner::Global(name.copy()?)),
+        Owner::Local(name, number) => Ok(Owner::Local(name.copy()?, *number)),
+    }
+}
+
+fn copy_place(place: &Place) -> Result<Place, AllocError>
+    ensures { IfOk result (λ made. place_tree made ≡ place_tree place.now) }
+{
+    let Place::Var(owner, ctype) = place;
+    Ok(Place::Var(copy_owner(owner)?, copy_type(ctype)))
+}
+
 /// An equal expression. An `Err` is want of memory.
+#[cycle(copying)]
 pub fn copy_expr(alloc: Global, expr: &RExpr) -> Result<RExpr, AllocError>
     ensures { IfOk result (λ made. expr_tree made ≡ expr_tree expr.now) }
 {
     match expr {
         RExpr::Const(kind, value) => Ok(RExpr::Const(*kind, *value)),
         RExpr::Getchar => Ok(RExpr::Getchar),
-        RExpr::Putchar(byte) => {
-            let made = copy_expr(alloc, byte)?;
-            Ok(RExpr::Putchar(Box::new(alloc, made)?))
+        RExpr::Putchar(byte) => Ok(RExpr::Putchar(copy_boxed(alloc, byte)?)),
+        RExpr::Read(place) => Ok(RExpr::Read(copy_place(place)?)),
+        RExpr::Temp(number, kind) => Ok(RExpr::Temp(*number, *kind)),
+        RExpr::Step(op, place) => Ok(RExpr::Step(*op, copy_place(place)?)),
+        RExpr::Assign(place, value) => {
+            let target = copy_place(place)?;
+            Ok(RExpr::Assign(target, copy_boxed(alloc, value)?))
         }
+        RExpr::Update(place, op, kind, value) => {
+            let target = copy_place(place)?;
+            Ok(RExpr::Update(target, *op, *kind, copy_boxed(alloc, value)?))
+        }
+        RExpr::Unary(op, kind, operand) => {
+            Ok(RExpr::Unary(*op, *kind, copy_boxed(alloc, operand)?))
+        }
+        RExpr::Cast(kind, operand) => Ok(RExpr::Cast(*kind, copy_boxed(alloc, operand)?)),
         RExpr::Binary(op, kind, left, right) => {
-            let new_left = copy_expr(alloc, left)?;
-            let new_right = copy_expr(alloc, right)?;
-            Ok(RExpr::Binary(
-                *op,
-                *kind,
-                Box::new(alloc, new_left)?,
-                Box::new(alloc, new_right)?,
-            ))
+            let new_left = copy_boxed(alloc, left)?;
+            Ok(RExpr::Binary(*op, *kind, new_left, copy_boxed(alloc, right)?))
+        }
+        RExpr::And(left, right) => {
+            let new_left = copy_boxed(alloc, left)?;
+            Ok(RExpr::And(new_left, copy_boxed(alloc, right)?))
+        }
+        RExpr::Or(left, right) => {
+            let new_left = copy_boxed(alloc, left)?;
+            Ok(RExpr::Or(new_left, copy_boxed(alloc, right)?))
+        }
+        RExpr::Choose(kind, test, left, right) => {
+            let new_test = copy_boxed(alloc, test)?;
+            let new_left = copy_boxed(alloc, left)?;
+            Ok(RExpr::Choose(*kind, new_test, new_left, copy_boxed(alloc, right)?))
         }
     }
+}
+
+#[cycle(copying)]
+fn copy_boxed(alloc: Global, expr: &RExpr) -> Result<Box<RExpr>, AllocError>
+    ensures { IfOk result (λ made. expr_tree made.value ≡ expr_tree expr.now) }
+{
+    let made = copy_expr(alloc, expr)?;
+    Ok(Box::new(alloc, made)?)
 }
 
 fn copy_args(alloc: Global, args: &[RArg]) -> Result<Vec<RArg>, AllocError>

@@ -1,5 +1,6 @@
 //! Resolved expressions: each operand has its converted kind.
-use csub_text::{BinOp, Text};
+use crate::types::CType;
+use csub_text::{BinOp, StepOp, Text, UnaryOp};
 use csub_types::IntKind;
 
 /// Whose object a name is.
@@ -9,6 +10,13 @@ pub enum Owner {
     Global(Text),
     /// The k-th object of a name in its function, parameters counted first, from 1.
     Local(Text, u32),
+}
+
+/// A place that holds a number (an lvalue, C11 6.3.2.1).
+#[derive(Drop)]
+pub enum Place {
+    /// An object, with its declared type.
+    Var(Owner, CType),
 }
 
 /// A piece of a `printf` format (C11 7.21.6.1).
@@ -29,12 +37,32 @@ pub enum Piece {
 pub enum RExpr {
     /// A constant: its kind, and a value of that kind.
     Const(IntKind, i64),
+    /// The number in a place.
+    Read(Place),
+    /// The result of an earlier call of the part, by the call's number, from 1.
+    Temp(u32, IntKind),
+    /// A unary operation in the promoted kind of its operand (C11 6.5.3.3).
+    Unary(UnaryOp, IntKind, Box<RExpr>),
+    /// A cast (C11 6.5.4).
+    Cast(IntKind, Box<RExpr>),
+    /// `++` and `--` (C11 6.5.2.4 and 6.5.3.1).
+    Step(StepOp, Place),
+    /// A binary operation in the kind to which its operands are converted.
+    Binary(BinOp, IntKind, Box<RExpr>, Box<RExpr>),
+    /// `a && b`, an `int`: the right operand is evaluated only where the left one isn't 0 (C11 6.5.13).
+    And(Box<RExpr>, Box<RExpr>),
+    /// `a || b`, an `int`: the right operand is evaluated only where the left one is 0 (C11 6.5.14).
+    Or(Box<RExpr>, Box<RExpr>),
+    /// `a ? b : c`, in the common kind of b and c, of which one alone is evaluated (C11 6.5.15).
+    Choose(IntKind, Box<RExpr>, Box<RExpr>, Box<RExpr>),
+    /// `place = e`, whose value is the number that is stored (C11 6.5.16.1).
+    Assign(Place, Box<RExpr>),
+    /// A compound assignment such as `place += e`, with the kind of its operation (C11 6.5.16.2).
+    Update(Place, BinOp, IntKind, Box<RExpr>),
     /// `getchar()`, an `int`.
     Getchar,
     /// `putchar(e)`, an `int`.
     Putchar(Box<RExpr>),
-    /// A binary operation in the kind to which its operands are converted.
-    Binary(BinOp, IntKind, Box<RExpr>, Box<RExpr>),
 }
 
 /// An argument of a user call.

@@ -33,6 +33,17 @@ pub enum RStmt {
     Block(Vec<RStmt>),
     /// An `if`: the test, the statement for a true test, and the one behind `else`.
     If(RPart, Box<RStmt>, Option<Box<RStmt>>),
+    /// A `while`: the test and the body (C11 6.8.5.1).
+    While(RPart, Box<RStmt>),
+    /// A `do`: the body and the test (C11 6.8.5.2).
+    Do(Box<RStmt>, RPart),
+    /// A `for` (C11 6.8.5.3): the parts of its first expression or declaration, the test, the parts of its third
+    /// expression, and the body.
+    For(Vec<RPart>, RPart, Vec<RPart>, Box<RStmt>),
+    /// A `break`.
+    Break,
+    /// A `continue`.
+    Continue,
 }
 
 /// A local object that is no parameter.

@@ -1,6 +1,6 @@
 //! What is done at a point, and how control leaves it.
-use crate::expression::{RArg, RExpr};
-use crate::types::Member;
+use crate::expression::{Owner, RArg, RExpr};
+use crate::types::{CType, Member};
 use csub_text::Text;
 use csub_types::IntKind;
 
@@ -41,6 +41,13 @@ pub struct CallLabel {
     pub temp: Option<u32>,
 }
 
+/// What an object is initialised with (C11 6.7.9).
+#[derive(Drop)]
+pub enum RInit {
+    /// The initial value of a number, which is converted to the declared type.
+    One(RExpr),
+}
+
 /// What is done at a point.
 #[derive(Drop)]
 pub enum Label {
@@ -50,6 +57,8 @@ pub enum Label {
     Exit(EndRule),
     /// An expression is evaluated for its effects.
     Eval(RExpr),
+    /// An object with its declared type gets its initial contents.
+    Init(Owner, CType, RInit),
     /// A test of an `if` or a loop.
     Branch(RExpr),
     /// A `return`, with or without a value.

@@ -2,16 +2,17 @@
 //!
 //! Each rule of `specs/Valid` has a function of its own here, and what a rule joins is joined by `&&`. The limits are
 //! looked at first, so that the rest is done for programs of bounded size alone.
-ghost use Rattle.std.specs.Prelude.{◌≡◌, ◌≢◌, ◌↔◌, ◌≤◌, [], All, AllPairs, IsTrue, length, map};
+ghost use Rattle.std.specs.Prelude.{◌≡◌, ◌≢◌, ◌↔◌, ◌≤◌, All, AllPairs, IsTrue, length, map};
 ghost use Rattle.std.specs.List.{AllWithin};
 ghost use Rattle.csub_core.specs.declared.function.Function.{Function};
 ghost use Rattle.csub_core.specs.Syntax.{function_tree};
-ghost use Rattle.csub_core.specs.Valid.{IsValid};
-ghost use Rattle.csub_core.specs.Checks.{IsWithinLimits, HasEnds, AreNamed, IsFramed, IsFunction, IsSmall};
+ghost use Rattle.csub_core.specs.Valid.{IsValid, frame_cells, most_cells};
+ghost use Rattle.csub_core.specs.Checks.{IsWithinLimits, HasEnds, AreNamed, IsFramed, IsFunction, HasObjects, IsSmall};
 
 mod calls;
 mod counts;
 mod expressions;
+mod objects;
 mod role;
 mod start;
 mod statements;
@@ -19,14 +20,19 @@ mod statements;
 use crate::function::Function;
 use crate::valid::calls::is_named;
 use crate::valid::counts::{has_few_edges, has_few_points};
+use crate::valid::objects::objects_differ;
+use crate::valid::role::Targets;
 use crate::valid::start::{has_main, has_start};
 use crate::valid::statements::are_stmts;
 
 /// The most functions beside `#start`.
 const MOST_FUNCTIONS: usize = 500;
 
-/// The most temporaries of a function's frame.
-const MOST_CELLS: u32 = 4096;
+/// The most parameters of a function.
+const MOST_PARAMETERS: usize = 16;
+
+/// The most cells of a function's frame.
+const MOST_CELLS: usize = 4096;
 
 /// Whether the functions are a valid program. Beside a few passes over the program this takes a comparison of names for
 /// each two functions, and for each call and each function: at most some five million in all.
@@ -99,23 +105,33 @@ fn are_functions(functions: &[Function]) -> bool
     true
 }
 
-/// Whether a function of the program has no object, few temporaries, and valid statements.
+/// Whether a function of the program has few objects that differ, and valid statements.
 fn is_function(functions: &[Function], function: &Function) -> bool
     ensures { IsTrue result ↔ IsFunction (map function_tree functions.now) (function_tree function.now) }
 {
-    is_small(function) && are_stmts(functions, function, &function.body)
+    has_objects(function) && are_stmts(functions, function, Targets::NONE, &function.body)
 }
 
+fn has_objects(function: &Function) -> bool
+    ensures { IsTrue result ↔ HasObjects (function_tree function.now) }
+{
+    is_small(function) && objects_differ(function)
+}
+
+/// Whether a frame of the function has at most 4,096 cells, and the function at most 16 parameters.
 fn is_small(function: &Function) -> bool
     ensures { IsTrue result ↔ IsSmall (function_tree function.now) }
 {
-    is_plain(function) && function.temps <= MOST_CELLS
+    has_few_cells(function) && function.params.len() <= MOST_PARAMETERS
 }
 
-fn is_plain(function: &Function) -> bool
-    ensures { IsTrue result ↔ (((function_tree function.now).params ≡ []) × ((function_tree function.now).locals ≡ [])) }
+fn has_few_cells(function: &Function) -> bool
+    ensures { IsTrue result ↔ (frame_cells (function_tree function.now) ≤ most_cells) }
 {
-    function.params.is_empty() && function.locals.is_empty()
+    let params = function.params.len();
+    let locals = function.locals.len();
+    let temps = function.temps as usize;
+    params <= MOST_CELLS && locals <= MOST_CELLS && params + locals + temps <= MOST_CELLS
 }
 
 #[cfg(test)]

@@ -1,36 +1,77 @@
 //! Whether calls fit the functions that they call.
-ghost use Rattle.std.specs.Prelude.{◌≡◌, ◌↔◌, ◌<◌, ◌≤◌, ◌^◌, [], map, IsTrue, IfSome};
+ghost use Rattle.std.specs.Prelude.{◌≡◌, ◌↔◌, ◌<◌, ◌≤◌, ◌^◌, [], map, All, IsTrue, IfSome};
 ghost use Rattle.std.specs.Option.{option_map};
 ghost use Rattle.csub_core.specs.Types.{type_tree, member_tree};
+ghost use Rattle.csub_core.specs.Trees.{arg_tree};
 ghost use Rattle.csub_core.specs.Labels.{call_tree};
-ghost use Rattle.csub_core.specs.Syntax.{function_tree};
+ghost use Rattle.csub_core.specs.Syntax.{part_tree, function_tree};
 ghost use Rattle.csub_core.specs.Flows.{function_of, name_eq};
-ghost use Rattle.csub_core.specs.Valid.{IsDefinedAs, IsCall, temp_of};
-ghost use Rattle.csub_core.specs.Checks.{AreCalls};
+ghost use Rattle.csub_core.specs.Valid.{scope_of, IsDefinedAs, AreArgs, IsCall, temp_of};
+ghost use Rattle.csub_core.specs.Checks.{scope_at, IsValue, AreCalls};
 
-use crate::function::{Function, RCall};
+use crate::expression::RArg;
+use crate::function::{Function, RPart};
 use crate::label::CallLabel;
 use crate::types::{CType, Member};
+use crate::valid::expressions::is_expr;
+use crate::valid::role::Site;
 use csub_types::IntKind;
 
 /// Whether each of a part's calls, numbered from 1, fits its callee.
-pub(crate) fn are_calls(functions: &[Function], temps: u32, calls: &[RCall]) -> bool
-    ensures { IsTrue result ↔ AreCalls (map function_tree functions.now) temps calls.now }
+pub(crate) fn are_calls(functions: &[Function], function: &Function, part: &RPart) -> bool
+    ensures { IsTrue result ↔ AreCalls (map function_tree functions.now) (scope_of (function_tree function.now) (part_tree part.now)) function.now.temps part.now.calls.items }
 {
+    let calls = part.calls.as_slice();
     for i in 0..calls.len() {
-        let call = &calls[i];
-        if !is_call(functions, temps, i + 1, &call.label) {
+        let number = i + 1;
+        let site = Site {
+            function,
+            part,
+            number,
+        };
+        if !is_call(functions, site, &calls[i].label) {
             return false;
         }
     }
     true
 }
 
-/// Whether the `number`-th call of a part fits its callee, and the temporaries of its function's parts.
-pub(crate) fn is_call(functions: &[Function], temps: u32, number: usize, call: &CallLabel) -> bool
-    ensures { IsTrue result ↔ IsCall (map function_tree functions.now) temps number (call_tree call.now) }
+/// Whether a call fits its callee, and the temporaries of its function's parts.
+pub(crate) fn is_call(functions: &[Function], site: Site<'_>, call: &CallLabel) -> bool
+    ensures { IsTrue result ↔ IsCall (map function_tree functions.now) (scope_at site.entry) site.entry.function.now.temps site.entry.number (call_tree call.now) }
 {
-    is_defined(functions, call) && takes_nothing(call) && has_temp(temps, number, call)
+    is_defined(functions, call)
+        && are_args(site, &call.params, &call.args)
+        && has_temp(site.function.temps, site.number, call)
+}
+
+/// Whether arguments fit parameters: as many, and each a valid expression.
+fn are_args(site: Site<'_>, params: &[Member], args: &[RArg]) -> bool
+    ensures { IsTrue result ↔ AreArgs (scope_at site.entry) site.entry.number (map member_tree params.now) (map arg_tree args.now) }
+{
+    if params.len() != args.len() {
+        return false;
+    }
+    are_values(site, args)
+}
+
+/// Whether each argument is a valid expression.
+fn are_values(site: Site<'_>, args: &[RArg]) -> bool
+    ensures { IsTrue result ↔ All (λ a. IsValue (scope_at site.entry) site.entry.number (arg_tree a)) args.now }
+{
+    for arg in args {
+        if !is_value(site, arg) {
+            return false;
+        }
+    }
+    true
+}
+
+fn is_value(site: Site<'_>, arg: &RArg) -> bool
+    ensures { IsTrue result ↔ IsValue (scope_at site.entry) site.entry.number (arg_tree arg.now) }
+{
+    let RArg::Value(value) = arg;
+    is_expr(site, value)
 }
 
 /// Whether the callee is defined with the parameters and the result type that the call's label has.
@@ -106,7 +147,7 @@ fn same_member(a: &Member, b: &Member) -> bool
     a.name.bytes() == b.name.bytes() && same_type(&a.ctype, &b.ctype)
 }
 
-fn same_type(a: &CType, b: &CType) -> bool
+pub(crate) fn same_type(a: &CType, b: &CType) -> bool
     ensures { IsTrue result ↔ (type_tree a.now ≡ type_tree b.now) }
 {
     match a {

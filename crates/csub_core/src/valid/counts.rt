@@ -6,7 +6,7 @@ ghost use Rattle.std.specs.Option.{SomeIff};
 ghost use Rattle.csub_core.specs.Syntax.{part_tree, stmt_tree, function_tree};
 ghost use Rattle.csub_core.specs.Flows.{point_list, edge_list};
 ghost use Rattle.csub_core.specs.Valid.{most_points, most_edges};
-ghost use Rattle.csub_core.specs.Checks.{count, count_test, count_function};
+ghost use Rattle.csub_core.specs.Checks.{count, count_test, count_head, count_function};
 
 use crate::function::{Function, RPart, RStmt};
 
@@ -73,6 +73,19 @@ fn room_after_stmt(stmt: &RStmt, further: usize, room: usize) -> Option<usize>
                 Some(stmt) => room_after_stmt(stmt, further, after_then),
             }
         }
+        RStmt::While(test, body) => {
+            let after_test = room_after_test(test, further, room)?;
+            room_after_stmt(body, further, after_test)
+        }
+        RStmt::Do(body, test) => {
+            let after_body = room_after_stmt(body, further, room)?;
+            room_after_test(test, further, after_body)
+        }
+        RStmt::For(first, test, third, body) => {
+            let after_head = room_after_head(first, test, third, further, room)?;
+            room_after_stmt(body, further, after_head)
+        }
+        RStmt::Break | RStmt::Continue => Some(room),
     }
 }
 
@@ -85,6 +98,21 @@ fn room_after_stmts(stmts: &[RStmt], further: usize, room: usize) -> Option<usiz
         rest = room_after_stmt(stmt, further, rest)?;
     }
     Some(rest)
+}
+
+/// What is left of `room` after the count of the parts of a `for` before its body.
+fn room_after_head(
+    first: &[RPart],
+    test: &RPart,
+    third: &[RPart],
+    further: usize,
+    room: usize,
+) -> Option<usize>
+    ensures { SomeIff result (count_head further (map part_tree first.now) (part_tree test.now) (map part_tree third.now) ≤ room) (room - count_head further (map part_tree first.now) (part_tree test.now) (map part_tree third.now)) }
+{
+    let after_first = room_after_parts(first, room)?;
+    let after_test = room_after_test(test, further, after_first)?;
+    room_after_parts(third, after_test)
 }
 
 fn room_after_parts(parts: &[RPart], room: usize) -> Option<usize>

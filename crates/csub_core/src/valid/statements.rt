@@ -1,57 +1,143 @@
 //! Whether statements have a label only where there is a point of its kind.
-ghost use Rattle.std.specs.Prelude.{◌≡◌, ◌↔◌, ◌<◌, ◌+◌, ◌^◌, All, IsTrue, map};
+ghost use Rattle.std.specs.Prelude.{◌≡◌, ◌↔◌, ◌<◌, ◌+◌, ◌^◌, All, IsTrue, false, length, map};
 ghost use Rattle.std.specs.Option.{option_map};
-ghost use Rattle.csub_core.specs.Labels.{answer_tree, label_tree};
+ghost use Rattle.csub_core.specs.Types.{type_tree};
+ghost use Rattle.csub_core.specs.Trees.{owner_tree};
+ghost use Rattle.csub_core.specs.Labels.{answer_tree, init_tree, label_tree};
 ghost use Rattle.csub_core.specs.Syntax.{part_tree, stmt_tree, stmts_of, function_tree};
-ghost use Rattle.csub_core.specs.declared.valid.role.Role.TheVariants.{Whole};
-ghost use Rattle.csub_core.specs.Valid.{IsAnswer, IsLast, IsPart, IsStmt};
-ghost use Rattle.csub_core.specs.Checks.{IsEnd};
+ghost use Rattle.csub_core.specs.declared.valid.role.Role.TheVariants.{Effect};
+ghost use Rattle.csub_core.specs.Valid.{scope_of, declares, IsAnswer, IsInitialised, IsLast, IsPart, IsForHead, IsStmt};
+ghost use Rattle.csub_core.specs.Checks.{scope_at, declared_own, IsEnd};
 
+use crate::expression::Owner;
 use crate::function::{Function, RPart, RStmt};
-use crate::label::{Answer, Label};
+use crate::label::{Answer, Label, RInit};
+use crate::types::CType;
 use crate::valid::calls::{are_calls, is_call};
 use crate::valid::expressions::is_expr;
-use crate::valid::role::Role;
-use csub_types::IntKind;
+use crate::valid::objects::is_local;
+use crate::valid::role::{Role, Site, Targets};
 
 /// Whether a statement of `function` is valid in the program of `functions`.
 #[cycle(stmts)]
-pub(crate) fn is_stmt(functions: &[Function], function: &Function, stmt: &RStmt) -> bool
-    ensures { IsTrue result ↔ IsStmt (map function_tree functions.now) (function_tree function.now) (stmt_tree stmt.now) }
+pub(crate) fn is_stmt(
+    functions: &[Function],
+    function: &Function,
+    targets: Targets,
+    stmt: &RStmt,
+) -> bool
+    ensures { IsTrue result ↔ IsStmt (map function_tree functions.now) (function_tree function.now) targets (stmt_tree stmt.now) }
 {
     match stmt {
-        RStmt::Parts(parts) => are_parts(functions, function, parts),
-        RStmt::Block(stmts) => are_stmts(functions, function, stmts),
+        RStmt::Parts(parts) => are_parts(functions, function, Role::Whole, parts),
+        RStmt::Block(stmts) => are_stmts(functions, function, targets, stmts),
         RStmt::If(test, then, other) => {
             is_part(functions, function, Role::Test, test)
-                && is_stmt(functions, function, then)
+                && is_stmt(functions, function, targets, then)
                 && match other {
                     None => true,
-                    Some(stmt) => is_stmt(functions, function, stmt),
+                    Some(stmt) => is_stmt(functions, function, targets, stmt),
                 }
         }
+        RStmt::While(test, body) => {
+            is_part(functions, function, Role::Test, test)
+                && is_stmt(functions, function, Targets::LOOP, body)
+        }
+        RStmt::Do(body, test) => {
+            is_stmt(functions, function, Targets::LOOP, body)
+                && is_part(functions, function, Role::Test, test)
+        }
+        RStmt::For(first, test, third, body) => {
+            is_for_head(functions, function, first, test, third)
+                && is_stmt(functions, function, Targets::LOOP, body)
+        }
+        RStmt::Break => targets.of_break,
+        RStmt::Continue => targets.of_continue,
     }
 }
 
 /// Whether each of the statements is valid.
 #[cycle(stmts)]
-pub(crate) fn are_stmts(functions: &[Function], function: &Function, stmts: &[RStmt]) -> bool
-    ensures { IsTrue result ↔ All (λ s. IsStmt (map function_tree functions.now) (function_tree function.now) (stmt_tree s)) stmts.now }
+pub(crate) fn are_stmts(
+    functions: &[Function],
+    function: &Function,
+    targets: Targets,
+    stmts: &[RStmt],
+) -> bool
+    ensures { IsTrue result ↔ All (λ s. IsStmt (map function_tree functions.now) (function_tree function.now) targets (stmt_tree s)) stmts.now }
 {
     for stmt in stmts {
-        if !is_stmt(functions, function, stmt) {
+        if !is_stmt(functions, function, targets, stmt) {
             return false;
         }
     }
     true
 }
 
-/// Whether each of the parts is valid outside a test.
-fn are_parts(functions: &[Function], function: &Function, parts: &[RPart]) -> bool
-    ensures { IsTrue result ↔ All (λ p. IsPart (map function_tree functions.now) (function_tree function.now) Whole 1 (part_tree p)) parts.now }
+/// Whether the parts of a `for` before its body are valid.
+fn is_for_head(
+    functions: &[Function],
+    function: &Function,
+    first: &[RPart],
+    test: &RPart,
+    third: &[RPart],
+) -> bool
+    ensures { IsTrue result ↔ IsForHead (map function_tree functions.now) (function_tree function.now) (map part_tree first.now) (part_tree test.now) (map part_tree third.now) }
+{
+    are_effects(functions, function, first)
+        && is_part(functions, function, Role::Test, test)
+        && are_steps(functions, function, third)
+}
+
+/// Whether each of the parts is valid as an expression that is evaluated for its effects, and declares nothing.
+fn are_steps(functions: &[Function], function: &Function, parts: &[RPart]) -> bool
+    ensures { IsTrue result ↔ (All (λ p. IsPart (map function_tree functions.now) (function_tree function.now) Effect p) (map part_tree parts.now) × All (λ p. declares p ≡ false) (map part_tree parts.now)) }
+{
+    are_effects(functions, function, parts) && declare_nothing(parts)
+}
+
+/// Whether none of the parts is an initialised declaration.
+fn declare_nothing(parts: &[RPart]) -> bool
+    ensures { IsTrue result ↔ All (λ p. declares (part_tree p) ≡ false) parts.now }
 {
     for part in parts {
-        if !is_part(functions, function, Role::Whole, part) {
+        if declares(part) {
+            return false;
+        }
+    }
+    true
+}
+
+/// Whether a part is a declared object with its initialiser.
+fn declares(part: &RPart) -> bool
+    ensures { result ≡ declares (part_tree part.now) }
+{
+    is_declared(&part.main)
+}
+
+/// Whether a part's own point initialises a declared object.
+fn is_declared(main: &Option<Label>) -> bool
+    ensures { result ≡ declared_own (option_map label_tree main.now) }
+{
+    match main {
+        Some(Label::Init(_, _, _)) => true,
+        _ => false,
+    }
+}
+
+/// Whether each of the parts is valid as an expression that is evaluated for its effects.
+fn are_effects(functions: &[Function], function: &Function, parts: &[RPart]) -> bool
+    ensures { IsTrue result ↔ All (λ p. IsPart (map function_tree functions.now) (function_tree function.now) Effect p) (map part_tree parts.now) }
+{
+    are_parts(functions, function, Role::Effect, parts)
+}
+
+/// Whether each of the parts is valid in a role.
+fn are_parts(functions: &[Function], function: &Function, role: Role, parts: &[RPart]) -> bool
+    ensures { IsTrue result ↔ All (λ p. IsPart (map function_tree functions.now) (function_tree function.now) role (part_tree p)) parts.now }
+{
+    for part in parts {
+        if !is_part(functions, function, role, part) {
             return false;
         }
     }
@@ -60,63 +146,73 @@ fn are_parts(functions: &[Function], function: &Function, parts: &[RPart]) -> bo
 
 /// Whether a part has calls that fit, and then what may stand last.
 fn is_part(functions: &[Function], function: &Function, role: Role, part: &RPart) -> bool
-    ensures { IsTrue result ↔ IsPart (map function_tree functions.now) (function_tree function.now) role 1 (part_tree part.now) }
+    ensures { IsTrue result ↔ IsPart (map function_tree functions.now) (function_tree function.now) role (part_tree part.now) }
 {
-    are_calls(functions, function.temps, &part.calls)
-        && is_end(functions, function, role, part.calls.len(), &part.main)
+    are_calls(functions, function, part) && is_end(functions, function, role, part)
 }
 
-/// Whether the own point of a part may stand behind so many calls, or may be missing there.
-fn is_end(
-    functions: &[Function],
-    function: &Function,
-    role: Role,
-    calls: usize,
-    main: &Option<Label>,
-) -> bool
-    requires { calls < 2 ^ 63 }
-    ensures { IsTrue result ↔ IsEnd (map function_tree functions.now) (function_tree function.now) role calls (option_map label_tree main.now) }
+/// Whether the own point of a part may stand behind its calls, or may be missing there.
+fn is_end(functions: &[Function], function: &Function, role: Role, part: &RPart) -> bool
+    ensures { IsTrue result ↔ IsEnd (map function_tree functions.now) (function_tree function.now) (scope_of (function_tree function.now) (part_tree part.now)) role (length part.now.calls.items) (option_map label_tree part.now.main) }
 {
-    match main {
-        Some(label) => is_last(functions, function, role, calls + 1, label),
+    let calls = part.calls.len();
+    match &part.main {
+        Some(label) => {
+            let number = calls + 1;
+            let site = Site {
+                function,
+                part,
+                number,
+            };
+            is_last(functions, role, site, label)
+        }
         None => match role {
-            Role::Whole => calls > 0,
+            Role::Whole | Role::Effect => calls > 0,
             Role::Test => false,
         },
     }
 }
 
-/// Whether a label may stand last in a part, as its stage `number`, counted from 1.
-fn is_last(
-    functions: &[Function],
-    function: &Function,
-    role: Role,
-    number: usize,
-    label: &Label,
-) -> bool
-    ensures { IsTrue result ↔ IsLast (map function_tree functions.now) (function_tree function.now) role number (label_tree label.now) }
+/// Whether a label may stand last in a part.
+fn is_last(functions: &[Function], role: Role, site: Site<'_>, label: &Label) -> bool
+    ensures { IsTrue result ↔ IsLast (map function_tree functions.now) (function_tree site.entry.function.now) (scope_at site.entry) role site.entry.number (label_tree label.now) }
 {
     match role {
         Role::Whole => match label {
-            Label::Call(call) => is_call(functions, function.temps, number, call),
-            Label::Eval(expr) => is_expr(expr),
-            Label::Return(answer) => is_answer(function.result, answer),
+            Label::Call(call) => is_call(functions, site, call),
+            Label::Eval(expr) => is_expr(site, expr),
+            Label::Init(owner, ctype, init) => is_initialised(site, owner, ctype, init),
+            Label::Return(answer) => is_answer(site, answer),
             Label::Entry | Label::Exit(_) | Label::Branch(_) => false,
         },
         Role::Test => match label {
-            Label::Branch(expr) => is_expr(expr),
+            Label::Branch(expr) => is_expr(site, expr),
+            _ => false,
+        },
+        Role::Effect => match label {
+            Label::Call(call) => is_call(functions, site, call),
+            Label::Eval(expr) => is_expr(site, expr),
+            Label::Init(owner, ctype, init) => is_initialised(site, owner, ctype, init),
             _ => false,
         },
     }
 }
 
-/// Whether a return fits its function's result type.
-fn is_answer(result_type: Option<IntKind>, answer: &Option<Answer>) -> bool
-    ensures { IsTrue result ↔ IsAnswer result_type (option_map answer_tree answer.now) }
+/// Whether an initialiser is valid, and its object one of the function's locals.
+fn is_initialised(site: Site<'_>, owner: &Owner, ctype: &CType, init: &RInit) -> bool
+    ensures { IsTrue result ↔ IsInitialised (function_tree site.entry.function.now) (scope_at site.entry) site.entry.number (owner_tree owner.now) (type_tree ctype.now) (init_tree init.now) }
 {
-    match (result_type, answer) {
+    let RInit::One(value) = init;
+    is_local(site.function, owner, ctype) && is_expr(site, value)
+}
+
+/// Whether a return fits its function's result type.
+fn is_answer(site: Site<'_>, answer: &Option<Answer>) -> bool
+    ensures { IsTrue result ↔ IsAnswer (scope_at site.entry) site.entry.number site.entry.function.now.result (option_map answer_tree answer.now) }
+{
+    match (site.function.result, answer) {
         (None, None) => true,
-        (Some(kind), Some(answer)) => answer.kind == kind && is_expr(&answer.value),
+        (Some(kind), Some(answer)) => answer.kind == kind && is_expr(site, &answer.value),
         _ => false,
     }
 }

@@ -1,9 +1,10 @@
 //! Programs that are valid, and programs that break one rule each.
-use crate::expression::RExpr;
-use crate::function::{Function, RCall, RPart, RStmt};
-use crate::label::{Answer, CallLabel, Label};
+use crate::expression::{Owner, Place, RArg, RExpr};
+use crate::function::{Function, LocalVar, RCall, RPart, RStmt};
+use crate::label::{Answer, CallLabel, Label, RInit};
 use crate::program::Program;
-use csub_text::{Span, Text};
+use crate::types::{CType, Member};
+use csub_text::{Span, Text, UnaryOp};
 use csub_types::IntKind;
 use std::alloc::{AllocError, Global};
 use std::test::Fail;
@@ -199,6 +200,148 @@ fn a_program_has_at_most_10000_points_and_edges(rt: HostRuntime) -> Result<(), F
             Program::make(functions).is_some(),
             accepted,
             "at {points} and {tests}"
+        );
+    }
+    Ok(())
+}
+
+/// `while (0) s`
+fn endless(alloc: Global, body: RStmt) -> Result<RStmt, AllocError> {
+    let test = part(alloc, Label::Branch(RExpr::Const(IntKind::Int, 0)));
+    Ok(RStmt::While(test, Box::new(alloc, body)?))
+}
+
+// C11 6.8.6.2p1 and 6.8.6.3p1
+#[test]
+fn jumps_stand_in_loops_alone(rt: HostRuntime) -> Result<(), Fail> {
+    let alloc = rt.alloc();
+    for (jump, inside, accepted) in [
+        (RStmt::Break, true, true),
+        (RStmt::Continue, true, true),
+        (RStmt::Break, false, false),
+        (RStmt::Continue, false, false),
+    ] {
+        let line = if inside { endless(alloc, jump)? } else { jump };
+        let functions = one_line(alloc, line)?;
+        assert_eq!(rt; Program::make(functions).is_some(), accepted);
+    }
+    Ok(())
+}
+
+/// The number of the object `c` with a number among those of its name, as an object of a kind.
+fn object(alloc: Global, number: u32, kind: IntKind) -> Result<Place, AllocError> {
+    let owner = Owner::Local(Text::new(alloc, b"c")?, number);
+    Ok(Place::Var(owner, CType::Num(kind)))
+}
+
+/// A local `char c` with a number.
+fn local(alloc: Global, number: u32) -> Result<LocalVar, AllocError> {
+    Ok(LocalVar {
+        name: Text::new(alloc, b"c")?,
+        number,
+        ctype: CType::Num(IntKind::Char),
+    })
+}
+
+/// Whether the program is accepted whose `main` has locals `char c` with these numbers, and one line.
+fn accepts(alloc: Global, numbers: &[u32], line: RStmt) -> Result<bool, Fail> {
+    let mut body = Vec::new(alloc);
+    body.push(line)?;
+    let mut main = function(alloc, b"main", Some(IntKind::Int), 0, body)?;
+    for number in numbers {
+        main.locals.push(local(alloc, *number)?)?;
+    }
+    let mut functions = Vec::new(alloc);
+    functions.push(start(alloc, b"main")?)?;
+    functions.push(main)?;
+    Ok(Program::make(functions).is_some())
+}
+
+#[test]
+fn objects_stand_as_they_are_declared(rt: HostRuntime) -> Result<(), Fail> {
+    let alloc = rt.alloc();
+    for (number, kind, accepted) in [
+        (1, IntKind::Char, true),
+        (2, IntKind::Char, true),
+        (3, IntKind::Char, false),
+        (2, IntKind::Int, false),
+    ] {
+        let read = line(
+            alloc,
+            Label::Eval(RExpr::Read(object(alloc, number, kind)?)),
+        )?;
+        assert_eq!(rt; accepts(alloc, &[1, 2], read)?, accepted, "at {number}");
+    }
+    assert!(rt; accepts(alloc, &[1, 2], constant(alloc, IntKind::Int, 0)?)?);
+    assert!(rt; !accepts(alloc, &[1, 1], constant(alloc, IntKind::Int, 0)?)?);
+    let init = RInit::One(RExpr::Const(IntKind::Int, 200));
+    let owner = Owner::Local(Text::new(alloc, b"c")?, 1);
+    let declared = Label::Init(owner, CType::Num(IntKind::Char), init);
+    assert!(rt; accepts(alloc, &[1], line(alloc, declared)?)?);
+    Ok(())
+}
+
+// `-c` has the promoted kind of `c`, which is `int` (C11 6.3.1.1p2 and 6.5.3.3p3)
+#[test]
+fn an_operand_is_promoted(rt: HostRuntime) -> Result<(), Fail> {
+    let alloc = rt.alloc();
+    for (kind, accepted) in [(IntKind::Int, true), (IntKind::Char, false)] {
+        let read = Box::new(alloc, RExpr::Read(object(alloc, 1, IntKind::Char)?))?;
+        let minus = RExpr::Unary(UnaryOp::Minus, kind, read);
+        assert_eq!(rt;
+            accepts(alloc, &[1], line(alloc, Label::Eval(minus))?)?,
+            accepted
+        );
+    }
+    Ok(())
+}
+
+/// `void work(char c);`, called with so many arguments 0.
+fn call_with(alloc: Global, args: usize) -> Result<RStmt, AllocError> {
+    let mut label = CallLabel {
+        callee: Text::new(alloc, b"work")?,
+        params: Vec::new(alloc),
+        result: None,
+        args: Vec::new(alloc),
+        temp: None,
+    };
+    label.params.push(parameter(alloc)?)?;
+    for _ in 0..args {
+        label.args.push(RArg::Value(RExpr::Const(IntKind::Int, 0)))?;
+    }
+    line(alloc, Label::Call(label))
+}
+
+/// A parameter `char c`.
+fn parameter(alloc: Global) -> Result<Member, AllocError> {
+    Ok(Member {
+        name: Text::new(alloc, b"c")?,
+        ctype: CType::Num(IntKind::Char),
+    })
+}
+
+#[test]
+fn arguments_are_as_many_as_parameters(rt: HostRuntime) -> Result<(), Fail> {
+    let alloc = rt.alloc();
+    for (args, numbers, accepted) in [
+        (1, 0, true),
+        (0, 0, false),
+        (2, 0, false),
+        (1, 1, false),
+        (1, 2, true),
+    ] {
+        let mut functions = one_line(alloc, call_with(alloc, args)?)?;
+        let mut work = function(alloc, b"work", None, 0, Vec::new(alloc))?;
+        work.params.push(parameter(alloc)?)?;
+        // a local of the parameter's name counts after it
+        if numbers > 0 {
+            work.locals.push(local(alloc, numbers)?)?;
+        }
+        functions.push(work)?;
+        assert_eq!(rt;
+            Program::make(functions).is_some(),
+            accepted,
+            "at {args}, {numbers}"
         );
     }
     Ok(())

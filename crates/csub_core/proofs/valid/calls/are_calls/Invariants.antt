@@ -1,10 +1,10 @@
 use Rattle.std.proofs.Common.{ℕ, ◌+◌, ◌<◌, map, slice_index_or}
 use Rattle.csub_core.specs.declared.function.RCall.{RCall}
 use Rattle.csub_core.specs.Labels.{call_tree}
-use Rattle.csub_core.specs.Syntax.{function_tree}
-use Rattle.csub_core.specs.Valid.{IsCall}
+use Rattle.csub_core.specs.Syntax.{part_tree, function_tree}
+use Rattle.csub_core.specs.Valid.{scope_of, IsCall}
 use Rattle.csub_core.proofs.valid.calls.are_calls.Given as goal
 
 abbrev pub invariant-loop-i : goal.invariant-loop-i
 invariant-loop-i l =
-    (k : ℕ) (d : RCall) → k < l.i → IsCall (map function_tree l.functions) l.temps (k + 1) (call_tree (slice_index_or l.calls k d).label)
+    (k : ℕ) (d : RCall) → k < l.i → IsCall (map function_tree l.functions) (scope_of (function_tree l.function) (part_tree l.part)) l.function.temps (k + 1) (call_tree (slice_index_or l.calls k d).label)

@@ -6,4 +6,4 @@ use Rattle.csub_core.proofs.valid.statements.+stmts.Given as goal
 
 abbrev pub invariant-are_stmts-loop-stmt : goal.invariant-are_stmts-loop-stmt
 invariant-are_stmts-loop-stmt l =
-    (k : ℕ) (d : RStmt) → k < l.stmt-index → IsStmt (map function_tree l.functions) (function_tree l.function) (stmt_tree (get_or l.stmts k d))
+    (k : ℕ) (d : RStmt) → k < l.stmt-index → IsStmt (map function_tree l.functions) (function_tree l.function) l.targets (stmt_tree (get_or l.stmts k d))

@@ -1,10 +1,9 @@
 use Rattle.std.proofs.Common.{ℕ, ◌<◌, map, get_or}
 use Rattle.csub_core.specs.declared.function.RPart.{RPart}
 use Rattle.csub_core.specs.Syntax.{part_tree, function_tree}
-use Rattle.csub_core.specs.declared.valid.role.Role.TheVariants.{Whole}
 use Rattle.csub_core.specs.Valid.{IsPart}
 use Rattle.csub_core.proofs.valid.statements.are_parts.Given as goal
 
 abbrev pub invariant-loop-part : goal.invariant-loop-part
 invariant-loop-part l =
-    (k : ℕ) (d : RPart) → k < l.part-index → IsPart (map function_tree l.functions) (function_tree l.function) Whole 1 (part_tree (get_or l.parts k d))
+    (k : ℕ) (d : RPart) → k < l.part-index → IsPart (map function_tree l.functions) (function_tree l.function) l.role (part_tree (get_or l.parts k d))
