@@ -5,11 +5,11 @@ use Rattle.std.proofs.lemmas.List.{reverse-append}
 use Rattle.csub_text.specs.declared.span.Span.{Span}
 use Rattle.csub_core.specs.declared.function.RPart.{RPart}
 use Rattle.csub_core.specs.declared.function.RCall.{RCall}
-use Rattle.csub_core.specs.Labels.{LabelTree, enters, exits, evaluates, branches, returns, calls, label_tree}
+use Rattle.csub_core.specs.Labels.{LabelTree, enters, exits, evaluates, initialises, branches, returns, calls, label_tree}
 use Rattle.csub_core.specs.Points.{at, next}
-use Rattle.csub_core.specs.Syntax.{Stage, PartTree, part_tree, call_stage, own_stage}
-use Rattle.csub_core.specs.Successors.{Way, Around, way, own_ways, last_ways}
-use Rattle.flow_graph.specs.Numbers.{Numbered, count_parts, enter_part, enter_parts, part_numbered, parts_numbered, past_label}
+use Rattle.csub_core.specs.Syntax.{Stage, PartTree, StmtTree, for_loop, part_tree, call_stage, own_stage}
+use Rattle.csub_core.specs.Successors.{Way, Around, way, looping, own_ways, last_ways}
+use Rattle.flow_graph.specs.Numbers.{Numbered, count_parts, count_head, enter, enter_part, enter_parts, part_numbered, parts_numbered, head_numbered, numbered, past_label}
 use Rattle.flow_graph.proofs.Rows.{parts_from, parts_from-back}
 
 -- a part by the stages before its last and the last
@@ -53,6 +53,7 @@ own_way : (label : LabelTree) (past returned : ℕ) → own_ways label past retu
 own_way enters past returned = refl
 own_way (exits r) past returned = refl
 own_way (evaluates e) past returned = refl
+own_way (initialises o t i) past returned = refl
 own_way (branches e) past returned = refl
 own_way (returns a) past returned = refl
 own_way (calls c) past returned = refl
@@ -77,17 +78,18 @@ pub part_ways : (p : RPart) (first : ℕ) (path : List ℕ) (i past returned : �
 part_ways p first path i past returned = stages_ways p.calls.items p.span (option_map label_tree p.main) first path i past returned
 
 -- the parts from a place on, by those from the next place on
-pub record PartsFrom (ps : List RPart) (j i : ℕ) (x : RPart) (first onward : ℕ) (path : List ℕ) (a : Around ℕ) (begin : ℕ) (old middle new : List Numbered) : Type 0 where
+pub record PartsFrom (ps : List RPart) (from j i : ℕ) (x : RPart) (first onward : ℕ) (path : List ℕ) (a : Around ℕ) (begin : ℕ) (old middle new : List Numbered) : Type 0 where
   pub place : first + parts_from ps j ≡ onward + parts_from ps i
   pub begins : enter_part (part_tree x) first begin ≡ enter_parts (map part_tree (drop j ps)) first a.leave
-  pub points : new ≡ old ++ reverse (parts_numbered (map part_tree (drop j ps)) j first path a)
+  pub points : new ≡ old ++ reverse (parts_numbered (map part_tree (drop j ps)) (from + j) first path a)
 
-pub parts_emitted : (ps : List RPart) (j i : ℕ) (x : RPart) (first onward : ℕ) (path : List ℕ) (a : Around ℕ) (begin : ℕ) (old middle new : List Numbered) → j + 1 ≡ i → j < length ps → x ≡ get_or ps j x → first + length (part_tree x) ≡ onward → begin ≡ enter_parts (map part_tree (drop i ps)) onward a.leave → middle ≡ old ++ reverse (parts_numbered (map part_tree (drop i ps)) i onward path a) → new ≡ middle ++ reverse (part_numbered (part_tree x) 0 first path j (way next (past_label (option_map label_tree x.main) begin a.returned) ∷ [])) → PartsFrom ps j i x first onward path a begin old middle new
-parts_emitted ps j i x first onward path a begin old middle new next_is below is at_end begins points emitted =
+pub parts_emitted : (ps : List RPart) (from j i : ℕ) (x : RPart) (first onward : ℕ) (path : List ℕ) (a : Around ℕ) (begin : ℕ) (old middle new : List Numbered) → j + 1 ≡ i → j < length ps → x ≡ get_or ps j x → first + length (part_tree x) ≡ onward → begin ≡ enter_parts (map part_tree (drop i ps)) onward a.leave → middle ≡ old ++ reverse (parts_numbered (map part_tree (drop i ps)) (from + i) onward path a) → new ≡ middle ++ reverse (part_numbered (part_tree x) 0 first path (from + j) (way next (past_label (option_map label_tree x.main) begin a.returned) ∷ [])) → PartsFrom ps from j i x first onward path a begin old middle new
+parts_emitted ps from j i x first onward path a begin old middle new next_is below is at_end begins points emitted =
     let p = part_tree x in
     let rest = map part_tree (drop i ps) in
     let split = parts_from-back ps j i x next_is below is in
-    let all = two_appended (part_numbered p 0 first path j (last_ways p begin a.returned)) (parts_numbered rest i onward path a) old middle new points (emitted ∙ ap (λ l. middle ++ reverse l) (part_ways x first path j begin a.returned)) in
+    let one_on : from + i ≡ from + j + 1 = omega arith in
+    let all = two_appended (part_numbered p 0 first path (from + j) (last_ways p begin a.returned)) (parts_numbered rest (from + i) onward path a) old middle new points (emitted ∙ ap (λ l. middle ++ reverse l) (part_ways x first path (from + j) begin a.returned)) in
     record {
       place = let counted : parts_from ps j ≡ length p + parts_from ps i = ap count_parts split in omega arith;
       begins =
@@ -95,12 +97,22 @@ parts_emitted ps j i x first onward path a begin old middle new next_is below is
           ∙ sym (ap (λ l. enter_parts l first a.leave) split);
       points =
           all
-          ∙ ap (λ n. old ++ reverse (part_numbered p 0 first path j (last_ways p n a.returned) ++ parts_numbered rest i onward path a)) begins
-          ∙ ap (λ k. old ++ reverse (part_numbered p 0 first path j (last_ways p (enter_parts rest k a.leave) a.returned) ++ parts_numbered rest i k path a)) (sym at_end)
-          ∙ ap (λ k. old ++ reverse (part_numbered p 0 first path j (last_ways p (enter_parts rest (first + length p) a.leave) a.returned) ++ parts_numbered rest k (first + length p) path a)) (sym next_is)
-          ∙ sym (ap (λ l. old ++ reverse (parts_numbered l j first path a)) split);
+          ∙ ap (λ n. old ++ reverse (part_numbered p 0 first path (from + j) (last_ways p n a.returned) ++ parts_numbered rest (from + i) onward path a)) begins
+          ∙ ap (λ k. old ++ reverse (part_numbered p 0 first path (from + j) (last_ways p (enter_parts rest k a.leave) a.returned) ++ parts_numbered rest (from + i) k path a)) (sym at_end)
+          ∙ ap (λ k. old ++ reverse (part_numbered p 0 first path (from + j) (last_ways p (enter_parts rest (first + length p) a.leave) a.returned) ++ parts_numbered rest k (first + length p) path a)) one_on
+          ∙ sym (ap (λ l. old ++ reverse (parts_numbered l (from + j) first path a)) split);
     }
 
 pub call_count : (cs : List RCall) → length (map call_stage cs) ≡ length cs
 call_count [] = refl
 call_count (c ∷ cs) = ap suc (call_count cs)
+
+-- the points of what stands before the body of a `for`, in front of those of its body
+pub for_emitted : (begin : List PartTree) (p : PartTree) (third : List PartTree) (s : StmtTree) (first : ℕ) (path : List ℕ) (a inside : Around ℕ) (body at_body onward : ℕ) (old middle new : List Numbered) → first + count_head begin p third ≡ at_body → inside ≡ looping onward a → onward ≡ enter_parts third (first + count_parts begin + length p) (enter_part p (first + count_parts begin) a.leave) → body ≡ enter s at_body inside → middle ≡ old ++ reverse (numbered s at_body (path ++ 0 ∷ []) inside) → new ≡ middle ++ reverse (head_numbered begin p third first path body a) → new ≡ old ++ reverse (numbered (for_loop begin p third s) first path a)
+for_emitted begin p third s first path a inside body at_body onward old middle new at_end is_inside is_onward begins points emitted =
+    let head = λ (b : ℕ). head_numbered begin p third first path b a in
+    let within = looping (enter_parts third (first + count_parts begin + length p) (enter_part p (first + count_parts begin) a.leave)) a in
+    two_appended (head body) (numbered s at_body (path ++ 0 ∷ []) inside) old middle new points emitted
+    ∙ ap (λ b. old ++ reverse (head b ++ numbered s at_body (path ++ 0 ∷ []) inside)) begins
+    ∙ ap (λ i. old ++ reverse (head (enter s at_body i) ++ numbered s at_body (path ++ 0 ∷ []) i)) (is_inside ∙ ap (λ n. looping n a) is_onward)
+    ∙ ap (λ k. old ++ reverse (head (enter s k within) ++ numbered s k (path ++ 0 ∷ []) within)) (sym at_end)

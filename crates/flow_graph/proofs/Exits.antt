@@ -1,12 +1,12 @@
 -- No point has two ways out with one exit label.
-use Rattle.std.proofs.Common.{◌≡◌, true, cond, List, [], ◌∷◌, ◌++◌, ◌∙◌, zero, suc, refl, ap, sym, subst, ℕ, ◌+◌, Some, None}
+use Rattle.std.proofs.Common.{◌≡◌, true, cond, List, [], ◌∷◌, ◌++◌, ◌∙◌, zero, suc, refl, ap, sym, subst, ℕ, ◌+◌, length, Some, None}
 use Rattle.std.specs.List.{slice_get, find}
 use Rattle.std.specs.Cmp.{signed_Decides}
 use Rattle.std.specs.Cmp.Rules.{signed_items}
 use Rattle.std.proofs.lemmas.Option.{same_Some}
-use Rattle.csub_core.specs.Labels.{LabelTree, enters, exits, evaluates, branches, returns, calls}
+use Rattle.csub_core.specs.Labels.{LabelTree, enters, exits, evaluates, initialises, branches, returns, calls}
 use Rattle.csub_core.specs.Points.{at, ExitTree, next, on_true, on_false, on_case, on_default, exit_eq}
-use Rattle.csub_core.specs.Syntax.{PartTree, StmtTree, StmtTrees, ElseTree, parts, block, conditional, no_stmt, more_stmts, no_else, else_stmt, FunctionTree}
+use Rattle.csub_core.specs.Syntax.{PartTree, StmtTree, StmtTrees, ElseTree, parts, block, conditional, while_loop, do_loop, for_loop, breaks, continues, no_stmt, more_stmts, no_else, else_stmt, FunctionTree}
 use Rattle.csub_core.specs.Successors as points
 use Rattle.csub_core.specs.Successors.{Way, Node, Around, way}
 use Rattle.csub_core.specs.Flows.{function_nodes, to_exit}
@@ -82,6 +82,7 @@ module _ {X : Type 0} where
   own_found enters past returned = one_found next past
   own_found (exits r) past returned = one_found next past
   own_found (evaluates t) past returned = one_found next past
+  own_found (initialises o t i) past returned = one_found next past
   own_found (branches t) past returned = one_found next past
   own_found (returns a) past returned = one_found next returned
   own_found (calls c) past returned = one_found next past
@@ -116,6 +117,31 @@ module _ {X : Type 0} where
         AllFound-append (points.part_nodes p 0 (λ k. name [] 0 k) (points.test_ways when_true when_false)) (then ++ other)
         (part_found p 0 (λ k. name [] 0 k) (points.test_ways when_true when_false) (test_found when_true when_false))
         (AllFound-append then other (all_found t (λ q. name (0 ∷ q)) a) (else_found e (λ q. name (1 ∷ q)) a))
+    all_found (while_loop p s) name a =
+        let inside = points.looping (points.enter_part p 0 name a.leave) a in
+        let body = points.nodes s (λ q. name (0 ∷ q)) inside in
+        let again = points.enter s (λ q. name (0 ∷ q)) inside in
+        AllFound-append (points.part_nodes p 0 (λ k. name [] 0 k) (points.test_ways again a.leave)) body
+        (part_found p 0 (λ k. name [] 0 k) (points.test_ways again a.leave) (test_found again a.leave)) (all_found s (λ q. name (0 ∷ q)) inside)
+    all_found (do_loop s p) name a =
+        let inside = points.looping (points.enter_part p 0 name a.leave) a in
+        let body = points.nodes s (λ q. name (0 ∷ q)) inside in
+        let again = points.enter s (λ q. name (0 ∷ q)) inside in
+        AllFound-append body (points.part_nodes p 0 (λ k. name [] 0 k) (points.test_ways again a.leave))
+        (all_found s (λ q. name (0 ∷ q)) inside) (part_found p 0 (λ k. name [] 0 k) (points.test_ways again a.leave) (test_found again a.leave))
+    all_found (for_loop first p third s) name a =
+        let m = length first in
+        let back = points.enter_part p m name a.leave in
+        let inside = points.looping (points.enter_parts third (m + 1) name back) a in
+        let again = points.enter s (λ q. name (0 ∷ q)) inside in
+        let test = points.part_nodes p 0 (λ k. name [] m k) (points.test_ways again a.leave) in
+        let step = points.parts_nodes third (m + 1) name (points.leaving back a) in
+        let body = points.nodes s (λ q. name (0 ∷ q)) inside in
+        AllFound-append (points.parts_nodes first 0 name (points.leaving back a)) (test ++ (step ++ body)) (parts_found first 0 name (points.leaving back a))
+        (AllFound-append test (step ++ body) (part_found p 0 (λ k. name [] m k) (points.test_ways again a.leave) (test_found again a.leave))
+        (AllFound-append step body (parts_found third (m + 1) name (points.leaving back a)) (all_found s (λ q. name (0 ∷ q)) inside)))
+    all_found breaks name a = tt
+    all_found continues name a = tt
 
     pub list_found : (ss : StmtTrees) (i : ℕ) (name : List ℕ → ℕ → ℕ → X) (a : Around X) → AllFound (points.nodes_list ss i name a)
     list_found no_stmt i name a = tt

@@ -3,16 +3,16 @@
 use Rattle.std.proofs.Common.{◌≡◌, List, [], ◌∷◌, ◌++◌, ◌∙◌, arith, map, refl, ap, sym, subst, ℕ, ◌+◌, length, Option, Some, append_assoc, append-nil}
 use Rattle.std.proofs.lemmas.List.{map-append}
 use Rattle.csub_core.specs.Types.{Name}
-use Rattle.csub_core.specs.Labels.{LabelTree, enters, exits, evaluates, branches, returns, calls}
+use Rattle.csub_core.specs.Labels.{LabelTree, enters, exits, evaluates, initialises, branches, returns, calls}
 use Rattle.csub_core.specs.Points.{PointTree, entry, exit, at, next, on_true, on_false}
-use Rattle.csub_core.specs.Syntax.{Stage, PartTree, StmtTree, StmtTrees, ElseTree, parts, block, conditional, no_stmt, more_stmts, no_else, else_stmt, FunctionTree}
+use Rattle.csub_core.specs.Syntax.{Stage, PartTree, StmtTree, StmtTrees, ElseTree, parts, block, conditional, while_loop, do_loop, for_loop, breaks, continues, no_stmt, more_stmts, no_else, else_stmt, FunctionTree}
 use Rattle.csub_core.specs.Successors as points
-use Rattle.csub_core.specs.Successors.{Way, Node, Around, way, leaving, own_ways, last_ways, test_ways}
+use Rattle.csub_core.specs.Successors.{Way, Node, Around, way, leaving, looping, own_ways, last_ways, test_ways}
 use Rattle.csub_core.specs.Flows.{function_nodes, to_exit, end_rule}
 use Rattle.csub_core.specs.Numbers.{Site, site}
-use Rattle.flow_graph.specs.Numbers.{Numbered, count, count_list, enter, enter_list, enter_else, enter_part, enter_parts, part_numbered, parts_numbered, numbered, list_numbered, else_numbered, exit_number, by_exit, function_numbered}
+use Rattle.flow_graph.specs.Numbers.{Numbered, count, count_parts, count_head, count_list, enter, enter_list, enter_else, enter_part, enter_parts, part_numbered, parts_numbered, numbered, list_numbered, else_numbered, exit_number, by_exit, function_numbered}
 use Rattle.flow_graph.specs.Graph.{NamedNode, way_of, node_of}
-use Rattle.flow_graph.proofs.Lengths.{part_nodes-length, nodes_list-length, nodes-length}
+use Rattle.flow_graph.proofs.Lengths.{part_nodes-length, parts_nodes-length, nodes_list-length, nodes-length}
 
 module _ (at_number : ℕ → Option Site) (f : Name) where
   -- a point with what its numbers are
@@ -41,6 +41,8 @@ module _ (at_number : ℕ → Option Site) (f : Name) where
   pub record Meets (a : Around ℕ) (b : Around PointTree) : Type 0 where
     pub leave : at_number a.leave ≡ Some (site f b.leave)
     pub returned : at_number a.returned ≡ Some (site f b.returned)
+    pub broken : at_number a.broken ≡ Some (site f b.broken)
+    pub continued : at_number a.continued ≡ Some (site f b.continued)
 
   -- the same beginning and the same points
   pub record Same (m : ℕ) (x : PointTree) (ns : List Numbered) (ms : List (Node PointTree)) : Type 0 where
@@ -72,6 +74,7 @@ module _ (at_number : ℕ → Option Site) (f : Name) where
   own_same enters past returned past' returned' e g = ap (λ x. way next x ∷ []) e
   own_same (exits r) past returned past' returned' e g = ap (λ x. way next x ∷ []) e
   own_same (evaluates t) past returned past' returned' e g = ap (λ x. way next x ∷ []) e
+  own_same (initialises o t i) past returned past' returned' e g = ap (λ x. way next x ∷ []) e
   own_same (branches t) past returned past' returned' e g = ap (λ x. way next x ∷ []) e
   own_same (returns a) past returned past' returned' e g = ap (λ x. way next x ∷ []) g
   own_same (calls c) past returned past' returned' e g = ap (λ x. way next x ∷ []) e
@@ -107,6 +110,13 @@ module _ (at_number : ℕ → Option Site) (f : Name) where
             later.points;
       }
 
+  -- the points of a test
+  test_same : (p : PartTree) (first : ℕ) (path : List ℕ) (i : ℕ) (name : List ℕ → ℕ → ℕ → PointTree) (t e : ℕ) (t' e' : PointTree) → ((q : List ℕ) (i k : ℕ) → name q i k ≡ at (path ++ q) i k) → Held first (points.part_nodes p 0 (λ k. name [] i k) (test_ways t' e')) → at_number t ≡ Some (site f t') → at_number e ≡ Some (site f e') → map node_named (part_numbered p 0 first path i (test_ways t e)) ≡ map (node_of f) (points.part_nodes p 0 (λ k. name [] i k) (test_ways t' e'))
+  test_same p first path i name t e t' e' named h is_true is_false =
+      let named_here = λ (k : ℕ). named [] i k ∙ ap (λ q. at q i k) (append-nil path) in
+      part_same p 0 first path i (λ k. name [] i k) (test_ways t e) (test_ways t' e') named_here h
+      (ap (λ x. way on_true x ∷ way on_false (at_number e) ∷ []) is_true ∙ ap (λ y. way on_true (Some (site f t')) ∷ way on_false y ∷ []) is_false)
+
   -- the names inside a statement, one step further down
   deeper : (path : List ℕ) (step : ℕ) (name : List ℕ → ℕ → ℕ → PointTree) → ((q : List ℕ) (i k : ℕ) → name q i k ≡ at (path ++ q) i k) → (q : List ℕ) (i k : ℕ) → name (step ∷ q) i k ≡ at ((path ++ step ∷ []) ++ q) i k
   deeper path step name named q i k = named (step ∷ q) i k ∙ ap (λ r. at r i k) (sym (append_assoc path (step ∷ []) q))
@@ -131,16 +141,94 @@ module _ (at_number : ℕ → Option Site) (f : Name) where
         let other_held = Held-right (first + length p) (count t) then other (nodes-length t (λ q. name (0 ∷ q)) b) inner_held in
         let in_then = same t (first + length p) (path ++ 0 ∷ []) (λ q. name (0 ∷ q)) a b (deeper path 0 name named) m then_held in
         let in_else = else_same e (first + length p + count t) (path ++ 1 ∷ []) (λ q. name (1 ∷ q)) a b (deeper path 1 name named) m other_held in
-        let named_here = λ (k : ℕ). named [] 0 k ∙ ap (λ q. at q 0 k) (append-nil path) in
-        let same_ways : map way_named ways ≡ map (way_of f) ways' =
-        ap (λ x. way on_true x ∷ way on_false (at_number begin_else) ∷ []) in_then.begins ∙ ap (λ y. way on_true (Some (site f begin_then')) ∷ way on_false y ∷ []) in_else.begins in
         record {
           begins = enter_part_same p 0 first a.leave b.leave name ways' m.leave test_held;
           points =
               joined (part_numbered p 0 first path 0 ways) (numbered t (first + length p) (path ++ 0 ∷ []) a ++ else_numbered e (first + length p + count t) (path ++ 1 ∷ []) a) test (then ++ other)
-              (part_same p 0 first path 0 (λ k. name [] 0 k) ways ways' named_here test_held same_ways)
+              (test_same p first path 0 name begin_then begin_else begin_then' begin_else' named test_held in_then.begins in_else.begins)
               (joined (numbered t (first + length p) (path ++ 0 ∷ []) a) (else_numbered e (first + length p + count t) (path ++ 1 ∷ []) a) then other in_then.points in_else.points);
         }
+    same (while_loop p s) first path name a b named m h =
+        let inside = looping (enter_part p first a.leave) a in
+        let inside' = looping (points.enter_part p 0 name b.leave) b in
+        let again = enter s (first + length p) inside in
+        let again' = points.enter s (λ q. name (0 ∷ q)) inside' in
+        let test = points.part_nodes p 0 (λ k. name [] 0 k) (test_ways again' b.leave) in
+        let body = points.nodes s (λ q. name (0 ∷ q)) inside' in
+        let test_held = Held-left first test body h in
+        let body_held = Held-right first (length p) test body (part_nodes-length p 0 (λ k. name [] 0 k) (test_ways again' b.leave)) h in
+        let begins = enter_part_same p 0 first a.leave b.leave name (test_ways again' b.leave) m.leave test_held in
+        let within : Meets inside inside' = record { leave = begins; returned = m.returned; broken = m.leave; continued = begins } in
+        let in_body = same s (first + length p) (path ++ 0 ∷ []) (λ q. name (0 ∷ q)) inside inside' (deeper path 0 name named) within body_held in
+        record {
+          begins = begins;
+          points =
+              joined (part_numbered p 0 first path 0 (test_ways again a.leave)) (numbered s (first + length p) (path ++ 0 ∷ []) inside) test body
+              (test_same p first path 0 name again a.leave again' b.leave named test_held in_body.begins m.leave)
+              in_body.points;
+        }
+    same (do_loop s p) first path name a b named m h =
+        let inside = looping (enter_part p (first + count s) a.leave) a in
+        let inside' = looping (points.enter_part p 0 name b.leave) b in
+        let again = enter s first inside in
+        let again' = points.enter s (λ q. name (0 ∷ q)) inside' in
+        let test = points.part_nodes p 0 (λ k. name [] 0 k) (test_ways again' b.leave) in
+        let body = points.nodes s (λ q. name (0 ∷ q)) inside' in
+        let body_held = Held-left first body test h in
+        let test_held = Held-right first (count s) body test (nodes-length s (λ q. name (0 ∷ q)) inside') h in
+        let onward = enter_part_same p 0 (first + count s) a.leave b.leave name (test_ways again' b.leave) m.leave test_held in
+        let within : Meets inside inside' = record { leave = onward; returned = m.returned; broken = m.leave; continued = onward } in
+        let in_body = same s first (path ++ 0 ∷ []) (λ q. name (0 ∷ q)) inside inside' (deeper path 0 name named) within body_held in
+        record {
+          begins = in_body.begins;
+          points =
+              joined (numbered s first (path ++ 0 ∷ []) inside) (part_numbered p 0 (first + count s) path 0 (test_ways again a.leave)) body test
+              in_body.points
+              (test_same p (first + count s) path 0 name again a.leave again' b.leave named test_held in_body.begins m.leave);
+        }
+    same (for_loop begin p third s) first path name a b named m h =
+        let n = length begin in
+        let at_test = first + count_parts begin in
+        let at_third = at_test + length p in
+        let at_body = first + count_head begin p third in
+        let past = leaving (enter_part p at_test a.leave) a in
+        let past' = leaving (points.enter_part p n name b.leave) b in
+        let inside = looping (enter_parts third at_third past.leave) a in
+        let inside' = looping (points.enter_parts third (n + 1) name past'.leave) b in
+        let again = enter s at_body inside in
+        let again' = points.enter s (λ q. name (0 ∷ q)) inside' in
+        let ways' = test_ways again' b.leave in
+        let init = points.parts_nodes begin 0 name past' in
+        let test = points.part_nodes p 0 (λ k. name [] n k) ways' in
+        let step = points.parts_nodes third (n + 1) name past' in
+        let body = points.nodes s (λ q. name (0 ∷ q)) inside' in
+        let init_held = Held-left first init (test ++ (step ++ body)) h in
+        let later_held = Held-right first (count_parts begin) init (test ++ (step ++ body)) (parts_nodes-length begin 0 name past') h in
+        let test_held = Held-left at_test test (step ++ body) later_held in
+        let last_held = Held-right at_test (length p) test (step ++ body) (part_nodes-length p 0 (λ k. name [] n k) ways') later_held in
+        let step_held = Held-left at_third step body last_held in
+        let is_body : at_third + count_parts third ≡ at_body = omega arith in
+        let body_held = subst (λ k. Held k body) is_body (Held-right at_third (count_parts third) step body (parts_nodes-length third (n + 1) name past') last_held) in
+        let onward = enter_part_same p n at_test a.leave b.leave name ways' m.leave test_held in
+        let beyond : Meets past past' = record { leave = onward; returned = m.returned; broken = m.broken; continued = m.continued } in
+        let in_init = parts_same begin 0 first path name past past' named beyond init_held in
+        let in_step = parts_same third (n + 1) at_third path name past past' named beyond step_held in
+        let within : Meets inside inside' = record { leave = in_step.begins; returned = m.returned; broken = m.leave; continued = in_step.begins } in
+        let in_body = same s at_body (path ++ 0 ∷ []) (λ q. name (0 ∷ q)) inside inside' (deeper path 0 name named) within body_held in
+        let inits = parts_numbered begin 0 first path past in
+        let tests = part_numbered p 0 at_test path n (test_ways again a.leave) in
+        let steps = parts_numbered third (n + 1) at_third path past in
+        let inner = numbered s at_body (path ++ 0 ∷ []) inside in
+        record {
+          begins = in_init.begins;
+          points =
+              ap (map node_named) (append_assoc inits (tests ++ steps) inner ∙ ap (λ l. inits ++ l) (append_assoc tests steps inner))
+              ∙ joined inits (tests ++ (steps ++ inner)) init (test ++ (step ++ body)) in_init.points
+              (joined tests (steps ++ inner) test (step ++ body) (test_same p at_test path n name again a.leave again' b.leave named test_held in_body.begins m.leave)
+              (joined steps inner step body in_step.points in_body.points));
+        }
+    same breaks first path name a b named m h = record { begins = m.broken; points = refl }
+    same continues first path name a b named m h = record { begins = m.continued; points = refl }
 
     pub list_same : (ss : StmtTrees) (i first : ℕ) (path : List ℕ) (name : List ℕ → ℕ → ℕ → PointTree) (a : Around ℕ) (b : Around PointTree) → ((q : List ℕ) (i k : ℕ) → name q i k ≡ at (path ++ q) i k) → Meets a b → Held first (points.nodes_list ss i name b) → Same (enter_list ss first a) (points.enter_list ss i name b) (list_numbered ss i first path a) (points.nodes_list ss i name b)
     list_same no_stmt i first path name a b named m h = record { begins = m.leave; points = refl }
@@ -152,7 +240,7 @@ module _ (at_number : ℕ → Option Site) (f : Name) where
         let here_held = Held-left first here after h in
         let after_held = Held-right first (count s) here after (nodes-length s (λ q. name (i ∷ q)) past') h in
         let later = list_same rest (i + 1) (first + count s) path name a b named m after_held in
-        let beyond : Meets past past' = record { leave = later.begins; returned = m.returned } in
+        let beyond : Meets past past' = record { leave = later.begins; returned = m.returned; broken = m.broken; continued = m.continued } in
         let now = same s first (path ++ i ∷ []) (λ q. name (i ∷ q)) past past' (deeper path i name named) beyond here_held in
         record {
           begins = now.begins;
@@ -176,7 +264,7 @@ function_same at_number f first h =
     let last : Numbered = record { point = exit; label = exits (end_rule f.name f.result); span = f.span; ways = [] } in
     let body_held = Held-left at_number f.name (first + 1) inner (last' ∷ []) h.1 in
     let exit_held = Held-right at_number f.name (first + 1) (count_list f.body) inner (last' ∷ []) (nodes_list-length f.body 0 at to_exit) h.1 in
-    let meets : Meets at_number f.name (by_exit f first) to_exit = record { leave = exit_held.0; returned = exit_held.0 } in
+    let meets : Meets at_number f.name (by_exit f first) to_exit = record { leave = exit_held.0; returned = exit_held.0; broken = exit_held.0; continued = exit_held.0 } in
     let body = list_same at_number f.name f.body 0 (first + 1) [] at (by_exit f first) to_exit (λ q i k. refl) meets body_held in
     let numbers = list_numbered f.body 0 (first + 1) [] (by_exit f first) in
     let both = joined at_number f.name numbers (last ∷ []) inner (last' ∷ []) body.points refl in

@@ -1,10 +1,10 @@
 -- What a vector of statements, parts or calls stands for from a place on.
-use Rattle.std.proofs.Common.{◌≡◌, List, [], ◌∷◌, ◌∙◌, zero, suc, arith, map, refl, ap, sym, ℕ, ◌+◌, ◌-◌, ◌<◌, ◌≤◌, length, get_or, drop, add-one, drop-cons}
+use Rattle.std.proofs.Common.{◌≡◌, List, [], ◌∷◌, ◌∙◌, zero, suc, arith, map, refl, ap, sym, ℕ, ◌+◌, ◌-◌, ◌<◌, ◌≤◌, length, get_or, drop, add-one, add-zero, drop-cons}
 use Rattle.std.proofs.Math.ListN.{drop_of_length-le}
 use Rattle.csub_core.specs.declared.function.RStmt.{RStmt, Row_of-RStmt, end_of-RStmt, more_of-RStmt, items-the_row-RStmt}
 use Rattle.csub_core.specs.declared.function.RPart.{RPart}
-use Rattle.csub_core.specs.Syntax.{StmtTrees, more_stmts, no_stmt, stmt_tree, row_trees, stmts_of, part_tree}
-use Rattle.flow_graph.specs.Numbers.{count, count_parts, count_list}
+use Rattle.csub_core.specs.Syntax.{PartTree, StmtTrees, more_stmts, no_stmt, stmt_tree, row_trees, stmts_of, part_tree}
+use Rattle.flow_graph.specs.Numbers.{count, count_parts, count_list, enter_parts}
 
 pub row_trees-list : {m : _} (row : Row_of-RStmt m) → row_trees row ≡ stmts_of (map stmt_tree (items-the_row-RStmt m row))
 row_trees-list end_of-RStmt = refl
@@ -36,6 +36,17 @@ parts_left ps i d h = rw (drop-cons ps i d h, add-one) refl
 
 pub parts_none : (ps : List RPart) (i : ℕ) → length ps ≤ i → parts_from ps i ≡ 0
 parts_none ps i h = ap (λ l. count_parts (map part_tree l)) (drop_of_length-le ps h)
+
+-- parts begin at the first of their points, and past them where they have none
+pub some_parts_enter : (ps : List PartTree) (first past : ℕ) → 0 < count_parts ps → enter_parts ps first past ≡ first
+some_parts_enter [] first past h = absurd (omega arith)
+some_parts_enter ([] ∷ ps) first past h = some_parts_enter ps (first + 0) past (omega arith) ∙ add-zero first
+some_parts_enter ((s ∷ p) ∷ ps) first past h = refl
+
+pub no_parts_enter : (ps : List PartTree) (first past : ℕ) → count_parts ps ≡ 0 → enter_parts ps first past ≡ past
+no_parts_enter [] first past e = refl
+no_parts_enter ([] ∷ ps) first past e = no_parts_enter ps (first + 0) past (omega arith)
+no_parts_enter ((s ∷ p) ∷ ps) first past e = absurd (omega arith)
 
 -- what stands from a place on, by the line there and those from the next place on
 pub lines_from-back : (ss : List RStmt) (j i : ℕ) (x : RStmt) → j + 1 ≡ i → j < length ss → x ≡ get_or ss j x → lines_from ss j ≡ more_stmts (stmt_tree x) (lines_from ss i)

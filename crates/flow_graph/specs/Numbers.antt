@@ -5,8 +5,8 @@ use Rattle.csub_text.specs.declared.span.Span.{Span}
 use Rattle.csub_core.specs.Types.{Name}
 use Rattle.csub_core.specs.Labels.{LabelTree, enters, exits, label_tree, returns}
 use Rattle.csub_core.specs.Points.{PointTree, entry, exit, at, point_tree, exit_tree, next}
-use Rattle.csub_core.specs.Syntax.{PartTree, StmtTree, StmtTrees, ElseTree, parts, block, conditional, no_stmt, more_stmts, no_else, else_stmt, FunctionTree, ProgramTree}
-use Rattle.csub_core.specs.Successors.{Way, Around, way, leaving, last_ways, test_ways}
+use Rattle.csub_core.specs.Syntax.{PartTree, StmtTree, StmtTrees, ElseTree, parts, block, conditional, while_loop, do_loop, for_loop, breaks, continues, no_stmt, more_stmts, no_else, else_stmt, FunctionTree, ProgramTree}
+use Rattle.csub_core.specs.Successors.{Way, Around, way, leaving, looping, last_ways, test_ways}
 use Rattle.csub_core.specs.Flows.{end_rule}
 use Rattle.flow_graph.specs.declared.node.GraphWay.{GraphWay}
 use Rattle.flow_graph.specs.declared.node.GraphNode.{GraphNode}
@@ -34,18 +34,27 @@ numbered_node n = record {
 
 -- where control goes from a statement, by numbers
 abbrev pub around : Onward → Around ℕ
-around onward = record { leave = onward.leave; returned = onward.returned }
+around onward = record { leave = onward.leave; returned = onward.returned; broken = onward.broken; continued = onward.continued }
 
 -- how many points there are
 abbrev pub count_parts : List PartTree → ℕ
 count_parts [] = 0
 count_parts (p ∷ rest) = length p + count_parts rest
 
+-- those of what stands before the body of a `for`
+abbrev pub count_head : List PartTree → PartTree → List PartTree → ℕ
+count_head first test third = count_parts first + length test + count_parts third
+
 abbrev mutual
   pub count : StmtTree → ℕ
   count (parts ps) = count_parts ps
   count (block stmts) = count_list stmts
   count (conditional p t e) = length p + count t + count_else e
+  count (while_loop p s) = length p + count s
+  count (do_loop s p) = count s + length p
+  count (for_loop first p third s) = count_head first p third + count s
+  count breaks = 0
+  count continues = 0
 
   pub count_list : StmtTrees → ℕ
   count_list no_stmt = 0
@@ -64,12 +73,21 @@ abbrev pub enter_parts : List PartTree → ℕ → ℕ → ℕ
 enter_parts [] first past = past
 enter_parts (p ∷ rest) first past = enter_part p first (enter_parts rest (first + length p) past)
 
+-- where what stands before the body of a `for` begins
+abbrev pub enter_head : List PartTree → PartTree → ℕ → ℕ → ℕ
+enter_head begin test first past = enter_parts begin first (enter_part test (first + count_parts begin) past)
+
 -- the number of the point at which a statement begins
 abbrev mutual
   pub enter : StmtTree → ℕ → Around ℕ → ℕ
   enter (parts ps) first a = enter_parts ps first a.leave
   enter (block stmts) first a = enter_list stmts first a
   enter (conditional p t e) first a = enter_part p first a.leave
+  enter (while_loop p s) first a = enter_part p first a.leave
+  enter (do_loop s p) first a = enter s first (looping (enter_part p (first + count s) a.leave) a)
+  enter (for_loop begin p third s) first a = enter_head begin p first a.leave
+  enter breaks first a = a.broken
+  enter continues first a = a.continued
 
   pub enter_list : StmtTrees → ℕ → Around ℕ → ℕ
   enter_list no_stmt first a = a.leave
@@ -103,6 +121,15 @@ parts_numbered (p ∷ rest) i first path a =
     part_numbered p 0 first path i (last_ways p (enter_parts rest (first + length p) a.leave) a.returned)
     ++ parts_numbered rest (i + 1) (first + length p) path a
 
+-- the points of what stands before the body of a `for`, the body beginning at the point `body`
+abbrev pub head_numbered : List PartTree → PartTree → List PartTree → ℕ → List ℕ → ℕ → Around ℕ → List Numbered
+head_numbered begin p third first path body a =
+    let m = length begin in
+    let at_test = first + count_parts begin in
+    let back = leaving (enter_part p at_test a.leave) a in
+    parts_numbered begin 0 first path back
+    ++ (part_numbered p 0 at_test path m (test_ways body a.leave) ++ parts_numbered third (m + 1) (at_test + length p) path back)
+
 -- the points of the statement at a path
 abbrev mutual
   pub numbered : StmtTree → ℕ → List ℕ → Around ℕ → List Numbered
@@ -111,6 +138,21 @@ abbrev mutual
   numbered (conditional p t e) first path a =
       part_numbered p 0 first path 0 (test_ways (enter t (first + length p) a) (enter_else e (first + length p + count t) a))
       ++ (numbered t (first + length p) (path ++ 0 ∷ []) a ++ else_numbered e (first + length p + count t) (path ++ 1 ∷ []) a)
+  numbered (while_loop p s) first path a =
+      let inside = looping (enter_part p first a.leave) a in
+      part_numbered p 0 first path 0 (test_ways (enter s (first + length p) inside) a.leave)
+      ++ numbered s (first + length p) (path ++ 0 ∷ []) inside
+  numbered (do_loop s p) first path a =
+      let inside = looping (enter_part p (first + count s) a.leave) a in
+      numbered s first (path ++ 0 ∷ []) inside
+      ++ part_numbered p 0 (first + count s) path 0 (test_ways (enter s first inside) a.leave)
+  numbered (for_loop begin p third s) first path a =
+      let at_test = first + count_parts begin in
+      let at_body = first + count_head begin p third in
+      let inside = looping (enter_parts third (at_test + length p) (enter_part p at_test a.leave)) a in
+      head_numbered begin p third first path (enter s at_body inside) a ++ numbered s at_body (path ++ 0 ∷ []) inside
+  numbered breaks first path a = []
+  numbered continues first path a = []
 
   -- from line i of the list on
   pub list_numbered : StmtTrees → ℕ → ℕ → List ℕ → Around ℕ → List Numbered
@@ -135,9 +177,13 @@ count_program (f ∷ rest) = count_function f + count_program rest
 abbrev pub exit_number : FunctionTree → ℕ → ℕ
 exit_number f start = start + 1 + count_list f.body
 
+-- all control leads to one point
+abbrev pub all_to : ℕ → Around ℕ
+all_to n = record { leave = n; returned = n; broken = n; continued = n }
+
 -- control leaves a function by its exit
 abbrev pub by_exit : FunctionTree → ℕ → Around ℕ
-by_exit f start = record { leave = exit_number f start; returned = exit_number f start }
+by_exit f start = all_to (exit_number f start)
 
 -- the points of a function, its entry having the number `start`
 abbrev pub function_numbered : FunctionTree → ℕ → List Numbered

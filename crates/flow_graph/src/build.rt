@@ -56,6 +56,8 @@ fn list_function(
     let onward = Onward {
         leave: exit,
         returned: exit,
+        broken: exit,
+        continued: exit,
     };
     let path = Vec::new(alloc);
     let begin = emit_list(alloc, body, path.as_slice(), exit, onward, &mut nodes)?;

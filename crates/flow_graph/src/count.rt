@@ -1,4 +1,7 @@
 //! How many points a statement has.
+//!
+//! The builder counts the body of a `while` and of a `for` before it makes the body's points, so it counts a point once
+//! for each such loop round it: no more often than the point's path has steps.
 ghost use Rattle.std.specs.Prelude.{◌≡◌, ◌^◌, ◌<◌, length, map};
 ghost use Rattle.csub_core.specs.Syntax.{part_tree, stmt_tree, stmts_of};
 ghost use Rattle.flow_graph.specs.Numbers.{count, count_parts, count_list};
@@ -6,8 +9,8 @@ ghost use Rattle.flow_graph.specs.Numbers.{count, count_parts, count_list};
 use csub_core::{RPart, RStmt};
 
 /// How many points a part has.
-fn count_part(part: &RPart) -> u32
-    requires { length (part_tree part.now) < 2 ^ 30 }
+pub fn count_part(part: &RPart) -> u32
+    requires { length (part_tree part.now) < 2 ^ 32 }
     ensures { result ≡ length (part_tree part.now) }
 {
     let calls = part.calls.len() as u32;
@@ -19,8 +22,8 @@ fn count_part(part: &RPart) -> u32
 
 /// How many points parts have.
 #[tactic(auto, using(crate::proofs::Rows::parts_left, crate::proofs::Rows::parts_none))]
-fn count_parts_of(parts: &[RPart]) -> u32
-    requires { count_parts (map part_tree parts.now) < 2 ^ 30 }
+pub fn count_parts_of(parts: &[RPart]) -> u32
+    requires { count_parts (map part_tree parts.now) < 2 ^ 32 }
     ensures { result ≡ count_parts (map part_tree parts.now) }
 {
     let mut sum = 0;
@@ -32,8 +35,8 @@ fn count_parts_of(parts: &[RPart]) -> u32
 
 /// How many points a statement has.
 #[cycle(count)]
-fn count_of(stmt: &RStmt) -> u32
-    requires { count (stmt_tree stmt.now) < 2 ^ 30 }
+pub fn count_of(stmt: &RStmt) -> u32
+    requires { count (stmt_tree stmt.now) < 2 ^ 32 }
     ensures { result ≡ count (stmt_tree stmt.now) }
 {
     match stmt {
@@ -46,6 +49,12 @@ fn count_of(stmt: &RStmt) -> u32
             };
             count_part(test) + count_of(then) + inner
         }
+        RStmt::While(test, body) | RStmt::Do(body, test) => count_part(test) + count_of(body),
+        RStmt::For(first, test, third, body) => {
+            let head = count_parts_of(first.as_slice()) + count_part(test);
+            head + count_parts_of(third.as_slice()) + count_of(body)
+        }
+        RStmt::Break | RStmt::Continue => 0,
     }
 }
 
@@ -53,7 +62,7 @@ fn count_of(stmt: &RStmt) -> u32
 #[cycle(count)]
 #[tactic(auto, using(crate::proofs::Rows::count_left, crate::proofs::Rows::count_none))]
 pub fn count_all(stmts: &[RStmt]) -> u32
-    requires { count_list (stmts_of (map stmt_tree stmts.now)) < 2 ^ 30 }
+    requires { count_list (stmts_of (map stmt_tree stmts.now)) < 2 ^ 32 }
     ensures { result ≡ count_list (stmts_of (map stmt_tree stmts.now)) }
 {
     let mut sum = 0;

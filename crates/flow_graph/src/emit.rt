@@ -1,30 +1,47 @@
 //! The points of statements, by their numbers, last first: where a statement leads to is known from what follows it.
-ghost use Rattle.std.specs.Prelude.{◌≡◌, ◌≤◌, ◌+◌, ◌++◌, IfOk, ◌∷◌, map, reverse, length};
+ghost use Rattle.std.specs.Prelude.{◌≡◌, ◌≤◌, ◌+◌, ◌++◌, IfOk, [], ◌∷◌, map, reverse, length};
 ghost use Rattle.std.specs.Option.{option_map};
 ghost use Rattle.csub_core.specs.Labels.{label_tree};
-ghost use Rattle.csub_core.specs.Syntax.{call_stage, part_tree, stmt_tree, stmts_of};
-ghost use Rattle.flow_graph.specs.Numbers.{numbered_way, numbered_node, around, count, count_parts, count_list, enter, enter_part, enter_parts, enter_list, past_label, part_numbered, parts_numbered, numbered, list_numbered};
+ghost use Rattle.csub_core.specs.Syntax.{call_stage, part_tree, do_loop, for_loop, stmt_tree, stmts_of};
+ghost use Rattle.csub_core.specs.Successors.{looping};
+ghost use Rattle.flow_graph.specs.Numbers.{numbered_way, numbered_node, around, count, count_parts, count_head, count_list, enter, enter_part, enter_parts, enter_head, enter_list, past_label, part_numbered, parts_numbered, head_numbered, numbered, list_numbered};
 
+use crate::begin::{Begin, begin_again, part_begin};
+use crate::count::count_of;
 use crate::node::{GraphNode, GraphWay, inner_path, one_way, point_at, step, test_ways};
 use csub_core::{Label, RCall, RPart, RStmt, copy_call, copy_label};
 use std::alloc::{AllocError, Global};
 
-/// Where control goes from a statement: past its end, and at a return.
+/// Where control goes from a statement: past its end, at a return, and in a loop at a `break` and at a `continue`.
 #[derive(Clone, Copy, Debug, PartialEq, Eq)]
 pub struct Onward {
     /// The point past the end.
     pub leave: u32,
     /// The function's exit.
     pub returned: u32,
+    /// The point past the loop.
+    pub broken: u32,
+    /// What comes next in the loop.
+    pub continued: u32,
 }
 
-/// Where a statement begins.
-#[derive(Clone, Copy, Debug, PartialEq, Eq)]
-pub struct Begin {
-    /// The number of its first point, if it has one, and of the point behind it, if not.
-    pub first: u32,
-    /// The point at which it begins.
-    pub enter: u32,
+/// What stands round the body of a loop, in which `next` comes next.
+fn inside(onward: Onward, next: u32) -> Onward
+    ensures { around result ≡ looping next (around onward) }
+{
+    Onward {
+        leave: next,
+        returned: onward.returned,
+        broken: onward.leave,
+        continued: next,
+    }
+}
+
+/// Where a statement without points begins, if control goes from it to `enter`.
+fn ends(end: u32, enter: u32) -> Begin
+    ensures { (result.first ≡ end) × (result.enter ≡ enter) }
+{
+    Begin { first: end, enter }
 }
 
 /// Appends the calls of a part, last first; the number behind the last is `end`, and its ways out are `ways`.
@@ -120,11 +137,12 @@ fn past_part(part: &RPart, past: u32, returned: u32) -> u32
     }
 }
 
-/// Appends the points of the parts of a statement, last first.
+/// Appends the points of the parts of a statement, last first; the first of them has the index `from`.
 fn emit_parts(
     alloc: Global,
     parts: &[RPart],
     path: &[u32],
+    from: u32,
     end: u32,
     onward: Onward,
     out: &mut Vec<GraphNode>,
@@ -132,18 +150,49 @@ fn emit_parts(
     requires { count_parts (map part_tree parts.now) ≤ end }
     ensures first { IfOk result (λ begin. begin.first + count_parts (map part_tree parts.now) ≡ end) }
     ensures enter { IfOk result (λ begin. begin.enter ≡ enter_parts (map part_tree parts.now) begin.first onward.leave) }
-    ensures nodes { IfOk result (λ begin. map numbered_node out.new.items ≡ map numbered_node out.old.items ++ reverse (parts_numbered (map part_tree parts.now) 0 begin.first path.now (around onward))) }
+    ensures nodes { IfOk result (λ begin. map numbered_node out.new.items ≡ map numbered_node out.old.items ++ reverse (parts_numbered (map part_tree parts.now) from begin.first path.now (around onward))) }
 {
     let mut first = end;
     let mut enter = onward.leave;
     for i in (0..parts.len()).rev() {
         let part = &parts[i];
         let ways = one_way(alloc, past_part(part, enter, onward.returned))?;
-        let begin = emit_part(alloc, part, path, step(i)?, first, ways, enter, out)?;
+        let index = step(from as usize + i)?;
+        let begin = emit_part(alloc, part, path, index, first, ways, enter, out)?;
         first = begin.first;
         enter = begin.enter;
     }
     Ok(Begin { first, enter })
+}
+
+/// Appends the points of what stands before the body of a `for`, last first.
+fn emit_head(
+    alloc: Global,
+    first: &[RPart],
+    test: &RPart,
+    third: &[RPart],
+    path: &[u32],
+    body: Begin,
+    onward: Onward,
+    out: &mut Vec<GraphNode>,
+) -> Result<Begin, AllocError>
+    requires { count_head (map part_tree first.now) (part_tree test.now) (map part_tree third.now) ≤ body.first }
+    ensures first { IfOk result (λ begin. begin.first + count_head (map part_tree first.now) (part_tree test.now) (map part_tree third.now) ≡ body.first) }
+    ensures enter { IfOk result (λ begin. begin.enter ≡ enter_head (map part_tree first.now) (part_tree test.now) begin.first onward.leave) }
+    ensures nodes { IfOk result (λ begin. map numbered_node out.new.items ≡ map numbered_node out.old.items ++ reverse (head_numbered (map part_tree first.now) (part_tree test.now) (map part_tree third.now) begin.first path.now body.enter (around onward))) }
+{
+    let again = begin_again(test, third, body.first, onward.leave);
+    let back = Onward {
+        leave: again.test.enter,
+        ..onward
+    };
+    let behind = step(first.len() + 1)?;
+    let end = emit_parts(alloc, third, path, behind, body.first, back, out)?.first;
+    let ways = test_ways(alloc, body.enter, onward.leave)?;
+    let index = step(first.len())?;
+    let end = emit_part(alloc, test, path, index, end, ways, onward.leave, out)?.first;
+    let begin = emit_parts(alloc, first, path, 0, end, back, out)?;
+    Ok(begin)
 }
 
 /// Appends the points of the statement at `path`, last first; the number behind its last point is `end`.
@@ -162,26 +211,102 @@ fn emit(
     ensures nodes { IfOk result (λ begin. map numbered_node out.new.items ≡ map numbered_node out.old.items ++ reverse (numbered (stmt_tree stmt.now) begin.first path.now (around onward))) }
 {
     match stmt {
-        RStmt::Parts(parts) => emit_parts(alloc, parts.as_slice(), path, end, onward, out),
+        RStmt::Parts(parts) => emit_parts(alloc, parts.as_slice(), path, 0, end, onward, out),
         RStmt::Block(stmts) => emit_list(alloc, stmts.as_slice(), path, end, onward, out),
         RStmt::If(test, then, other) => {
             let on_false = match other {
-                None => Begin {
-                    first: end,
-                    enter: onward.leave,
-                },
-                Some(stmt) => {
-                    let inner = inner_path(alloc, path, 1)?;
-                    emit(alloc, stmt, inner.as_slice(), end, onward, out)?
-                }
+                None => ends(end, onward.leave),
+                Some(stmt) => emit_inner(alloc, stmt, path, 1, end, onward, out)?,
             };
-            let inner = inner_path(alloc, path, 0)?;
-            let on_true = emit(alloc, then, inner.as_slice(), on_false.first, onward, out)?;
+            let on_true = emit_inner(alloc, then, path, 0, on_false.first, onward, out)?;
             let ways = test_ways(alloc, on_true.enter, on_false.enter)?;
-            let begin = emit_part(alloc, test, path, 0, on_true.first, ways, onward.leave, out)?;
-            Ok(begin)
+            emit_part(alloc, test, path, 0, on_true.first, ways, onward.leave, out)
         }
+        RStmt::While(test, body) => emit_for(alloc, &[], test, &[], body, path, end, onward, out),
+        RStmt::Do(body, test) => emit_do(alloc, body, test, path, end, onward, out),
+        RStmt::For(first, test, third, body) => {
+            let (first, third) = (first.as_slice(), third.as_slice());
+            emit_for(alloc, first, test, third, body, path, end, onward, out)
+        }
+        RStmt::Break => Ok(ends(end, onward.broken)),
+        RStmt::Continue => Ok(ends(end, onward.continued)),
     }
+}
+
+/// Appends the points of a statement inside the one at `path`, as [`emit`] does.
+#[cycle(emit)]
+fn emit_inner(
+    alloc: Global,
+    stmt: &RStmt,
+    path: &[u32],
+    step: u32,
+    end: u32,
+    onward: Onward,
+    out: &mut Vec<GraphNode>,
+) -> Result<Begin, AllocError>
+    requires { count (stmt_tree stmt.now) ≤ end }
+    ensures first { IfOk result (λ begin. begin.first + count (stmt_tree stmt.now) ≡ end) }
+    ensures enter { IfOk result (λ begin. begin.enter ≡ enter (stmt_tree stmt.now) begin.first (around onward)) }
+    ensures nodes { IfOk result (λ begin. map numbered_node out.new.items ≡ map numbered_node out.old.items ++ reverse (numbered (stmt_tree stmt.now) begin.first (path.now ++ step ∷ []) (around onward))) }
+{
+    let inner = inner_path(alloc, path, step)?;
+    let begin = emit(alloc, stmt, inner.as_slice(), end, onward, out)?;
+    Ok(begin)
+}
+
+/// Appends the points of a `for`, or of a `while`, which is a `for` of a test alone.
+///
+/// The end of its body leads back to points before the body's, so the body's are counted first.
+#[cycle(emit)]
+fn emit_for(
+    alloc: Global,
+    first: &[RPart],
+    test: &RPart,
+    third: &[RPart],
+    body: &RStmt,
+    path: &[u32],
+    end: u32,
+    onward: Onward,
+    out: &mut Vec<GraphNode>,
+) -> Result<Begin, AllocError>
+    requires { count (for_loop (map part_tree first.now) (part_tree test.now) (map part_tree third.now) (stmt_tree body.now)) ≤ end }
+    ensures first { IfOk result (λ begin. begin.first + count (for_loop (map part_tree first.now) (part_tree test.now) (map part_tree third.now) (stmt_tree body.now)) ≡ end) }
+    ensures enter { IfOk result (λ begin. begin.enter ≡ enter (for_loop (map part_tree first.now) (part_tree test.now) (map part_tree third.now) (stmt_tree body.now)) begin.first (around onward)) }
+    ensures nodes { IfOk result (λ begin. map numbered_node out.new.items ≡ map numbered_node out.old.items ++ reverse (numbered (for_loop (map part_tree first.now) (part_tree test.now) (map part_tree third.now) (stmt_tree body.now)) begin.first path.now (around onward))) }
+{
+    let again = begin_again(test, third, end - count_of(body), onward.leave);
+    let within = inside(onward, again.third.enter);
+    let begun = emit_inner(alloc, body, path, 0, end, within, out)?;
+    let begin = emit_head(alloc, first, test, third, path, begun, onward, out)?;
+    Ok(begin)
+}
+
+/// Appends the points of a `do`.
+///
+/// Its test leads back to where its body begins, so the body's points are made first, and moved behind the test's.
+#[cycle(emit)]
+fn emit_do(
+    alloc: Global,
+    body: &RStmt,
+    test: &RPart,
+    path: &[u32],
+    end: u32,
+    onward: Onward,
+    out: &mut Vec<GraphNode>,
+) -> Result<Begin, AllocError>
+    requires { count (do_loop (stmt_tree body.now) (part_tree test.now)) ≤ end }
+    ensures first { IfOk result (λ begin. begin.first + count (do_loop (stmt_tree body.now) (part_tree test.now)) ≡ end) }
+    ensures enter { IfOk result (λ begin. begin.enter ≡ enter (do_loop (stmt_tree body.now) (part_tree test.now)) begin.first (around onward)) }
+    ensures nodes { IfOk result (λ begin. map numbered_node out.new.items ≡ map numbered_node out.old.items ++ reverse (numbered (do_loop (stmt_tree body.now) (part_tree test.now)) begin.first path.now (around onward))) }
+{
+    let tested = part_begin(test, end, onward.leave);
+    let within = inside(onward, tested.enter);
+    let mut nodes = Vec::new(alloc);
+    let begun = emit_inner(alloc, body, path, 0, tested.first, within, &mut nodes)?;
+    let ways = test_ways(alloc, begun.enter, onward.leave)?;
+    emit_part(alloc, test, path, 0, end, ways, onward.leave, out)?;
+    out.append(&mut nodes)?;
+    Ok(begun)
 }
 
 /// Appends the points of the lines of the list at `path`, last first; the number behind its last point is `end`.
@@ -203,12 +328,11 @@ pub fn emit_list(
     let mut enter = onward.leave;
     for i in (0..stmts.len()).rev() {
         let stmt = &stmts[i];
-        let inner = inner_path(alloc, path, step(i)?)?;
         let past = Onward {
             leave: enter,
-            returned: onward.returned,
+            ..onward
         };
-        let begin = emit(alloc, stmt, inner.as_slice(), first, past, out)?;
+        let begin = emit_inner(alloc, stmt, path, step(i)?, first, past, out)?;
         first = begin.first;
         enter = begin.enter;
     }

@@ -55,8 +55,8 @@ pub struct EdgeEnds<'a> {
 }
 
 impl Graph {
-    /// The graph of a program. An `Err` is want of memory. The work is in proportion to the points, their paths and
-    /// their labels.
+    /// The graph of a program. An `Err` is want of memory. The work is in proportion to the labels, and to the
+    /// statements and the points, each times the length of its path.
     pub fn build(alloc: Global, program: &Program) -> Result<Graph, AllocError>
         ensures { IfOk result (λ graph. IsGraphOf graph (map function_tree program.now)) }
     {

@@ -6,6 +6,7 @@
 //! a number, in the words of the record `flow_of` between a program and all that runs or walks it.
 #![tactic(auto)]
 
+mod begin;
 mod build;
 mod count;
 mod edges;

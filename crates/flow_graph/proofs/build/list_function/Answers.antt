@@ -9,7 +9,7 @@ use Rattle.csub_core.specs.Successors.{Way, way}
 use Rattle.csub_core.specs.Flows.{end_rule}
 use Rattle.flow_graph.specs.declared.node.GraphNode.{GraphNode}
 use Rattle.flow_graph.specs.declared.node.GraphWay.{GraphWay}
-use Rattle.flow_graph.specs.Numbers.{Numbered, numbered_node, numbered_way, count_list, enter_list, list_numbered, exit_number}
+use Rattle.flow_graph.specs.Numbers.{Numbered, numbered_node, numbered_way, count_list, enter_list, list_numbered, exit_number, all_to}
 use Rattle.flow_graph.proofs.Listed.{turned_round}
 use Rattle.flow_graph.proofs.build.list_function.Goals as goal
 
@@ -27,7 +27,7 @@ returns c =
     let is_first : first ≡ start + 1 = omega arith in
     let is_last : last ≡ exit_number tree start = ap (λ n. start + 1 + n) (counted ∙ ap (λ b. count_list (stmts_of (map stmt_tree b))) value) in
     let is_path : c.as_slice.result.now ≡ [] = c.as_slice.ensures.value ∙ c.new-path.ensures.items in
-    let lines = λ (b : List RStmt) (n : ℕ) (path : List ℕ) (e : ℕ). list_numbered (stmts_of (map stmt_tree b)) 0 n path (record { leave = e; returned = e }) in
+    let lines = λ (b : List RStmt) (n : ℕ) (path : List ℕ) (e : ℕ). list_numbered (stmts_of (map stmt_tree b)) 0 n path (all_to e) in
     let leave = λ (l : List GraphNode) (r : EndRule) (w : List GraphWay). map numbered_node l ++ record { point = exit; label = exits r; span = f.span; ways = map numbered_way w } ∷ [] in
     let pushed =
     ap (map numbered_node) c.in_ok-push.ensures.items
@@ -43,7 +43,7 @@ returns c =
     ∙ ap (λ n. (last_node ∷ []) ++ reverse (lines f.body.items n c.as_slice.result.now last)) is_first
     ∙ ap (λ p. (last_node ∷ []) ++ reverse (lines f.body.items (start + 1) p last)) is_path
     ∙ ap (λ e. (last_node ∷ []) ++ reverse (lines f.body.items (start + 1) [] e)) is_last in
-    let begins = λ (b : List RStmt) (n : ℕ) (e : ℕ). way next (enter_list (stmts_of (map stmt_tree b)) n (record { leave = e; returned = e })) ∷ [] in
+    let begins = λ (b : List RStmt) (n : ℕ) (e : ℕ). way next (enter_list (stmts_of (map stmt_tree b)) n (all_to e)) ∷ [] in
     let one =
     c.in_ok-one_way.ensures
     ∙ ap (λ n. way next n ∷ []) c.in_ok-begin.ensures.enter

@@ -1,7 +1,10 @@
-use Rattle.std.proofs.Common.{rules, arith, ◌-◌, ◌<◌, ap, length}
+use Rattle.std.proofs.Common.{rules, arith, ◌≡◌, ◌+◌, ◌-◌, ◌<◌, ◌∙◌, ap, map, length}
 use Rattle.csub_core.specs.declared.function.RStmt.{the_lemmas}
 use denote.Param.Weighed.{at_most}
 use Rattle.csub_core.proofs.function.RStmt.TheLaws.{the_size}
+use Rattle.csub_core.specs.Syntax.{part_tree, stmt_tree}
+use Rattle.flow_graph.specs.Numbers.{around, count_parts, count_head, enter_part, enter_parts}
+use Rattle.flow_graph.proofs.Emitted.{for_emitted}
 use Rattle.flow_graph.proofs.Rows.{row_trees-list, room_back}
 use Rattle.flow_graph.proofs.emit.+emit.Goals as goal
 
@@ -17,10 +20,28 @@ emit-returns-in-Block-clause-enter t c = search (rules, row_trees-list, the_lemm
 pub emit-returns-in-Block-clause-nodes : goal.emit-returns-in-Block-clause-nodes
 emit-returns-in-Block-clause-nodes t c = search (rules, row_trees-list, the_lemmas)
 
-pub emit_list-emit-requires : goal.emit_list-emit-requires
-emit_list-emit-requires t c =
+pub emit_list-emit_inner-requires : goal.emit_list-emit_inner-requires
+emit_list-emit_inner-requires t c =
     let room = room_back c.args.stmts.now c.loop-i.i c.loop-i.first c.args.end c.index-stmts-i.result c.loop-i-test.true c.loop-i.auto.i c.index-stmts-i.is c.loop-i.invariant.place c.requires in
     let below : c.loop-i.i - 1 < length c.args.stmts.now = omega arith in
     let less = at_most the_size c.args.stmts.now (c.loop-i.i - 1) c.index-stmts-i.result below in
     let same = ap the_size c.index-stmts-i.is in
     (search rules, room)
+
+pub emit_for-returns-clause-nodes : goal.emit_for-returns-clause-nodes
+emit_for-returns-clause-nodes t c =
+    let begin = map part_tree c.args.first.now in
+    let test = part_tree c.args.test.now in
+    let third = map part_tree c.args.third.now in
+    let again = c.begin_again-again.result in
+    let first = c.in_ok-begin.begin.first in
+    let at_end : first + count_head begin test third ≡ c.in_ok-begun.begun.first = c.in_ok-begin.ensures.first in
+    let at_body : c.args.end - c.count_of.result ≡ c.in_ok-begun.begun.first = omega (arith, c.in_ok-begun.ensures.first, c.count_of.ensures) in
+    let at_third : again.third.first ≡ first + count_parts begin + length test = omega (arith, at_end, at_body, c.begin_again-again.ensures.third_first) in
+    let at_test : again.test.first ≡ first + count_parts begin = omega (arith, at_third, c.begin_again-again.ensures.test_first) in
+    let onward =
+    c.begin_again-again.ensures.third_enter
+    ∙ ap (λ e. enter_parts third again.third.first e) c.begin_again-again.ensures.test_enter
+    ∙ ap (λ k. enter_parts third again.third.first (enter_part test k c.args.onward.leave)) at_test
+    ∙ ap (λ k. enter_parts third k (enter_part test (first + count_parts begin) c.args.onward.leave)) at_third in
+    for_emitted begin test third (stmt_tree c.args.body.now) first c.args.path.now (around c.args.onward) (around c.inside-within.result) c.in_ok-begun.begun.enter c.in_ok-begun.begun.first again.third.enter _ _ _ at_end c.inside-within.ensures onward c.in_ok-begun.ensures.enter c.in_ok-begun.ensures.nodes c.in_ok-begin.ensures.nodes

@@ -22,9 +22,9 @@ loop-i-preserved c =
     let ways = c.in_ok-ways.ensures ∙ ap (λ n. way next n ∷ []) c.past_part.ensures in
     let emitted =
     c.in_ok-begin.ensures.nodes
-    ∙ ap (λ w. map numbered_node c.loop-i.out.items ++ reverse (part_numbered (part_tree x) 0 first c.args.path.now c.in_ok-step.field-0 w)) ways
-    ∙ ap (λ k. map numbered_node c.loop-i.out.items ++ reverse (part_numbered (part_tree x) 0 first c.args.path.now k (way next (past_label (option_map label_tree x.main) c.loop-i.enter c.args.onward.returned) ∷ []))) c.in_ok-step.ensures in
-    let made = parts_emitted c.args.parts.now (c.loop-i.i - 1) c.loop-i.i x first c.loop-i.first c.args.path.now (around c.args.onward) c.loop-i.enter (map numbered_node c.args.out.now.items) (map numbered_node c.loop-i.out.items) (map numbered_node c.emit_part.new.out.items) onward below c.index-parts-i.is c.in_ok-begin.ensures.first c.loop-i.invariant.begins c.loop-i.invariant.points emitted in
+    ∙ ap (λ w. map numbered_node c.loop-i.out.items ++ reverse (part_numbered (part_tree x) 0 first c.args.path.now c.in_ok-index.index w)) ways
+    ∙ ap (λ k. map numbered_node c.loop-i.out.items ++ reverse (part_numbered (part_tree x) 0 first c.args.path.now k (way next (past_label (option_map label_tree x.main) c.loop-i.enter c.args.onward.returned) ∷ []))) c.in_ok-index.ensures in
+    let made = parts_emitted c.args.parts.now c.args.from (c.loop-i.i - 1) c.loop-i.i x first c.loop-i.first c.args.path.now (around c.args.onward) c.loop-i.enter (map numbered_node c.args.out.now.items) (map numbered_node c.loop-i.out.items) (map numbered_node c.emit_part.new.out.items) onward below c.index-parts-i.is c.in_ok-begin.ensures.first c.loop-i.invariant.begins c.loop-i.invariant.points emitted in
     record {
       place = made.place ∙ c.loop-i.invariant.place;
       begins = c.in_ok-begin.ensures.enter ∙ made.begins;

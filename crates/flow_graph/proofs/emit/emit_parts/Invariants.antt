@@ -9,5 +9,5 @@ invariant-loop-i l =
     record {
       place : l.first + parts_from l.parts l.i ≡ l.end;
       begins : l.enter ≡ enter_parts (map part_tree (drop l.i l.parts)) l.first l.onward.leave;
-      points : map numbered_node l.out.items ≡ map numbered_node l.initial.out.items ++ reverse (parts_numbered (map part_tree (drop l.i l.parts)) l.i l.first l.path (around l.onward));
+      points : map numbered_node l.out.items ≡ map numbered_node l.initial.out.items ++ reverse (parts_numbered (map part_tree (drop l.i l.parts)) (l.from + l.i) l.first l.path (around l.onward));
     }
