@@ -2,6 +2,10 @@
 use Rattle.std.proofs.Common.{◌≡◌, ℤ, List, [], ◌∷◌, Option, Some, None, Bool, true, false, int_eq, refl, sym, ap, inl, inr, true≢false}
 use Rattle.std.specs.Cmp.{signed_Decides}
 use Rattle.std.proofs.lemmas.Bool.{cases_eq}
+use Rattle.csub_text.specs.declared.operator.UnaryOp.{UnaryOp}
+use Rattle.csub_text.specs.declared.operator.UnaryOp.TheVariants.{Plus, Minus, Not, Flip}
+use Rattle.csub_text.specs.declared.operator.StepOp.{StepOp}
+use Rattle.csub_text.specs.declared.operator.StepOp.TheVariants.{PreUp, PreDown, PostUp, PostDown}
 use Rattle.csub_text.specs.declared.operator.BinOp.{BinOp}
 use Rattle.csub_text.specs.declared.operator.BinOp.TheVariants.{Mul, Div, Rem, Add, Sub, Shl, Shr, Lt, Gt, Le, Ge, Eq, Ne, BitAnd, BitXor, BitOr}
 use Rattle.csub_types.specs.declared.kind.IntKind.{IntKind}
@@ -9,8 +13,8 @@ use Rattle.csub_types.specs.declared.kind.IntKind.TheVariants.{Char, Int, Unsign
 use Rattle.csub_core.specs.declared.label.EndRule.{EndRule}
 use Rattle.csub_core.specs.declared.label.EndRule.TheVariants.{Nothing, Value, Main, Start}
 use Rattle.csub_core.specs.Types.{Name, TypeTree, number_type, MemberTree}
-use Rattle.csub_core.specs.Trees.{NamedPlace, NamedExpr, NamedArg, variable, constant, reading, operation, input_byte, output_byte, value_argument, OwnerTree, global_owner, local_owner, Variable, object, temporary}
-use Rattle.csub_core.specs.Labels.{LabelTree, enters, exits, evaluates, branches, returns, calls, AnswerTree, CallTree, Initial, PointLabel}
+use Rattle.csub_core.specs.Trees.{NamedPlace, NamedExpr, NamedArg, variable, constant, reading, unary_operation, conversion, stepping, operation, conjunction, disjunction, choice, assignment, update, input_byte, output_byte, value_argument, OwnerTree, global_owner, local_owner, Variable, object, temporary}
+use Rattle.csub_core.specs.Labels.{LabelTree, enters, exits, evaluates, initialises, branches, returns, calls, AnswerTree, CallTree, InitTree, one_value, Initial, PointLabel}
 use Rattle.program_laws.specs.Decided.{Decided}
 
 -- what is built of one part, two or more is equal where all the parts are
@@ -79,6 +83,26 @@ end_rules Main _ = inr (λ e. cc)
 end_rules Start Start = inl refl
 end_rules Start _ = inr (λ e. cc)
 
+unary_operators : (a b : UnaryOp) → Decided a b
+unary_operators Plus Plus = inl refl
+unary_operators Plus _ = inr (λ e. cc)
+unary_operators Minus Minus = inl refl
+unary_operators Minus _ = inr (λ e. cc)
+unary_operators Not Not = inl refl
+unary_operators Not _ = inr (λ e. cc)
+unary_operators Flip Flip = inl refl
+unary_operators Flip _ = inr (λ e. cc)
+
+step_operators : (a b : StepOp) → Decided a b
+step_operators PreUp PreUp = inl refl
+step_operators PreUp _ = inr (λ e. cc)
+step_operators PreDown PreDown = inl refl
+step_operators PreDown _ = inr (λ e. cc)
+step_operators PostUp PostUp = inl refl
+step_operators PostUp _ = inr (λ e. cc)
+step_operators PostDown PostDown = inl refl
+step_operators PostDown _ = inr (λ e. cc)
+
 operators : (a b : BinOp) → Decided a b
 operators Mul Mul = inl refl
 operators Mul _ = inr (λ e. cc)
@@ -136,8 +160,24 @@ exprs (constant k v) (constant j w) = two constant k j v w (λ e. (cc, cc)) (kin
 exprs (constant k v) _ = inr (λ e. cc)
 exprs (reading p) (reading q) = one reading p q (λ e. cc) (places p q)
 exprs (reading p) _ = inr (λ e. cc)
+exprs (unary_operation o k a) (unary_operation u j b) = three unary_operation o u k j a b (λ e. (cc, cc, cc)) (unary_operators o u) (kinds k j) (exprs a b)
+exprs (unary_operation o k a) _ = inr (λ e. cc)
+exprs (conversion k a) (conversion j b) = two conversion k j a b (λ e. (cc, cc)) (kinds k j) (exprs a b)
+exprs (conversion k a) _ = inr (λ e. cc)
+exprs (stepping o p) (stepping u q) = two stepping o u p q (λ e. (cc, cc)) (step_operators o u) (places p q)
+exprs (stepping o p) _ = inr (λ e. cc)
 exprs (operation o k a b) (operation u j c d) = four operation o u k j a c b d (λ e. (cc, cc, cc, cc)) (operators o u) (kinds k j) (exprs a c) (exprs b d)
 exprs (operation o k a b) _ = inr (λ e. cc)
+exprs (conjunction a b) (conjunction c d) = two conjunction a c b d (λ e. (cc, cc)) (exprs a c) (exprs b d)
+exprs (conjunction a b) _ = inr (λ e. cc)
+exprs (disjunction a b) (disjunction c d) = two disjunction a c b d (λ e. (cc, cc)) (exprs a c) (exprs b d)
+exprs (disjunction a b) _ = inr (λ e. cc)
+exprs (choice k x a b) (choice j y c d) = four choice k j x y a c b d (λ e. (cc, cc, cc, cc)) (kinds k j) (exprs x y) (exprs a c) (exprs b d)
+exprs (choice k x a b) _ = inr (λ e. cc)
+exprs (assignment p a) (assignment q b) = two assignment p q a b (λ e. (cc, cc)) (places p q) (exprs a b)
+exprs (assignment p a) _ = inr (λ e. cc)
+exprs (update p o k a) (update q u j b) = four update p q o u k j a b (λ e. (cc, cc, cc, cc)) (places p q) (operators o u) (kinds k j) (exprs a b)
+exprs (update p o k a) _ = inr (λ e. cc)
 exprs input_byte input_byte = inl refl
 exprs input_byte _ = inr (λ e. cc)
 exprs (output_byte a) (output_byte b) = one output_byte a b (λ e. cc) (exprs a b)
@@ -163,6 +203,9 @@ call_trees a b = join (names a.callee b.callee) (lists members a.params b.params
     join (inl c) (inl p) (inl r) (inr n) t = inr (λ e. n (ap (λ (c : CallTree). c.args) e))
     join (inl c) (inl p) (inl r) (inl x) (inr n) = inr (λ e. n (ap (λ (c : CallTree). c.temp) e))
 
+inits : (a b : InitTree) → Decided a b
+inits (one_value a) (one_value b) = one one_value a b (λ e. cc) (exprs a b)
+
 pub labels_alike : (a b : LabelTree) → Decided a b
 labels_alike enters enters = inl refl
 labels_alike enters _ = inr (λ e. cc)
@@ -170,6 +213,8 @@ labels_alike (exits r) (exits u) = one exits r u (λ e. cc) (end_rules r u)
 labels_alike (exits r) _ = inr (λ e. cc)
 labels_alike (evaluates a) (evaluates b) = one evaluates a b (λ e. cc) (exprs a b)
 labels_alike (evaluates a) _ = inr (λ e. cc)
+labels_alike (initialises o t a) (initialises p u b) = three initialises o p t u a b (λ e. (cc, cc, cc)) (owners o p) (types t u) (inits a b)
+labels_alike (initialises o t a) _ = inr (λ e. cc)
 labels_alike (branches a) (branches b) = one branches a b (λ e. cc) (exprs a b)
 labels_alike (branches a) _ = inr (λ e. cc)
 labels_alike (returns a) (returns b) = one returns a b (λ e. cc) (options answers a b)

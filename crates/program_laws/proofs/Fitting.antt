@@ -7,8 +7,8 @@ use Rattle.csub_types.specs.declared.kind.IntKind.TheVariants.{Int}
 use Rattle.csub_core.specs.declared.status.Status.{Status}
 use Rattle.csub_core.specs.declared.status.Status.TheVariants.{Exit, Trap}
 use Rattle.csub_core.specs.Types.{Name}
-use Rattle.csub_core.specs.Trees.{reading, variable, temporary}
-use Rattle.csub_core.specs.Labels.{LabelTree, enters, exits, evaluates, branches, returns, calls}
+use Rattle.csub_core.specs.Trees.{reading, assignment, variable, object, temporary}
+use Rattle.csub_core.specs.Labels.{LabelTree, enters, exits, evaluates, initialises, branches, returns, calls, one_value}
 use Rattle.csub_core.specs.Points.{on_true, on_false}
 use Rattle.csub_core.specs.Memory.{Answer, value, trapped, low_byte}
 use Rattle.csub_core.specs.Evaluation.{eval}
@@ -41,6 +41,8 @@ pub fits : (l : LabelTree) (n : ℕ) (r : Option ℤ) (s : Store) → Fits l (ac
 fits enters n r s = refl
 fits (exits rule) n r s = fits_end rule n r s
 fits (evaluates e) n r s = fits_after (LeavesBy IsNext) (eval (named (n - 1)) e s) _ (λ v t. refl) (λ t u. tt)
+fits (initialises owner t (one_value e)) n r s =
+    fits_after (LeavesBy IsNext) (eval (named (n - 1)) (assignment (variable (object owner t)) e) s) _ (λ v u. refl) (λ t u. tt)
 fits (branches e) n r s = fits_after (LeavesBy IsOfTest) (eval (named (n - 1)) e s) _ (λ v t. of_test (int_eq v (pos 0))) (λ t u. tt)
 fits (returns None) n r s = refl
 fits (returns (Some a)) n r s = fits_after (LeavesBy IsNext) (eval (named (n - 1)) a.value s) _ (λ v t. refl) (λ t u. tt)

@@ -8,7 +8,7 @@ use Rattle.csub_core.specs.Syntax.{FunctionTree, ProgramTree}
 use Rattle.csub_core.specs.Points.{PointTree, entry, at, point_eq, ExitTree, next}
 use Rattle.csub_core.specs.Successors.{Way, Node, way, enter_list}
 use Rattle.csub_core.specs.Flows.{name_eq, start_name, to_exit, function_nodes, function_of, node_in, node_of, way_in, way_of, cases_in, cases_of, labelled, flow_of}
-use Rattle.csub_core.specs.Valid.{IsDefinedAs, AreStmts, BeginsWithStart, IsValid}
+use Rattle.csub_core.specs.Valid.{IsDefinedAs, AreStmts, no_loop, BeginsWithStart, IsValid}
 use Rattle.program_laws.specs.Flows.{entry_label}
 use Rattle.program_laws.proofs.Lists.{each_weaker, found_each}
 use Rattle.program_laws.proofs.Names.{same_name, same_point, point_itself}
@@ -58,7 +58,7 @@ module _ (P : ProgramTree) (g : Name) (p : PointTree) where
 
   module _ (valid : IsValid P) where
     abbrev HasValidBody : FunctionTree → Type 0
-    HasValidBody f = AreStmts P f f.body
+    HasValidBody f = AreStmts P f no_loop f.body
 
     bodies : AllByRecursion HasValidBody P
     bodies = recursion_from_All HasValidBody P valid.bodies

@@ -3,7 +3,7 @@ use Rattle.std.proofs.Common.{◌≡◌, ◌≢◌, ℕ, zero, suc, ◌+◌, ℤ
 use Rattle.csub_core.specs.declared.label.EndRule.{EndRule}
 use Rattle.csub_core.specs.declared.label.EndRule.TheVariants.{Start}
 use Rattle.csub_core.specs.Types.{Name}
-use Rattle.csub_core.specs.Labels.{LabelTree, enters, exits, evaluates, branches, returns, calls, CallTree}
+use Rattle.csub_core.specs.Labels.{LabelTree, enters, exits, evaluates, initialises, branches, returns, calls, CallTree}
 use Rattle.csub_core.specs.Syntax.{ProgramTree}
 use Rattle.csub_core.specs.Points.{PointTree, entry, ExitTree, next}
 use Rattle.csub_core.specs.Flows.{Flow, Edge, start_name, end_rule, function_nodes, flow_of}
@@ -21,6 +21,7 @@ no_gift : (l : LabelTree) (v : ℤ) (s : Store) → Fits l (gives v s) → ⊥
 no_gift enters v s fit = fit
 no_gift (exits rule) v s fit = fit
 no_gift (evaluates e) v s fit = fit
+no_gift (initialises owner t init) v s fit = fit
 no_gift (branches e) v s fit = fit
 no_gift (returns answer) v s fit = fit
 no_gift (calls c) v s fit = fit
@@ -83,6 +84,7 @@ module _ (P : ProgramTree) (valid : IsValid P) where
     out_along enters is x r t fit = subst Out (sym fit) (follows_as top.function top.point s enters is)
     out_along (exits rule) is x r t fit = absurd fit
     out_along (evaluates e) is x r t fit = subst Out (sym fit) (follows_as top.function top.point s (evaluates e) is)
+    out_along (initialises owner u init) is x r t fit = subst Out (sym fit) (follows_as top.function top.point s (initialises owner u init) is)
     out_along (branches e) is x r t fit = pick fit
       where
         pick : IsOfTest x → Out x
@@ -95,6 +97,7 @@ module _ (P : ProgramTree) (valid : IsValid P) where
     pushed enters is g t fit = absurd fit
     pushed (exits rule) is g t fit = absurd fit
     pushed (evaluates e) is g t fit = absurd fit
+    pushed (initialises owner u init) is g t fit = absurd fit
     pushed (branches e) is g t fit = absurd fit
     pushed (returns answer) is g t fit = absurd fit
     pushed (calls c) is g t fit = (
@@ -112,6 +115,7 @@ module _ (P : ProgramTree) (valid : IsValid P) where
     pops_on enters is r t fit = absurd fit
     pops_on (exits rule) is r t fit = popped top.function below r t (not_start rule (follows_as top.function top.point s (exits rule) is).1 fit) w
     pops_on (evaluates e) is r t fit = absurd fit
+    pops_on (initialises owner u init) is r t fit = absurd fit
     pops_on (branches e) is r t fit = absurd fit
     pops_on (returns answer) is r t fit = absurd fit
     pops_on (calls c) is r t fit = absurd fit

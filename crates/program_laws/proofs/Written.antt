@@ -1,7 +1,9 @@
 -- No run writes more than a run may, nor anything but bytes, nor takes more turns than its budget.
-use Rattle.std.proofs.Common.{◌≡◌, ℕ, zero, suc, ◌+◌, ◌-◌, ◌<◌, ◌≤◌, ℤ, pos, negsuc, List, [], ◌∷◌, ◌++◌, length, Bool, true, false, Option, Some, None, Result, Ok, Err, nat_lt, nat_le, All, refl, sym, subst, arith, length-append, if◌then◌else◌}
+use Rattle.std.proofs.Common.{◌≡◌, ℕ, zero, suc, ◌+◌, ◌-◌, ◌<◌, ◌≤◌, ℤ, pos, negsuc, List, [], ◌∷◌, ◌++◌, length, Bool, true, false, Option, Some, None, Result, Ok, Err, nat_lt, nat_le, int_eq, All, refl, sym, subst, arith, length-append, if◌then◌else◌}
 use Rattle.std.proofs.lemmas.Bool.{ltb-true}
 use Rattle.std.proofs.lemmas.List.Elements.{All-nil, All-cons, All-append}
+use Rattle.csub_text.specs.declared.operator.BinOp.TheVariants.{Add}
+use Rattle.csub_text.specs.declared.operator.StepOp.{StepOp}
 use Rattle.csub_types.specs.declared.kind.IntKind.TheVariants.{Int}
 use Rattle.csub_types.specs.declared.trap.Trap.{Trap as TrapKind}
 use Rattle.csub_types.specs.declared.trap.Trap.TheVariants.{Depth, Flood}
@@ -9,12 +11,12 @@ use Rattle.csub_core.specs.declared.label.EndRule.{EndRule}
 use Rattle.csub_core.specs.declared.label.EndRule.TheVariants.{Nothing, Value, Main, Start}
 use Rattle.csub_core.specs.declared.status.Status.TheVariants.{Trap, Turns}
 use Rattle.csub_core.specs.Types.{Name, MemberTree}
-use Rattle.csub_core.specs.Trees.{NamedPlace, NamedExpr, NamedArg, constant, reading, variable, temporary, operation, input_byte, output_byte, value_argument}
-use Rattle.csub_core.specs.Labels.{LabelTree, enters, exits, evaluates, branches, returns, calls, PointLabel}
+use Rattle.csub_core.specs.Trees.{NamedPlace, NamedExpr, NamedArg, constant, reading, variable, object, temporary, unary_operation, conversion, stepping, operation, conjunction, disjunction, choice, assignment, update, input_byte, output_byte, value_argument}
+use Rattle.csub_core.specs.Labels.{LabelTree, enters, exits, evaluates, initialises, branches, returns, calls, one_value, PointLabel}
 use Rattle.csub_core.specs.Points.{PointTree, ExitTree, next}
 use Rattle.csub_core.specs.Flows.{Flow, Edge}
 use Rattle.csub_core.specs.Memory.{Answer, value, trapped, then_do, given, found, get_byte, put_byte, low_byte, most_output}
-use Rattle.csub_core.specs.Evaluation.{fetch, locate, eval}
+use Rattle.csub_core.specs.Evaluation.{computed, fetch, step_by, step_value, locate, store, step, eval}
 use Rattle.csub_core.specs.Cells.{Spot, named, entered}
 use Rattle.csub_core.specs.Acts.{Store, Outcome, leaves, gives, pushes, pops, ends, after_value, argument_content, argument_contents, most_frames, act_exit, act}
 use Rattle.csub_core.specs.Runs.{Frame, Turn, goes, stops, lost, cross, put_result, come_back, come_back_to, pop, follow, turn_at, turn_of, turn, Moment, running, ended, nowhere, after_turn, go_on, after, results_at, Results}
@@ -35,6 +37,10 @@ LeavesShort (trapped t s) = IsShort s
 short_then : {X Y : Type 0} (a : Answer X Store) (go : X → Store → Answer Y Store) → LeavesShort a → ((v : X) (s : Store) → IsShort s → LeavesShort (go v s)) → LeavesShort (then_do a go)
 short_then (value v s) go short each = each v s short
 short_then (trapped t s) go short each = short
+
+short_if : {X : Type 0} (test : Bool) (a b : Answer X Store) → LeavesShort a → LeavesShort b → LeavesShort (if test then a else b)
+short_if true a b first second = first
+short_if false a b first second = second
 
 short_pick : (b : ℕ) (s : Store) (small : Bool) → b < 256 → nat_lt (length s.output) most_output ≡ small → IsShort s →
     LeavesShort {X = Unit {0}} (if small then value tt (record s { output = s.output ++ b ∷ [] }) else trapped Flood s)
@@ -61,6 +67,15 @@ short_fetch h l s short = short_then (found ((named h).read l s.cells) s) _ (sho
 short_locate : (h : ℕ) (p : NamedPlace) (s : Store) → IsShort s → LeavesShort (locate (named h) p s)
 short_locate h (variable v) s short = short_found ((named h).stand v s.cells) s short
 
+short_store : (h : ℕ) (l : Spot) (v : ℤ) (s : Store) → IsShort s → LeavesShort (store (named h) l v s)
+short_store h l v s short = short
+
+short_step : (h : ℕ) (op : StepOp) (l : Spot) (s : Store) → IsShort s → LeavesShort (step (named h) op l s)
+short_step h op l s short =
+    short_then (fetch (named h) l s) _ (short_fetch h l s short)
+    (λ before t below. short_then (computed Add ((named h).kind l) before (step_by op) t) _ (short_given _ t below)
+    (λ v u under. short_then (store (named h) l v u) (λ after w. value (step_value op before after) w) (short_store h l v u under) (λ after w deep. deep)))
+
 short_input : (s : Store) (left : List ℕ) → IsShort s → LeavesShort (get_byte s left)
 short_input s [] short = short
 short_input s (b ∷ rest) short = short
@@ -68,9 +83,31 @@ short_input s (b ∷ rest) short = short
 short_eval : (h : ℕ) (e : NamedExpr) (s : Store) → IsShort s → LeavesShort (eval (named h) e s)
 short_eval h (constant k v) s short = short
 short_eval h (reading p) s short = short_then (locate (named h) p s) _ (short_locate h p s short) (short_fetch h)
+short_eval h (unary_operation op k a) s short = short_then (eval (named h) a s) _ (short_eval h a s short) (λ v t below. short_given _ t below)
+short_eval h (conversion k a) s short = short_then (eval (named h) a s) _ (short_eval h a s short) (λ v t below. below)
+short_eval h (stepping op p) s short = short_then (locate (named h) p s) _ (short_locate h p s short) (short_step h op)
 short_eval h (operation op k a b) s short =
     short_then (eval (named h) a s) _ (short_eval h a s short)
     (λ v t below. short_then (eval (named h) b t) _ (short_eval h b t below) (λ w u under. short_given _ u under))
+short_eval h (conjunction a b) s short =
+    short_then (eval (named h) a s) _ (short_eval h a s short)
+    (λ v t below. short_if (int_eq v (pos 0)) _ _ below (short_then (eval (named h) b t) _ (short_eval h b t below) (λ w u under. under)))
+short_eval h (disjunction a b) s short =
+    short_then (eval (named h) a s) _ (short_eval h a s short)
+    (λ v t below. short_if (int_eq v (pos 0)) _ _ (short_then (eval (named h) b t) _ (short_eval h b t below) (λ w u under. under)) below)
+short_eval h (choice k c a b) s short =
+    short_then (eval (named h) c s) _ (short_eval h c s short)
+    (λ v t below.
+    short_then (if int_eq v (pos 0) then eval (named h) b t else eval (named h) a t) _
+    (short_if (int_eq v (pos 0)) _ _ (short_eval h b t below) (short_eval h a t below)) (λ w u under. under))
+short_eval h (assignment p e) s short =
+    short_then (locate (named h) p s) _ (short_locate h p s short)
+    (λ l t below. short_then (eval (named h) e t) _ (short_eval h e t below) (short_store h l))
+short_eval h (update p op k e) s short =
+    short_then (locate (named h) p s) _ (short_locate h p s short)
+    (λ l t below. short_then (fetch (named h) l t) _ (short_fetch h l t below)
+    (λ v u under. short_then (eval (named h) e u) _ (short_eval h e u under)
+    (λ w x deep. short_then (computed op k v w x) _ (short_given _ x deep) (short_store h l))))
 short_eval h input_byte s short = short_input s s.input short
 short_eval h (output_byte e) s short =
     short_then (eval (named h) e s) _ (short_eval h e s short) (λ v t below. short_then (put_byte (low_byte v) t) _ (short_put (low_byte v) t (below_256 v) below) (λ x u under. under))
@@ -114,6 +151,8 @@ short_act : (l : LabelTree) (n : ℕ) (r : Option ℤ) (s : Store) → IsShort s
 short_act enters n r s short = short
 short_act (exits rule) n r s short = short_exit rule n r s short
 short_act (evaluates e) n r s short = short_after (eval (named (n - 1)) e s) _ (short_eval (n - 1) e s short) (λ v t below. below)
+short_act (initialises owner t (one_value e)) n r s short =
+    short_after (eval (named (n - 1)) (assignment (variable (object owner t)) e) s) _ (short_eval (n - 1) (assignment (variable (object owner t)) e) s short) (λ v u below. below)
 short_act (branches e) n r s short = short_after (eval (named (n - 1)) e s) _ (short_eval (n - 1) e s short) (λ v t below. below)
 short_act (returns None) n r s short = short
 short_act (returns (Some a)) n r s short = short_after (eval (named (n - 1)) a.value s) _ (short_eval (n - 1) a.value s short) (λ v t below. below)
@@ -142,6 +181,7 @@ short_back_to f below r s (calls c) to short =
 short_back_to f below r s enters to short = tt
 short_back_to f below r s (exits rule) to short = tt
 short_back_to f below r s (evaluates e) to short = tt
+short_back_to f below r s (initialises owner t init) to short = tt
 short_back_to f below r s (branches e) to short = tt
 short_back_to f below r s (returns answer) to short = tt
 

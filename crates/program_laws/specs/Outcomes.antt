@@ -3,7 +3,7 @@ use Rattle.std.specs.Prelude.{◌≡◌, ◌≢◌, ◌⊎◌}
 use Rattle.csub_core.specs.declared.label.EndRule.{EndRule}
 use Rattle.csub_core.specs.declared.label.EndRule.TheVariants.{Start}
 use Rattle.csub_core.specs.Types.{Name}
-use Rattle.csub_core.specs.Labels.{LabelTree, enters, exits, evaluates, branches, returns, calls}
+use Rattle.csub_core.specs.Labels.{LabelTree, enters, exits, evaluates, initialises, branches, returns, calls}
 use Rattle.csub_core.specs.Points.{ExitTree, next, on_true, on_false}
 use Rattle.csub_core.specs.Acts.{Outcome, leaves, pushes, pops, ends}
 
@@ -41,6 +41,7 @@ abbrev pub Fits : LabelTree → Outcome → Type 0
 Fits enters o = LeavesBy IsNext o
 Fits (exits rule) o = Pops rule o
 Fits (evaluates e) o = LeavesBy IsNext o
+Fits (initialises owner t init) o = LeavesBy IsNext o
 Fits (branches e) o = LeavesBy IsOfTest o
 Fits (returns answer) o = LeavesBy IsNext o
 Fits (calls c) o = Pushes c.callee o
