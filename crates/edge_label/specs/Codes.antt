@@ -2,6 +2,10 @@
 -- constructor, a text and a list with their length; so no code is the beginning of another one.
 use Rattle.std.specs.Prelude.{ℕ, ℤ, pos, negsuc, List, [], ◌∷◌, ◌++◌, length, Option, Some, None}
 use Rattle.std.specs.List.{flat_map}
+use Rattle.csub_text.specs.declared.operator.UnaryOp.{UnaryOp}
+use Rattle.csub_text.specs.declared.operator.UnaryOp.TheVariants.{Plus, Minus, Not, Flip}
+use Rattle.csub_text.specs.declared.operator.StepOp.{StepOp}
+use Rattle.csub_text.specs.declared.operator.StepOp.TheVariants.{PreUp, PreDown, PostUp, PostDown}
 use Rattle.csub_text.specs.declared.operator.BinOp.{BinOp}
 use Rattle.csub_text.specs.declared.operator.BinOp.TheVariants.{Mul, Div, Rem, Add, Sub, Shl, Shr, Lt, Gt, Le, Ge, Eq, Ne, BitAnd, BitXor, BitOr}
 use Rattle.csub_types.specs.declared.kind.IntKind.{IntKind}
@@ -9,8 +13,8 @@ use Rattle.csub_types.specs.declared.kind.IntKind.TheVariants.{Char, Int, Unsign
 use Rattle.csub_core.specs.declared.label.EndRule.{EndRule}
 use Rattle.csub_core.specs.declared.label.EndRule.TheVariants as rule
 use Rattle.csub_core.specs.Types.{Name, TypeTree, number_type, MemberTree}
-use Rattle.csub_core.specs.Trees.{variable, constant, reading, operation, input_byte, output_byte, value_argument, OwnerTree, global_owner, local_owner, Variable, object, temporary, NamedPlace, NamedExpr, NamedArg}
-use Rattle.csub_core.specs.Labels.{AnswerTree, CallTree, LabelTree, enters, exits, evaluates, branches, returns, calls, Initial, PointLabel}
+use Rattle.csub_core.specs.Trees.{variable, constant, reading, unary_operation, conversion, stepping, operation, conjunction, disjunction, choice, assignment, update, input_byte, output_byte, value_argument, OwnerTree, global_owner, local_owner, Variable, object, temporary, NamedPlace, NamedExpr, NamedArg}
+use Rattle.csub_core.specs.Labels.{AnswerTree, CallTree, InitTree, one_value, LabelTree, enters, exits, evaluates, initialises, branches, returns, calls, Initial, PointLabel}
 
 abbrev pub number_code : ℕ → List ℕ
 number_code n = n ∷ []
@@ -37,6 +41,18 @@ kind_number Unsigned = 2
 
 abbrev pub kind_code : IntKind → List ℕ
 kind_code kind = kind_number kind ∷ []
+
+abbrev pub unary_number : UnaryOp → ℕ
+unary_number Plus = 0
+unary_number Minus = 1
+unary_number Not = 2
+unary_number Flip = 3
+
+abbrev pub step_number : StepOp → ℕ
+step_number PreUp = 0
+step_number PreDown = 1
+step_number PostUp = 2
+step_number PostDown = 3
 
 abbrev pub operator_number : BinOp → ℕ
 operator_number Mul = 0
@@ -85,6 +101,14 @@ expr_code (reading place) = 1 ∷ place_code place
 expr_code (operation op kind a b) = 2 ∷ operator_number op ∷ kind_number kind ∷ (expr_code a ++ expr_code b)
 expr_code input_byte = 3 ∷ []
 expr_code (output_byte e) = 4 ∷ expr_code e
+expr_code (unary_operation op kind a) = 5 ∷ unary_number op ∷ kind_number kind ∷ expr_code a
+expr_code (conversion kind a) = 6 ∷ kind_number kind ∷ expr_code a
+expr_code (conjunction a b) = 7 ∷ (expr_code a ++ expr_code b)
+expr_code (disjunction a b) = 8 ∷ (expr_code a ++ expr_code b)
+expr_code (choice kind c a b) = 9 ∷ kind_number kind ∷ (expr_code c ++ (expr_code a ++ expr_code b))
+expr_code (stepping op place) = 10 ∷ step_number op ∷ place_code place
+expr_code (assignment place e) = 11 ∷ (place_code place ++ expr_code e)
+expr_code (update place op kind e) = 12 ∷ operator_number op ∷ kind_number kind ∷ (place_code place ++ expr_code e)
 
 abbrev pub arg_code : NamedArg → List ℕ
 arg_code (value_argument e) = 0 ∷ expr_code e
@@ -97,6 +121,9 @@ call_code call =
     name_code call.callee ++ (list_code member_code call.params ++ (option_code kind_code call.result
     ++ (list_code arg_code call.args ++ option_code number_code call.temp)))
 
+abbrev pub init_code : InitTree → List ℕ
+init_code (one_value e) = 0 ∷ expr_code e
+
 abbrev pub label_code : LabelTree → List ℕ
 label_code enters = 0 ∷ []
 label_code (exits rule) = 1 ∷ rule_number rule ∷ []
@@ -104,6 +131,7 @@ label_code (evaluates e) = 2 ∷ expr_code e
 label_code (branches e) = 3 ∷ expr_code e
 label_code (returns answer) = 4 ∷ option_code answer_code answer
 label_code (calls call) = 5 ∷ call_code call
+label_code (initialises owner ctype init) = 6 ∷ (owner_code owner ++ (type_code ctype ++ init_code init))
 
 abbrev pub initial_code : Initial → List ℕ
 initial_code initial = name_code initial.name ++ list_code integer_code initial.contents

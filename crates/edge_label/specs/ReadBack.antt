@@ -1,6 +1,10 @@
 -- A label can be read back from its code, whatever follows the code. This is a proof, and nothing in it has to be believed.
 use Rattle.std.proofs.Common.{◌≡◌, ℕ, zero, suc, ℤ, pos, negsuc, List, [], ◌∷◌, ◌++◌, length, take, drop, Option, Some, None, refl, sym, ap, ap₂, ◌∙◌, append_assoc, append-nil, subst}
 use Rattle.std.specs.List.{flat_map}
+use Rattle.csub_text.specs.declared.operator.UnaryOp.{UnaryOp}
+use Rattle.csub_text.specs.declared.operator.UnaryOp.TheVariants.{Plus, Minus, Not, Flip}
+use Rattle.csub_text.specs.declared.operator.StepOp.{StepOp}
+use Rattle.csub_text.specs.declared.operator.StepOp.TheVariants.{PreUp, PreDown, PostUp, PostDown}
 use Rattle.csub_text.specs.declared.operator.BinOp.{BinOp}
 use Rattle.csub_text.specs.declared.operator.BinOp.TheVariants.{Mul, Div, Rem, Add, Sub, Shl, Shr, Lt, Gt, Le, Ge, Eq, Ne, BitAnd, BitXor, BitOr}
 use Rattle.csub_types.specs.declared.kind.IntKind.{IntKind}
@@ -8,10 +12,10 @@ use Rattle.csub_types.specs.declared.kind.IntKind.TheVariants.{Char, Int, Unsign
 use Rattle.csub_core.specs.declared.label.EndRule.{EndRule}
 use Rattle.csub_core.specs.declared.label.EndRule.TheVariants as rule
 use Rattle.csub_core.specs.Types.{Name, TypeTree, number_type, MemberTree}
-use Rattle.csub_core.specs.Trees.{variable, constant, reading, operation, input_byte, output_byte, value_argument, OwnerTree, global_owner, local_owner, Variable, object, temporary, NamedPlace, NamedExpr, NamedArg}
-use Rattle.csub_core.specs.Labels.{AnswerTree, CallTree, LabelTree, enters, exits, evaluates, branches, returns, calls, Initial, PointLabel}
-use Rattle.edge_label.specs.Codes.{number_code, integer_code, name_code, list_code, option_code, kind_number, kind_code, operator_number, rule_number, type_code, member_code, owner_code, variable_code, place_code, expr_code, arg_code, answer_code, call_code, label_code, initial_code, point_code}
-use Rattle.edge_label.specs.Readers.{Reader, then, read_number, read_integer, read_name, read_times, read_list, read_option, read_kind, read_operator, read_rule, read_type, read_member, read_owner, read_variable, read_place, read_levels, read_expr, read_arg, read_answer, read_call, read_tree, read_initial, read_label, label_of}
+use Rattle.csub_core.specs.Trees.{variable, constant, reading, unary_operation, conversion, stepping, operation, conjunction, disjunction, choice, assignment, update, input_byte, output_byte, value_argument, OwnerTree, global_owner, local_owner, Variable, object, temporary, NamedPlace, NamedExpr, NamedArg}
+use Rattle.csub_core.specs.Labels.{AnswerTree, CallTree, InitTree, one_value, LabelTree, enters, exits, evaluates, initialises, branches, returns, calls, Initial, PointLabel}
+use Rattle.edge_label.specs.Codes.{number_code, integer_code, name_code, list_code, option_code, kind_number, kind_code, unary_number, step_number, operator_number, rule_number, type_code, member_code, owner_code, variable_code, place_code, expr_code, arg_code, answer_code, call_code, init_code, label_code, initial_code, point_code}
+use Rattle.edge_label.specs.Readers.{Reader, then, read_number, read_integer, read_name, read_times, read_list, read_option, read_kind, read_unary, read_step, read_operator, read_rule, read_type, read_member, read_owner, read_variable, read_place, read_levels, read_expr, read_arg, read_answer, read_call, read_init, read_tree, read_initial, read_label, label_of}
 
 -- what a reader and the one behind it give
 then_back : {A B : Type 0} (read : Reader A) (next : A → Reader B) {codes rest : List ℕ} {x : A} {given : B × List ℕ} → read codes ≡ (x, rest) → next x rest ≡ given → then read next codes ≡ given
@@ -42,6 +46,18 @@ kind_back : (kind : IntKind) (s : List ℕ) → read_kind (kind_number kind ∷ 
 kind_back Char s = refl
 kind_back Int s = refl
 kind_back Unsigned s = refl
+
+unary_back : (op : UnaryOp) (s : List ℕ) → read_unary (unary_number op ∷ s) ≡ (op, s)
+unary_back Plus s = refl
+unary_back Minus s = refl
+unary_back Not s = refl
+unary_back Flip s = refl
+
+step_back : (op : StepOp) (s : List ℕ) → read_step (step_number op ∷ s) ≡ (op, s)
+step_back PreUp s = refl
+step_back PreDown s = refl
+step_back PostUp s = refl
+step_back PostDown s = refl
 
 operator_back : (op : BinOp) (s : List ℕ) → read_operator (operator_number op ∷ s) ≡ (op, s)
 operator_back Mul s = refl
@@ -99,7 +115,14 @@ place_back (variable v) s = then_back _ _ (variable_back v s) refl
 -- an expression of at most so many levels
 HasLevels : ℕ → NamedExpr → Type 0
 HasLevels zero e = ⊥
+HasLevels (suc n) (unary_operation op kind a) = HasLevels n a
+HasLevels (suc n) (conversion kind a) = HasLevels n a
 HasLevels (suc n) (operation op kind a b) = HasLevels n a × HasLevels n b
+HasLevels (suc n) (conjunction a b) = HasLevels n a × HasLevels n b
+HasLevels (suc n) (disjunction a b) = HasLevels n a × HasLevels n b
+HasLevels (suc n) (choice kind c a b) = HasLevels n c × HasLevels n a × HasLevels n b
+HasLevels (suc n) (assignment place e) = HasLevels n e
+HasLevels (suc n) (update place op kind e) = HasLevels n e
 HasLevels (suc n) (output_byte e) = HasLevels n e
 HasLevels (suc n) _ = Unit {0}
 
@@ -108,7 +131,15 @@ unfolding HasLevels
 levels_more zero e h = absurd h
 levels_more (suc n) (constant kind value) h = tt
 levels_more (suc n) (reading place) h = tt
+levels_more (suc n) (unary_operation op kind a) h = levels_more n a h
+levels_more (suc n) (conversion kind a) h = levels_more n a h
 levels_more (suc n) (operation op kind a b) h = (levels_more n a h.0, levels_more n b h.1)
+levels_more (suc n) (conjunction a b) h = (levels_more n a h.0, levels_more n b h.1)
+levels_more (suc n) (disjunction a b) h = (levels_more n a h.0, levels_more n b h.1)
+levels_more (suc n) (choice kind c a b) h = (levels_more n c h.0, levels_more n a h.1, levels_more n b h.2)
+levels_more (suc n) (stepping op place) h = tt
+levels_more (suc n) (assignment place e) h = levels_more n e h
+levels_more (suc n) (update place op kind e) h = levels_more n e h
 levels_more (suc n) input_byte h = tt
 levels_more (suc n) (output_byte e) h = levels_more n e h
 
@@ -116,16 +147,37 @@ levels_before : (before codes : List ℕ) (e : NamedExpr) → HasLevels (length 
 levels_before [] codes e h = h
 levels_before (x ∷ before) codes e h = levels_more _ e (levels_before before codes e h)
 
+-- the same of two codes behind others, for the first and for the second
+levels_first : (before code s : List ℕ) (e : NamedExpr) → HasLevels (length (expr_code e ++ (code ++ s))) e → HasLevels (length (before ++ ((expr_code e ++ code) ++ s))) e
+levels_first before code s e h = subst (λ codes. HasLevels (length (before ++ codes)) e) (sym (append_assoc (expr_code e) code s)) (levels_before before (expr_code e ++ (code ++ s)) e h)
+
+levels_second : (before first code s : List ℕ) (e : NamedExpr) → HasLevels (length (code ++ s)) e → HasLevels (length (before ++ ((first ++ code) ++ s))) e
+levels_second before first code s e h =
+    subst (λ codes. HasLevels (length (before ++ codes)) e) (sym (append_assoc first code s)) (levels_before before (first ++ (code ++ s)) e (levels_before first (code ++ s) e h))
+
 -- no expression has more levels than its code has numbers
 levels_of : (e : NamedExpr) (s : List ℕ) → HasLevels (length (expr_code e ++ s)) e
 unfolding HasLevels
 levels_of (constant kind value) s = tt
 levels_of (reading place) s = tt
+levels_of (unary_operation op kind a) s = levels_before (unary_number op ∷ kind_number kind ∷ []) (expr_code a ++ s) a (levels_of a s)
+levels_of (conversion kind a) s = levels_before (kind_number kind ∷ []) (expr_code a ++ s) a (levels_of a s)
 levels_of (operation op kind a b) s =
-    let same = append_assoc (expr_code a) (expr_code b) s in
-    let first = levels_before (operator_number op ∷ kind_number kind ∷ []) (expr_code a ++ (expr_code b ++ s)) a (levels_of a (expr_code b ++ s)) in
-    let second = levels_before (operator_number op ∷ kind_number kind ∷ expr_code a) (expr_code b ++ s) b (levels_of b s) in
-    subst (λ codes. HasLevels (length (operator_number op ∷ kind_number kind ∷ codes)) a × HasLevels (length (operator_number op ∷ kind_number kind ∷ codes)) b) (sym same) (first, second)
+    let before = operator_number op ∷ kind_number kind ∷ [] in
+    (levels_first before (expr_code b) s a (levels_of a (expr_code b ++ s)), levels_second before (expr_code a) (expr_code b) s b (levels_of b s))
+levels_of (conjunction a b) s = (levels_first [] (expr_code b) s a (levels_of a (expr_code b ++ s)), levels_second [] (expr_code a) (expr_code b) s b (levels_of b s))
+levels_of (disjunction a b) s = (levels_first [] (expr_code b) s a (levels_of a (expr_code b ++ s)), levels_second [] (expr_code a) (expr_code b) s b (levels_of b s))
+levels_of (choice kind c a b) s =
+    let before = kind_number kind ∷ [] in
+    let both = expr_code a ++ expr_code b in (
+      levels_first before both s c (levels_of c (both ++ s)),
+      levels_second before (expr_code c) both s a (levels_first [] (expr_code b) s a (levels_of a (expr_code b ++ s))),
+      levels_second before (expr_code c) both s b (levels_second [] (expr_code a) (expr_code b) s b (levels_of b s)),
+    )
+levels_of (stepping op place) s = tt
+levels_of (assignment place e) s = levels_second [] (place_code place) (expr_code e) s e (levels_of e s)
+levels_of (update place op kind e) s =
+    levels_second (operator_number op ∷ kind_number kind ∷ []) (place_code place) (expr_code e) s e (levels_of e s)
 levels_of input_byte s = tt
 levels_of (output_byte e) s = levels_of e s
 
@@ -133,9 +185,23 @@ levels_back : (e : NamedExpr) (n : ℕ) (s : List ℕ) → HasLevels n e → rea
 unfolding HasLevels
 levels_back (constant kind value) (suc n) s h = then_back _ _ (kind_back kind _) (then_back _ _ (integer_back value s) refl)
 levels_back (reading place) (suc n) s h = then_back _ _ (place_back place s) refl
+levels_back (unary_operation op kind a) (suc n) s h = then_back _ _ (unary_back op _) (then_back _ _ (kind_back kind _) (then_back _ _ (levels_back a n s h) refl))
+levels_back (conversion kind a) (suc n) s h = then_back _ _ (kind_back kind _) (then_back _ _ (levels_back a n s h) refl)
 levels_back (operation op kind a b) (suc n) s h =
     then_back _ _ (operator_back op _) (then_back _ _ (kind_back kind _)
     (then_append _ _ (expr_code a) (expr_code b) s (λ t. levels_back a n t h.0) (then_back _ _ (levels_back b n s h.1) refl)))
+levels_back (conjunction a b) (suc n) s h = then_append _ _ (expr_code a) (expr_code b) s (λ t. levels_back a n t h.0) (then_back _ _ (levels_back b n s h.1) refl)
+levels_back (disjunction a b) (suc n) s h = then_append _ _ (expr_code a) (expr_code b) s (λ t. levels_back a n t h.0) (then_back _ _ (levels_back b n s h.1) refl)
+levels_back (choice kind c a b) (suc n) s h =
+    then_back _ _ (kind_back kind _)
+    (then_append _ _ (expr_code c) (expr_code a ++ expr_code b) s (λ t. levels_back c n t h.0)
+    (then_append _ _ (expr_code a) (expr_code b) s (λ t. levels_back a n t h.1) (then_back _ _ (levels_back b n s h.2) refl)))
+levels_back (stepping op place) (suc n) s h = then_back _ _ (step_back op _) (then_back _ _ (place_back place s) refl)
+levels_back (assignment place e) (suc n) s h =
+    then_append _ _ (place_code place) (expr_code e) s (place_back place) (then_back _ _ (levels_back e n s h) refl)
+levels_back (update place op kind e) (suc n) s h =
+    then_back _ _ (operator_back op _) (then_back _ _ (kind_back kind _)
+    (then_append _ _ (place_code place) (expr_code e) s (place_back place) (then_back _ _ (levels_back e n s h) refl)))
 levels_back input_byte (suc n) s h = refl
 levels_back (output_byte e) (suc n) s h = then_back _ _ (levels_back e n s h) refl
 levels_back e zero s h = absurd h
@@ -161,6 +227,9 @@ call_back call s =
     (then_append _ _ (list_code arg_code call.args) _ s (list_back arg_code read_arg arg_back call.args)
     (then_back _ _ (option_back number_code read_number number_back call.temp s) refl))))
 
+init_back : (init : InitTree) (s : List ℕ) → read_init (init_code init ++ s) ≡ (init, s)
+init_back (one_value e) s = then_back _ _ (expr_back e s) refl
+
 tree_back : (tree : LabelTree) (s : List ℕ) → read_tree (label_code tree ++ s) ≡ (tree, s)
 tree_back enters s = refl
 tree_back (exits rule) s = then_back _ _ (rule_back rule s) refl
@@ -168,6 +237,9 @@ tree_back (evaluates e) s = then_back _ _ (expr_back e s) refl
 tree_back (branches e) s = then_back _ _ (expr_back e s) refl
 tree_back (returns answer) s = then_back _ _ (option_back answer_code read_answer answer_back answer s) refl
 tree_back (calls call) s = then_back _ _ (call_back call s) refl
+tree_back (initialises owner ctype init) s =
+    then_append _ _ (owner_code owner) (type_code ctype ++ init_code init) s (owner_back owner)
+    (then_append _ _ (type_code ctype) (init_code init) s (type_back ctype) (then_back _ _ (init_back init s) refl))
 
 initial_back : (initial : Initial) (s : List ℕ) → read_initial (initial_code initial ++ s) ≡ (initial, s)
 initial_back initial s =

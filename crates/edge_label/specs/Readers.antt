@@ -1,6 +1,10 @@
 -- Codes read back: what label a list of numbers is the code of. Lists that are no code give some label too.
 use Rattle.std.specs.Prelude.{ℕ, zero, suc, ℤ, pos, negsuc, List, [], ◌∷◌, length, Option, Some, None, take, drop}
 use Rattle.std.proofs.Common.{get_or}
+use Rattle.csub_text.specs.declared.operator.UnaryOp.{UnaryOp}
+use Rattle.csub_text.specs.declared.operator.UnaryOp.TheVariants.{Plus, Minus, Not, Flip}
+use Rattle.csub_text.specs.declared.operator.StepOp.{StepOp}
+use Rattle.csub_text.specs.declared.operator.StepOp.TheVariants.{PreUp, PreDown, PostUp, PostDown}
 use Rattle.csub_text.specs.declared.operator.BinOp.{BinOp}
 use Rattle.csub_text.specs.declared.operator.BinOp.TheVariants.{Mul, Div, Rem, Add, Sub, Shl, Shr, Lt, Gt, Le, Ge, Eq, Ne, BitAnd, BitXor, BitOr}
 use Rattle.csub_types.specs.declared.kind.IntKind.{IntKind}
@@ -8,8 +12,8 @@ use Rattle.csub_types.specs.declared.kind.IntKind.TheVariants.{Char, Int, Unsign
 use Rattle.csub_core.specs.declared.label.EndRule.{EndRule}
 use Rattle.csub_core.specs.declared.label.EndRule.TheVariants as rule
 use Rattle.csub_core.specs.Types.{Name, TypeTree, number_type, MemberTree}
-use Rattle.csub_core.specs.Trees.{variable, constant, reading, operation, input_byte, output_byte, value_argument, OwnerTree, global_owner, local_owner, Variable, object, temporary, NamedPlace, NamedExpr, NamedArg}
-use Rattle.csub_core.specs.Labels.{AnswerTree, CallTree, LabelTree, enters, exits, evaluates, branches, returns, calls, Initial, PointLabel}
+use Rattle.csub_core.specs.Trees.{variable, constant, reading, unary_operation, conversion, stepping, operation, conjunction, disjunction, choice, assignment, update, input_byte, output_byte, value_argument, OwnerTree, global_owner, local_owner, Variable, object, temporary, NamedPlace, NamedExpr, NamedArg}
+use Rattle.csub_core.specs.Labels.{AnswerTree, CallTree, InitTree, one_value, LabelTree, enters, exits, evaluates, initialises, branches, returns, calls, Initial, PointLabel}
 
 -- a reader takes a value off the front of a list, and gives what is left
 abbrev pub Reader : Type 0 → Type 0
@@ -49,6 +53,12 @@ read_option read = by_number (just None ∷ then read (λ x. just (Some x)) ∷ 
 abbrev pub read_kind : Reader IntKind
 read_kind = by_number (just Char ∷ just Int ∷ just Unsigned ∷ []) Char
 
+abbrev pub read_unary : Reader UnaryOp
+read_unary = by_number (just Plus ∷ just Minus ∷ just Not ∷ just Flip ∷ []) Plus
+
+abbrev pub read_step : Reader StepOp
+read_step = by_number (just PreUp ∷ just PreDown ∷ just PostUp ∷ just PostDown ∷ []) PreUp
+
 abbrev pub read_operator : Reader BinOp
 read_operator =
     by_number (just Mul ∷ just Div ∷ just Rem ∷ just Add ∷ just Sub ∷ just Shl ∷ just Shr ∷ just Lt ∷ just Gt ∷ just Le ∷ just Ge ∷ just Eq ∷ just Ne
@@ -87,6 +97,14 @@ read_levels (suc n) =
     ∷ then read_operator (λ op. then read_kind (λ kind. then (read_levels n) (λ a. then (read_levels n) (λ b. just (operation op kind a b)))))
     ∷ just input_byte
     ∷ then (read_levels n) (λ e. just (output_byte e))
+    ∷ then read_unary (λ op. then read_kind (λ kind. then (read_levels n) (λ a. just (unary_operation op kind a))))
+    ∷ then read_kind (λ kind. then (read_levels n) (λ a. just (conversion kind a)))
+    ∷ then (read_levels n) (λ a. then (read_levels n) (λ b. just (conjunction a b)))
+    ∷ then (read_levels n) (λ a. then (read_levels n) (λ b. just (disjunction a b)))
+    ∷ then read_kind (λ kind. then (read_levels n) (λ c. then (read_levels n) (λ a. then (read_levels n) (λ b. just (choice kind c a b)))))
+    ∷ then read_step (λ op. then read_place (λ place. just (stepping op place)))
+    ∷ then read_place (λ place. then (read_levels n) (λ e. just (assignment place e)))
+    ∷ then read_operator (λ op. then read_kind (λ kind. then read_place (λ place. then (read_levels n) (λ e. just (update place op kind e)))))
     ∷ []) input_byte
 
 -- an expression has no more levels than its code has numbers
@@ -105,6 +123,9 @@ read_call =
     then (read_list read_arg) (λ args. then (read_option read_number) (λ temp.
     just (record { callee = callee; params = params; result = result; args = args; temp = temp }))))))
 
+abbrev pub read_init : Reader InitTree
+read_init = by_number (then read_expr (λ e. just (one_value e)) ∷ []) (one_value input_byte)
+
 abbrev pub read_tree : Reader LabelTree
 read_tree =
     by_number (just enters
@@ -113,6 +134,7 @@ read_tree =
     ∷ then read_expr (λ e. just (branches e))
     ∷ then (read_option read_answer) (λ answer. just (returns answer))
     ∷ then read_call (λ call. just (calls call))
+    ∷ then read_owner (λ owner. then read_type (λ ctype. then read_init (λ init. just (initialises owner ctype init))))
     ∷ []) enters
 
 abbrev pub read_initial : Reader Initial

@@ -1,12 +1,15 @@
 //! The code of a label, number by number.
-ghost use Rattle.std.specs.Prelude.{◌≡◌, ◌++◌, [], OnOk, map, option_map};
+ghost use Rattle.std.specs.Prelude.{◌≡◌, ◌++◌, ◌∷◌, [], OnOk, map, option_map};
 ghost use Rattle.csub_core.specs.Types.{type_tree, member_tree};
-ghost use Rattle.csub_core.specs.Trees.{expr_tree, arg_tree};
-ghost use Rattle.csub_core.specs.Labels.{answer_tree, call_tree, label_tree};
-ghost use Rattle.edge_label.specs.Codes.{integer_code, name_code, list_code, option_code, number_code, kind_code, kind_number, operator_number, rule_number, type_code, member_code, expr_code, arg_code, answer_code, call_code, label_code, point_code};
+ghost use Rattle.csub_core.specs.Trees.{constant, reading, stepping, variable, temporary, owner_tree, place_tree, expr_tree, arg_tree};
+ghost use Rattle.csub_core.specs.Labels.{answer_tree, call_tree, init_tree, label_tree};
+ghost use Rattle.edge_label.specs.Codes.{integer_code, name_code, list_code, option_code, number_code, kind_code, kind_number, unary_number, step_number, operator_number, rule_number, type_code, member_code, owner_code, place_code, expr_code, arg_code, answer_code, call_code, init_code, label_code, point_code};
 ghost use Rattle.edge_label.specs.Numbers.{bare};
 
-use csub_core::{Answer, BinOp, CType, CallLabel, EndRule, IntKind, Label, Member, RArg, RExpr};
+use csub_core::{
+    Answer, BinOp, CType, CallLabel, EndRule, IntKind, Label, Member, Owner, Place, RArg, RExpr,
+    RInit, StepOp, UnaryOp,
+};
 use std::alloc::AllocError;
 
 /// Appends the code of a label whose tree names no global. An `Err` is want of memory.
@@ -43,8 +46,21 @@ fn push_tree(out: &mut Vec<u64>, label: &Label) -> Result<(), AllocError>
             out.push(5)?;
             push_call(out, call)?;
         }
+        Label::Init(owner, ctype, init) => {
+            out.push(6)?;
+            push_owner(out, owner)?;
+            push_type(out, ctype)?;
+            push_init(out, init)?;
+        }
     }
     Ok(())
+}
+
+fn push_init(out: &mut Vec<u64>, init: &RInit) -> Result<(), AllocError>
+    ensures { OnOk result (out.new.items ≡ out.old.items ++ init_code (init_tree init.now)) }
+{
+    let RInit::One(value) = init;
+    push_behind(out, 0, value)
 }
 
 fn push_answer(out: &mut Vec<u64>, answer: &Option<Answer>) -> Result<(), AllocError>
@@ -147,29 +163,156 @@ fn push_arg(out: &mut Vec<u64>, arg: &RArg) -> Result<(), AllocError>
     }
 }
 
+#[cycle(expressions)]
 fn push_expr(out: &mut Vec<u64>, expr: &RExpr) -> Result<(), AllocError>
     ensures { OnOk result (out.new.items ≡ out.old.items ++ expr_code (expr_tree expr.now)) }
 {
     match expr {
-        RExpr::Const(kind, value) => {
-            out.push(0)?;
-            out.push(kind_number(*kind))?;
-            push_integer(out, *value)
-        }
+        RExpr::Const(kind, value) => push_constant(out, *kind, *value),
+        RExpr::Read(place) => push_read(out, place),
+        RExpr::Temp(number, kind) => push_temporary(out, *number, *kind),
         RExpr::Binary(op, kind, left, right) => {
-            out.push(2)?;
-            out.push(operator_number(*op))?;
-            out.push(kind_number(*kind))?;
+            push_operand(out, 2, operator_number(*op), *kind, left)?;
+            push_expr(out, right)
+        }
+        RExpr::Getchar => Ok(out.push(3)?),
+        RExpr::Putchar(byte) => push_behind(out, 4, byte),
+        RExpr::Unary(op, kind, operand) => {
+            push_operand(out, 5, unary_number(*op), *kind, operand)
+        }
+        RExpr::Cast(kind, operand) => push_converted(out, 6, *kind, operand),
+        RExpr::And(left, right) => {
+            push_behind(out, 7, left)?;
+            push_expr(out, right)
+        }
+        RExpr::Or(left, right) => {
+            push_behind(out, 8, left)?;
+            push_expr(out, right)
+        }
+        RExpr::Choose(kind, test, left, right) => {
+            push_converted(out, 9, *kind, test)?;
             push_expr(out, left)?;
             push_expr(out, right)
         }
-        RExpr::Getchar => {
-            out.push(3)?;
-            Ok(())
+        RExpr::Step(op, place) => push_step(out, *op, place),
+        RExpr::Assign(place, value) => push_stored(out, 11, place, value),
+        RExpr::Update(place, op, kind, value) => {
+            out.push(12)?;
+            out.push(operator_number(*op))?;
+            push_stored(out, kind_number(*kind), place, value)
         }
-        RExpr::Putchar(byte) => {
-            out.push(4)?;
-            push_expr(out, byte)
+    }
+}
+
+/// Appends a number and a kind, and behind them the code of an expression.
+#[cycle(expressions)]
+fn push_converted(
+    out: &mut Vec<u64>,
+    number: u64,
+    kind: IntKind,
+    expr: &RExpr,
+) -> Result<(), AllocError>
+    ensures { OnOk result (out.new.items ≡ out.old.items ++ number ∷ kind_number kind ∷ expr_code (expr_tree expr.now)) }
+{
+    out.push(number)?;
+    push_behind(out, kind_number(kind), expr)
+}
+
+/// Appends the numbers of an operation and of its operator and kind, and behind them the code of its first operand.
+#[cycle(expressions)]
+fn push_operand(
+    out: &mut Vec<u64>,
+    number: u64,
+    operator: u64,
+    kind: IntKind,
+    expr: &RExpr,
+) -> Result<(), AllocError>
+    ensures { OnOk result (out.new.items ≡ out.old.items ++ number ∷ operator ∷ kind_number kind ∷ expr_code (expr_tree expr.now)) }
+{
+    out.push(number)?;
+    push_converted(out, operator, kind, expr)
+}
+
+/// Appends a number, and behind it the codes of a place and of what is stored there.
+#[cycle(expressions)]
+fn push_stored(
+    out: &mut Vec<u64>,
+    number: u64,
+    place: &Place,
+    value: &RExpr,
+) -> Result<(), AllocError>
+    ensures { OnOk result (out.new.items ≡ out.old.items ++ number ∷ (place_code (place_tree place.now) ++ expr_code (expr_tree value.now))) }
+{
+    out.push(number)?;
+    push_place(out, place)?;
+    push_expr(out, value)
+}
+
+/// Appends a number, and behind it the code of an expression.
+#[cycle(expressions)]
+fn push_behind(out: &mut Vec<u64>, number: u64, expr: &RExpr) -> Result<(), AllocError>
+    ensures { OnOk result (out.new.items ≡ out.old.items ++ number ∷ expr_code (expr_tree expr.now)) }
+{
+    out.push(number)?;
+    push_expr(out, expr)
+}
+
+fn push_constant(out: &mut Vec<u64>, kind: IntKind, value: i64) -> Result<(), AllocError>
+    ensures { OnOk result (out.new.items ≡ out.old.items ++ expr_code (constant kind value)) }
+{
+    out.push(0)?;
+    out.push(kind_number(kind))?;
+    push_integer(out, value)
+}
+
+fn push_read(out: &mut Vec<u64>, place: &Place) -> Result<(), AllocError>
+    ensures { OnOk result (out.new.items ≡ out.old.items ++ expr_code (reading (place_tree place.now))) }
+{
+    out.push(1)?;
+    push_place(out, place)
+}
+
+/// Appends the code of the reading of a temporary.
+fn push_temporary(out: &mut Vec<u64>, number: u32, kind: IntKind) -> Result<(), AllocError>
+    ensures { OnOk result (out.new.items ≡ out.old.items ++ expr_code (reading (variable (temporary number kind)))) }
+{
+    out.push(1)?;
+    out.push(0)?;
+    out.push(1)?;
+    out.push(u64::from(number))?;
+    Ok(out.push(kind_number(kind))?)
+}
+
+fn push_step(out: &mut Vec<u64>, op: StepOp, place: &Place) -> Result<(), AllocError>
+    ensures { OnOk result (out.new.items ≡ out.old.items ++ expr_code (stepping op (place_tree place.now))) }
+{
+    out.push(10)?;
+    out.push(step_number(op))?;
+    push_place(out, place)
+}
+
+fn push_place(out: &mut Vec<u64>, place: &Place) -> Result<(), AllocError>
+    ensures { OnOk result (out.new.items ≡ out.old.items ++ place_code (place_tree place.now)) }
+{
+    let Place::Var(owner, ctype) = place;
+    out.push(0)?;
+    out.push(0)?;
+    push_owner(out, owner)?;
+    push_type(out, ctype)
+}
+
+fn push_owner(out: &mut Vec<u64>, owner: &Owner) -> Result<(), AllocError>
+    ensures { OnOk result (out.new.items ≡ out.old.items ++ owner_code (owner_tree owner.now)) }
+{
+    match owner {
+        Owner::Global(name) => {
+            out.push(0)?;
+            push_name(out, name.bytes())
+        }
+        Owner::Local(name, number) => {
+            out.push(1)?;
+            out.push(u64::from(*number))?;
+            push_name(out, name.bytes())
         }
     }
 }
@@ -215,6 +358,28 @@ fn rule_number(rule: EndRule) -> u64
         EndRule::Value => 1,
         EndRule::Main => 2,
         EndRule::Start => 3,
+    }
+}
+
+fn unary_number(op: UnaryOp) -> u64
+    ensures { result ≡ unary_number op }
+{
+    match op {
+        UnaryOp::Plus => 0,
+        UnaryOp::Minus => 1,
+        UnaryOp::Not => 2,
+        UnaryOp::Flip => 3,
+    }
+}
+
+fn step_number(op: StepOp) -> u64
+    ensures { result ≡ step_number op }
+{
+    match op {
+        StepOp::PreUp => 0,
+        StepOp::PreDown => 1,
+        StepOp::PostUp => 2,
+        StepOp::PostDown => 3,
     }
 }
 
