@@ -1,11 +1,11 @@
 -- No point has two ways out with one exit label.
-use Rattle.std.proofs.Common.{◌≡◌, ◌∙◌, ℕ, zero, suc, ◌+◌, List, [], ◌∷◌, ◌++◌, Some, refl, sym, ap, subst}
+use Rattle.std.proofs.Common.{◌≡◌, ◌∙◌, ℕ, zero, suc, ◌+◌, List, [], ◌∷◌, ◌++◌, length, Some, refl, sym, ap, subst}
 use Rattle.std.specs.List.{slice_get}
 use Rattle.std.proofs.lemmas.Option.{same_Some}
-use Rattle.csub_core.specs.Labels.{LabelTree, enters, exits, evaluates, branches, returns, calls}
+use Rattle.csub_core.specs.Labels.{LabelTree, enters, exits, evaluates, initialises, branches, returns, calls}
 use Rattle.csub_core.specs.Points.{PointTree, at, ExitTree, next, on_true, on_false}
-use Rattle.csub_core.specs.Syntax.{PartTree, StmtTree, StmtTrees, ElseTree, parts, block, conditional, no_stmt, more_stmts, no_else, else_stmt, FunctionTree}
-use Rattle.csub_core.specs.Successors.{Way, Node, Around, way, leaving, enter_parts, enter, enter_list, enter_else, own_ways, test_ways, part_nodes, last_ways, parts_nodes, nodes, nodes_list, nodes_else}
+use Rattle.csub_core.specs.Syntax.{PartTree, StmtTree, StmtTrees, ElseTree, parts, block, conditional, while_loop, do_loop, for_loop, breaks, continues, no_stmt, more_stmts, no_else, else_stmt, FunctionTree}
+use Rattle.csub_core.specs.Successors.{Way, Node, Around, way, leaving, looping, enter_part, enter_parts, enter, enter_list, enter_else, own_ways, test_ways, part_nodes, last_ways, parts_nodes, nodes, nodes_list, nodes_else}
 use Rattle.csub_core.specs.Flows.{to_exit, function_nodes}
 
 abbrev pub ExitsOnce : List (Way PointTree) → Type 0
@@ -35,6 +35,7 @@ own_once : (l : LabelTree) (past returned : PointTree) → ExitsOnce (own_ways l
 own_once enters past returned = one_once next past
 own_once (exits rule) past returned = one_once next past
 own_once (evaluates e) past returned = one_once next past
+own_once (initialises owner t init) past returned = one_once next past
 own_once (branches e) past returned = one_once next past
 own_once (returns answer) past returned = one_once next returned
 own_once (calls c) past returned = one_once next past
@@ -76,6 +77,33 @@ mutual
       both_once (part_nodes p 0 (λ k. name [] 0 k) ways) (then ++ other)
       (part_once p 0 (λ k. name [] 0 k) ways (test_once (enter t (λ q. name (0 ∷ q)) a) (enter_else e (λ q. name (1 ∷ q)) a)))
       (both_once then other (stmt_once t (λ q. name (0 ∷ q)) a) (else_once e (λ q. name (1 ∷ q)) a))
+  stmt_once (while_loop p s) name a =
+      let inside = looping (enter_part p 0 name a.leave) a in
+      let when_true = enter s (λ q. name (0 ∷ q)) inside in
+      let ways = test_ways when_true a.leave in
+      both_once (part_nodes p 0 (λ k. name [] 0 k) ways) (nodes s (λ q. name (0 ∷ q)) inside)
+      (part_once p 0 (λ k. name [] 0 k) ways (test_once when_true a.leave)) (stmt_once s (λ q. name (0 ∷ q)) inside)
+  stmt_once (do_loop s p) name a =
+      let inside = looping (enter_part p 0 name a.leave) a in
+      let when_true = enter s (λ q. name (0 ∷ q)) inside in
+      let ways = test_ways when_true a.leave in
+      both_once (nodes s (λ q. name (0 ∷ q)) inside) (part_nodes p 0 (λ k. name [] 0 k) ways)
+      (stmt_once s (λ q. name (0 ∷ q)) inside) (part_once p 0 (λ k. name [] 0 k) ways (test_once when_true a.leave))
+  stmt_once (for_loop first p third s) name a =
+      let m = length first in
+      let to_test = leaving (enter_part p m name a.leave) a in
+      let inside = looping (enter_parts third (m + 1) name to_test.leave) a in
+      let when_true = enter s (λ q. name (0 ∷ q)) inside in
+      let ways = test_ways when_true a.leave in
+      let test = part_nodes p 0 (λ k. name [] m k) ways in
+      let step = parts_nodes third (m + 1) name to_test in
+      let body = nodes s (λ q. name (0 ∷ q)) inside in
+      both_once (parts_nodes first 0 name to_test) (test ++ (step ++ body)) (parts_once first 0 name to_test)
+      (both_once test (step ++ body)
+      (part_once p 0 (λ k. name [] m k) ways (test_once when_true a.leave))
+      (both_once step body (parts_once third (m + 1) name to_test) (stmt_once s (λ q. name (0 ∷ q)) inside)))
+  stmt_once breaks name a = tt
+  stmt_once continues name a = tt
 
   list_once : (stmts : StmtTrees) (i : ℕ) (name : List ℕ → ℕ → ℕ → PointTree) (a : Around PointTree) → AllOnce (nodes_list stmts i name a)
   list_once no_stmt i name a = tt

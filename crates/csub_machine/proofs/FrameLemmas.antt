@@ -2,7 +2,7 @@
 use Rattle.std.proofs.Common.{◌≡◌, ◌<◌, ◌+◌, ℕ, [], ◌∷◌, ◌++◌, length, None, All, subst, sym, ap, ◌∙◌, refl, arith, length-append}
 use Rattle.std.proofs.lemmas.List.Elements.{All-push}
 use Rattle.csub_core.specs.Types.{Name}
-use Rattle.csub_core.specs.Labels.{LabelTree, enters, exits, evaluates, branches, returns, calls}
+use Rattle.csub_core.specs.Labels.{LabelTree, enters, exits, evaluates, initialises, branches, returns, calls}
 use Rattle.csub_core.specs.Syntax.{ProgramTree}
 use Rattle.csub_core.specs.Points.{entry}
 use Rattle.csub_core.specs.Flows.{point_list, flow_of}
@@ -27,6 +27,7 @@ pub callee_defined : (P : ProgramTree) (n : ℕ) (l : LabelTree) (f : Name) → 
 callee_defined P n enters f flow label call undefined = absurd call
 callee_defined P n (exits rule) f flow label call undefined = absurd call
 callee_defined P n (evaluates e) f flow label call undefined = absurd call
+callee_defined P n (initialises owner t init) f flow label call undefined = absurd call
 callee_defined P n (branches e) f flow label call undefined = absurd call
 callee_defined P n (returns answer) f flow label call undefined = absurd call
 callee_defined P n (calls c) f flow label call undefined =

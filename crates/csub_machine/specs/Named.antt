@@ -9,6 +9,8 @@ use Rattle.csub_machine.specs.declared.cells.Inner.TheVariants.{At, Of}
 use Rattle.csub_machine.specs.declared.cells.CellName.{CellName}
 use Rattle.csub_machine.specs.declared.cells.Content.{Content}
 use Rattle.csub_machine.specs.declared.cells.Content.TheVariants.{Number, Reference}
+use Rattle.csub_machine.specs.declared.cells.Spot.{Spot}
+use Rattle.csub_core.specs.Types.{number_type}
 use Rattle.csub_core.specs.Cells as the
 
 abbrev pub root_seen : Root → the.Root
@@ -26,6 +28,9 @@ cell_seen c = record { root = root_seen c.root; path = map inner_seen c.path.ite
 abbrev pub content_seen : Content → the.Content
 content_seen (Number v) = the.number v
 content_seen (Reference c n) = the.reference (cell_seen c) n
+
+abbrev pub spot_seen : Spot → the.Spot
+spot_seen l = record { cell = cell_seen l.cell; ctype = number_type l.kind; length = 0 }
 
 -- the content of a cell among entries
 abbrev pub among : List (CellName × Content) → the.Cells

@@ -1,20 +1,21 @@
 //! The acts of labels.
 ghost use Rattle.std.specs.Prelude.{◌≡◌, ◌-◌, ◌<◌, map, OnOk, IfOk};
-ghost use Rattle.csub_core.specs.Types.{member_tree};
-ghost use Rattle.csub_core.specs.Trees.{arg_tree};
-ghost use Rattle.csub_core.specs.Labels.{calls, exits, call_tree, label_tree};
+ghost use Rattle.csub_core.specs.Types.{type_tree, member_tree};
+ghost use Rattle.csub_core.specs.Trees.{owner_tree, arg_tree};
+ghost use Rattle.csub_core.specs.Labels.{calls, exits, call_tree, init_tree, label_tree};
 ghost use Rattle.csub_core.specs.Cells.{entered};
-ghost use Rattle.csub_core.specs.Acts.{act, act_call, act_exit, argument_content, argument_contents};
+ghost use Rattle.csub_core.specs.Acts.{act, act_init, act_call, act_exit, argument_content, argument_contents};
 ghost use Rattle.csub_machine.specs.Named.{content_seen, cells_of};
 ghost use Rattle.csub_machine.specs.States.{state_of, Gives, OnlyAdds, contents_seen};
 ghost use Rattle.csub_machine.specs.Outcomes.{Acts, PushesWithin};
 
 use crate::cells::{CellName, Content, Root, drop_frame, set_content};
-use crate::eval::eval;
+use crate::eval::{eval, eval_into};
 use crate::stop::Stop;
-use crate::store::{Store, fetch_temporary};
+use crate::store::{Store, fetch_temporary, locate_object};
 use csub_core::{
-    Answer, CType, CallLabel, EndRule, ExitLabel, IntKind, Label, Member, RArg, Status, Text, Trap,
+    Answer, CType, CallLabel, EndRule, ExitLabel, IntKind, Label, Member, Owner, RArg, RInit,
+    Status, Text, Trap,
 };
 use csub_types::kind::convert;
 use std::alloc::{AllocError, Global};
@@ -57,6 +58,7 @@ pub fn act<'p>(
             eval(store, height, expr)?;
             Ok(Outcome::Leaves(ExitLabel::Next, answer))
         }
+        Label::Init(owner, ctype, init) => act_init(store, owner, ctype, init, count, answer),
         Label::Branch(expr) => {
             let value = eval(store, height, expr)?;
             let exit = if value == 0 {
@@ -72,6 +74,25 @@ pub fn act<'p>(
         }
         Label::Call(call) => act_call(store, call, count),
     }
+}
+
+/// The act of an initialiser for the top one of so many frames, which has this result (C11 6.7.9p11).
+fn act_init<'p>(
+    store: &mut Store,
+    owner: &Owner,
+    ctype: &CType,
+    init: &RInit,
+    count: u32,
+    answer: Option<i64>,
+) -> Result<Outcome<'p>, Stop>
+    requires { 0 < count }
+    ensures value { Acts (act_init (owner_tree owner.now) (type_tree ctype.now) (init_tree init.now) count answer (state_of store.old)) result (state_of store.new) }
+    ensures kept { OnlyAdds store.old store.new }
+{
+    let RInit::One(expr) = init;
+    let spot = locate_object(store, count - 1, owner, ctype)?;
+    eval_into(store, count - 1, spot, expr)?;
+    Ok(Outcome::Leaves(ExitLabel::Next, answer))
 }
 
 /// The act of a call, where so many frames stand: its arguments, then a frame with its parameters.

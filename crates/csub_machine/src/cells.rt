@@ -4,7 +4,7 @@ ghost use Rattle.std.specs.Option.{option_map, option_copied};
 ghost use Rattle.csub_core.specs.Cells.{written, dropped, of_frame};
 ghost use Rattle.csub_machine.specs.Named.{root_seen, cell_seen, content_seen, cells_of};
 
-use csub_core::Text;
+use csub_core::{IntKind, Text};
 use std::alloc::AllocError;
 use std::collections::BTreeMap;
 
@@ -44,6 +44,15 @@ pub enum Content {
     Number(i64),
     /// For an array parameter, an array's place and its length.
     Reference(CellName, u32),
+}
+
+/// Where a number is: its cell, and the kind that is declared there.
+#[derive(Drop)]
+pub struct Spot {
+    /// The cell.
+    pub cell: CellName,
+    /// The declared kind, to which numbers are converted as they are stored and read.
+    pub kind: IntKind,
 }
 
 /// The content of a cell, if it was written.

@@ -1,16 +1,18 @@
 //! The input, the output and the cells of a run, and what is done to them.
 ghost use Rattle.std.specs.Prelude.{◌≡◌, ◌≤◌, length, [], IfOk, OnOk};
-ghost use Rattle.csub_core.specs.Trees.{reading, variable, temporary};
+ghost use Rattle.csub_core.specs.Types.{type_tree};
+ghost use Rattle.csub_core.specs.Trees.{reading, variable, object, temporary, owner_tree, place_tree};
 ghost use Rattle.csub_core.specs.Memory.{get_byte, put_byte, value};
-ghost use Rattle.csub_core.specs.Evaluation.{eval};
+ghost use Rattle.csub_core.specs.Evaluation as the;
+ghost use Rattle.csub_core.specs.Evaluation.{fetch, locate, eval};
 ghost use Rattle.csub_core.specs.Cells.{named, temp_root};
 ghost use Rattle.csub_core.specs.Runs.{put_result};
-ghost use Rattle.csub_machine.specs.Named.{cell_seen};
+ghost use Rattle.csub_machine.specs.Named.{cell_seen, spot_seen};
 ghost use Rattle.csub_machine.specs.States.{state_of, no_cells, Gives, same, nothing, OnlyAdds};
 
-use crate::cells::{CellName, Content, Root, content_at, set_content};
+use crate::cells::{CellName, Content, Root, Spot, content_at, set_content};
 use crate::stop::Stop;
-use csub_core::{IntKind, Trap};
+use csub_core::{CType, IntKind, Owner, Place, Trap};
 use csub_types::kind::convert;
 use std::alloc::{AllocError, Global};
 use std::collections::BTreeMap;
@@ -85,15 +87,58 @@ fn temporary(alloc: Global, height: u32, number: u32) -> CellName
     }
 }
 
+/// Where an object of a declared type is, for the frame at a height. An `Err` is want of memory.
+pub fn locate_object(store: &Store, height: u32, owner: &Owner, ctype: &CType) -> Result<Spot, Stop>
+    ensures { Gives spot_seen (locate (named height) (variable (object (owner_tree owner.now) (type_tree ctype.now))) (state_of store.now)) result (state_of store.now) }
+{
+    let root = match owner {
+        Owner::Global(name) => Root::Global(name.copy()?),
+        Owner::Local(name, number) => Root::Local(height, name.copy()?, *number),
+    };
+    let CType::Num(kind) = ctype;
+    let path = Vec::new(store.alloc);
+    Ok(Spot {
+        cell: CellName { root, path },
+        kind: *kind,
+    })
+}
+
+/// Where a place is, for the frame at a height. An `Err` is want of memory.
+pub fn locate(store: &Store, height: u32, place: &Place) -> Result<Spot, Stop>
+    ensures { Gives spot_seen (locate (named height) (place_tree place.now) (state_of store.now)) result (state_of store.now) }
+{
+    let Place::Var(owner, ctype) = place;
+    locate_object(store, height, owner, ctype)
+}
+
+/// The number at a spot, converted to the kind there; in a cell that was never written it is the trap `unset`. The
+/// height of the frame makes no difference, so the contract names height 0.
+pub fn fetch(store: &Store, spot: &Spot) -> Result<i64, Stop>
+    ensures { Gives same (fetch (named 0) (spot_seen spot.now) (state_of store.now)) result (state_of store.now) }
+{
+    match content_at(&store.cells, &spot.cell) {
+        Some(Content::Number(value)) => Ok(convert(spot.kind, *value)),
+        Some(Content::Reference(_, _)) | None => Err(Stop::Trap(Trap::Unset)),
+    }
+}
+
+/// A number goes to a spot, converted to the kind there, and is given so, alike for frames of all heights. An `Err` is
+/// want of memory.
+pub fn put_number(store: &mut Store, spot: Spot, number: i64) -> Result<i64, Stop>
+    ensures value { Gives same (the.store (named 0) (spot_seen spot) number (state_of store.old)) result (state_of store.new) }
+    ensures kept { OnlyAdds store.old store.new }
+{
+    let stored = convert(spot.kind, number);
+    set_content(&mut store.cells, spot.cell, Content::Number(stored))?;
+    Ok(stored)
+}
+
 /// The number in a temporary, in its kind.
 pub fn fetch_temporary(store: &Store, height: u32, number: u32, kind: IntKind) -> Result<i64, Stop>
     ensures { Gives same (eval (named height) (reading (variable (temporary number kind))) (state_of store.now)) result (state_of store.now) }
 {
     let cell = temporary(store.alloc, height, number);
-    match content_at(&store.cells, &cell) {
-        Some(Content::Number(value)) => Ok(convert(kind, *value)),
-        Some(Content::Reference(_, _)) | None => Err(Stop::Trap(Trap::Unset)),
-    }
+    fetch(store, &Spot { cell, kind })
 }
 
 /// A result goes into the temporary of the call, where there are both. An `Err` is want of memory.
