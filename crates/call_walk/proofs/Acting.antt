@@ -8,8 +8,8 @@ use Rattle.csub_core.specs.declared.label.EndRule.{EndRule}
 use Rattle.csub_core.specs.declared.label.EndRule.TheVariants.{Nothing, Value, Main, Start}
 use Rattle.csub_core.specs.declared.status.Status.TheVariants.{Trap}
 use Rattle.csub_core.specs.Types.{number_kind, MemberTree}
-use Rattle.csub_core.specs.Trees.{NamedArg, value_argument, reading, variable, temporary}
-use Rattle.csub_core.specs.Labels.{LabelTree, enters, exits, evaluates, branches, returns, calls, AnswerTree, CallTree}
+use Rattle.csub_core.specs.Trees.{NamedArg, value_argument, reading, assignment, variable, object, temporary}
+use Rattle.csub_core.specs.Labels.{LabelTree, enters, exits, evaluates, initialises, branches, returns, calls, AnswerTree, CallTree, one_value}
 use Rattle.csub_core.specs.Memory.{Answer}
 use Rattle.csub_core.specs.Cells.{Root, Content, entered}
 use Rattle.csub_core.specs.Acts.{Store, Outcome, pushes, ends, after_value, argument_content, argument_contents, most_frames, act_exit, act_return, act_call, act}
@@ -60,6 +60,8 @@ module _ (S : Root → Bool) (frames : HasFrames S) where
   same_act enters covers n r s s' agree = both_leave agree
   same_act (exits rule) covers n r s s' agree = same_exit rule n r s s' agree
   same_act (evaluates e) covers n r s s' agree = after_same (same_eval S frames (n - 1) e s s' covers agree) (λ v t t' q z. both_leave z)
+  same_act (initialises owner t (one_value e)) covers n r s s' agree =
+      after_same (same_eval S frames (n - 1) (assignment (variable (object owner t)) e) s s' covers agree) (λ v u u' q z. both_leave z)
   same_act (branches e) covers n r s s' agree = after_same (same_eval S frames (n - 1) e s s' covers agree) (λ v t t' q z. both_leave z)
   same_act (returns answer) covers n r s s' agree = same_return answer n r s s' covers agree
   same_act (calls c) covers n r s s' agree = same_call c n s s' covers agree

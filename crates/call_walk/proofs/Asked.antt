@@ -4,7 +4,7 @@ use Rattle.std.specs.Prelude.{MatchOption}
 use Rattle.std.proofs.lemmas.Option.{same_Some}
 use Rattle.csub_core.specs.declared.label.CallLabel.{CallLabel}
 use Rattle.csub_core.specs.declared.label.Label.{Label}
-use Rattle.csub_core.specs.declared.label.Label.TheVariants.{Entry, Exit, Eval, Branch, Return, Call}
+use Rattle.csub_core.specs.declared.label.Label.TheVariants.{Entry, Exit, Eval, Init, Branch, Return, Call}
 use Rattle.csub_core.specs.Types.{Name}
 use Rattle.csub_core.specs.Labels.{LabelTree, CallTree, calls, PointLabel, label_tree, call_tree}
 use Rattle.csub_core.specs.Points.{PointTree}
@@ -46,6 +46,7 @@ pub no_call : (l : Label) → ((k : CallLabel) → l ≡ Call k → ⊥) → (t 
 no_call Entry n t e = cc
 no_call (Exit rule) n t e = cc
 no_call (Eval x) n t e = cc
+no_call (Init owner ctype init) n t e = cc
 no_call (Branch x) n t e = cc
 no_call (Return answer) n t e = cc
 no_call (Call k) n t e = n k refl

@@ -1,17 +1,22 @@
 -- An evaluation reads and writes cells of frames and of the globals that are named, and nothing else.
-use Rattle.std.proofs.Common.{◌≡◌, ℕ, ◌++◌, ◌∷◌, ℤ, List, [], length, Bool, true, false, Option, Some, None, Result, Ok, Err, nat_lt, refl, subst, if◌then◌else◌, IsTrue}
+use Rattle.std.proofs.Common.{◌≡◌, ℕ, ◌++◌, ◌∷◌, ℤ, pos, List, [], length, Bool, true, false, Option, Some, None, Result, Ok, Err, nat_lt, int_eq, refl, subst, if◌then◌else◌, IsTrue}
+use Rattle.csub_text.specs.declared.operator.BinOp.{BinOp}
+use Rattle.csub_text.specs.declared.operator.BinOp.TheVariants.{Add}
+use Rattle.csub_text.specs.declared.operator.StepOp.{StepOp}
+use Rattle.csub_types.specs.declared.kind.IntKind.{IntKind}
 use Rattle.csub_types.specs.declared.trap.Trap.{Trap}
 use Rattle.csub_types.specs.declared.trap.Trap.TheVariants.{Flood}
 use Rattle.csub_types.specs.Kinds.{convert, promote}
-use Rattle.csub_types.specs.Arithmetic.{binary}
+use Rattle.csub_types.specs.Arithmetic.{unary, binary}
 use Rattle.csub_core.specs.Types.{TypeTree, number_type}
-use Rattle.csub_core.specs.Trees.{global_owner, local_owner, Variable, object, temporary, NamedPlace, variable, NamedExpr, constant, reading, operation, input_byte, output_byte}
+use Rattle.csub_core.specs.Trees.{global_owner, local_owner, Variable, object, temporary, NamedPlace, variable, NamedExpr, constant, reading, unary_operation, conversion, stepping, operation, conjunction, disjunction, choice, assignment, update, input_byte, output_byte}
 use Rattle.csub_core.specs.Memory.{Answer, value, trapped, then_do, given, found, get_byte, most_output, put_byte, low_byte}
-use Rattle.csub_core.specs.Evaluation.{right_operand, fetch, locate, eval}
-use Rattle.csub_core.specs.Cells.{Root, root_of, Cell, cell_of, type_of, Spot, stand_at, number_in, named}
+use Rattle.csub_core.specs.Evaluation.{right_operand, computed, step_by, step_value, fetch, locate, store, step, eval}
+use Rattle.csub_core.specs.Cells.{Root, root_of, Cell, cell_of, type_of, Spot, stand_at, number, number_in, named}
 use Rattle.csub_core.specs.Acts.{Store}
 use Rattle.call_walk.specs.Shared.{Agree}
 use Rattle.call_walk.specs.Locality.{HasFrames, CoversVariable, CoversPlace, CoversExpr}
+use Rattle.call_walk.proofs.Agreeing.{number_inside, agree_written}
 
 -- both give one value, which passes Q, or one trap, and their stores are related
 pub data SameAnswer {X : Type 0} (Q : X → Type 0) (A : Store → Store → Type 0) : Answer X Store → Answer X Store → Type 0 where
@@ -70,6 +75,22 @@ module _ (S : Root → Bool) (frames : HasFrames S) (h : ℕ) where
   pub same_locate : (p : NamedPlace) (s s' : Store) → CoversPlace S p → Agree S s s' → SameAnswer IsIn (Agree S) (locate (named h) p s) (locate (named h) p s')
   same_locate (variable v) s s' covers agree = same_stand (cell_of h v) (type_of v) s s' (root_in S frames h v covers) agree
 
+  -- both operations are one
+  same_computed : (op : BinOp) (k : IntKind) (v w : ℤ) (s s' : Store) → Agree S s s' → SameNumber (computed op k v w s) (computed op k v w s')
+  same_computed op k v w s s' agree = same_given (binary op (promote k) (convert (promote k) v) (right_operand op (promote k) w)) s s' agree
+
+  -- both write one number to one cell
+  same_store : (l : Spot) (v : ℤ) (s s' : Store) → Agree S s s' → SameNumber (store (named h) l v s) (store (named h) l v s')
+  same_store l v s s' agree =
+      let stored = convert ((named h).kind l) v in
+      both_give tt (agree_written S l.cell (number stored) s s' (number_inside S stored) agree)
+
+  same_step : (op : StepOp) (l : Spot) (s s' : Store) → IsIn l → Agree S s s' → SameNumber (step (named h) op l s) (step (named h) op l s')
+  same_step op l s s' inside agree =
+      then_same (same_fetch l s s' inside agree)
+      (λ before t t' q r. then_same (same_computed Add ((named h).kind l) before (step_by op) t t' r)
+      (λ v u u' o z. then_same (same_store l v u u' z) (λ after w w' p y. both_give {v = step_value op before after} tt y)))
+
   same_get_byte : (s s' : Store) → Agree S s s' → SameNumber (get_byte s s.input) (get_byte s' s'.input)
   same_get_byte s s' agree = subst (λ (i : List ℕ). SameNumber (get_byte s s.input) (get_byte s' i)) agree.input (at s.input)
     where
@@ -85,8 +106,26 @@ module _ (S : Root → Bool) (frames : HasFrames S) (h : ℕ) where
   pub same_eval : (e : NamedExpr) (s s' : Store) → CoversExpr S e → Agree S s s' → SameNumber (eval (named h) e s) (eval (named h) e s')
   same_eval (constant k v) s s' covers agree = both_give tt agree
   same_eval (reading p) s s' covers agree = then_same (same_locate p s s' covers agree) (λ l t t' inside r. same_fetch l t t' inside r)
+  same_eval (unary_operation op k a) s s' covers agree = then_same (same_eval a s s' covers agree) (λ v t t' q r. same_given (unary op (promote k) (convert (promote k) v)) t t' r)
+  same_eval (conversion k a) s s' covers agree = then_same (same_eval a s s' covers agree) (λ v t t' q r. both_give tt r)
+  same_eval (stepping op p) s s' covers agree = then_same (same_locate p s s' covers agree) (same_step op)
   same_eval (operation op k a b) s s' covers agree =
-      then_same (same_eval a s s' covers.0 agree) (λ v t t' q r. then_same (same_eval b t t' covers.1 r) (λ w u u' o z. same_given (binary op (promote k) (convert (promote k) v) (right_operand op (promote k) w)) u u' z))
+      then_same (same_eval a s s' covers.0 agree) (λ v t t' q r. then_same (same_eval b t t' covers.1 r) (λ w u u' o z. same_computed op k v w u u' z))
+  same_eval (conjunction a b) s s' covers agree =
+      then_same (same_eval a s s' covers.0 agree) (λ v t t' q r. same_if (int_eq v (pos 0)) (both_give tt r) (then_same (same_eval b t t' covers.1 r) (λ w u u' o z. both_give tt z)))
+  same_eval (disjunction a b) s s' covers agree =
+      then_same (same_eval a s s' covers.0 agree) (λ v t t' q r. same_if (int_eq v (pos 0)) (then_same (same_eval b t t' covers.1 r) (λ w u u' o z. both_give tt z)) (both_give tt r))
+  same_eval (choice k c a b) s s' covers agree =
+      then_same (same_eval c s s' covers.0 agree)
+      (λ v t t' q r. then_same (same_if (int_eq v (pos 0)) (same_eval b t t' covers.2 r) (same_eval a t t' covers.1 r)) (λ w u u' o z. both_give tt z))
+  same_eval (assignment p e) s s' covers agree =
+      then_same (same_locate p s s' covers.0 agree)
+      (λ l t t' inside r. then_same (same_eval e t t' covers.1 r) (λ v u u' o z. same_store l v u u' z))
+  same_eval (update p op k e) s s' covers agree =
+      then_same (same_locate p s s' covers.0 agree)
+      (λ l t t' inside r. then_same (same_fetch l t t' inside r)
+      (λ v u u' o z. then_same (same_eval e u u' covers.1 z)
+      (λ w x x' i y. then_same (same_computed op k v w x x' y) (λ n c c' j g. same_store l n c c' g))))
   same_eval input_byte s s' covers agree = same_get_byte s s' agree
   same_eval (output_byte e) s s' covers agree =
       then_same (same_eval e s s' covers agree) (λ v t t' q r. then_same (same_put_byte (low_byte v) t t' r) (λ x u u' o z. both_give tt z))

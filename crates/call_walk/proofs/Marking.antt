@@ -4,7 +4,7 @@ use Rattle.std.specs.Prelude.{slice_get, is_some, IfSome, IfNone}
 use Rattle.std.proofs.lemmas.Bool.{cases_lt, cases_eq}
 use Rattle.std.proofs.lemmas.Option.{slice_get_within, same_Some}
 use Rattle.csub_core.specs.Types.{Name}
-use Rattle.csub_core.specs.Labels.{LabelTree, enters, exits, evaluates, branches, returns, calls, CallTree, PointLabel}
+use Rattle.csub_core.specs.Labels.{LabelTree, enters, exits, evaluates, initialises, branches, returns, calls, CallTree, PointLabel}
 use Rattle.csub_core.specs.Points.{PointTree, exit, ExitTree, next}
 use Rattle.csub_core.specs.Syntax.{ProgramTree}
 use Rattle.csub_core.specs.Flows.{Edge, Flow, flow_of}
@@ -138,6 +138,7 @@ calls_or_none F f p l e = pick l.tree refl
     pick enters is = inr (plain enters is (λ c h. cc))
     pick (exits rule) is = inr (plain (exits rule) is (λ c h. cc))
     pick (evaluates x) is = inr (plain (evaluates x) is (λ c h. cc))
+    pick (initialises owner t init) is = inr (plain (initialises owner t init) is (λ c h. cc))
     pick (branches x) is = inr (plain (branches x) is (λ c h. cc))
     pick (returns answer) is = inr (plain (returns answer) is (λ c h. cc))
     pick (calls c) is = inl (c, is)

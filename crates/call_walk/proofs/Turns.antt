@@ -3,7 +3,7 @@ use Rattle.std.proofs.Common.{◌≡◌, ℕ, suc, ◌+◌, ℤ, List, [], ◌�
 use Rattle.std.specs.List.{list_any}
 use Rattle.std.specs.Ordering.{int_eq}
 use Rattle.csub_core.specs.Types.{Name}
-use Rattle.csub_core.specs.Labels.{LabelTree, enters, exits, evaluates, branches, returns, calls, CallTree, PointLabel}
+use Rattle.csub_core.specs.Labels.{LabelTree, enters, exits, evaluates, initialises, branches, returns, calls, CallTree, PointLabel}
 use Rattle.csub_core.specs.Points.{PointTree, entry, exit, ExitTree, next, on_case, on_default}
 use Rattle.csub_core.specs.Flows.{Flow, Edge}
 use Rattle.csub_core.specs.Acts.{Store, Outcome, leaves, gives, pushes, pops, act}
@@ -100,6 +100,7 @@ no_call_leaves : (l : LabelTree) (x : ExitTree) (r : Option ℤ) (s : Store) →
 no_call_leaves enters x r s fit c e = cc
 no_call_leaves (exits rule) x r s fit c e = cc
 no_call_leaves (evaluates a) x r s fit c e = cc
+no_call_leaves (initialises owner t init) x r s fit c e = cc
 no_call_leaves (branches a) x r s fit c e = cc
 no_call_leaves (returns answer) x r s fit c e = cc
 no_call_leaves (calls d) x r s fit c e = fit
@@ -108,6 +109,7 @@ no_call_gives : (l : LabelTree) (v : ℤ) (s : Store) → Fits l (gives v s) →
 no_call_gives enters v s fit c e = cc
 no_call_gives (exits rule) v s fit c e = cc
 no_call_gives (evaluates a) v s fit c e = cc
+no_call_gives (initialises owner t init) v s fit c e = cc
 no_call_gives (branches a) v s fit c e = cc
 no_call_gives (returns answer) v s fit c e = cc
 no_call_gives (calls d) v s fit c e = fit
@@ -117,6 +119,7 @@ module _ (P : Flow) (f : Name) (p : PointTree) (l : PointLabel) (at : P.label f 
   pushes_callee enters g s e fit = absurd fit
   pushes_callee (exits rule) g s e fit = absurd fit
   pushes_callee (evaluates a) g s e fit = absurd fit
+  pushes_callee (initialises owner t init) g s e fit = absurd fit
   pushes_callee (branches a) g s e fit = absurd fit
   pushes_callee (returns answer) g s e fit = absurd fit
   pushes_callee (calls c) g s e fit = record { label = l; labelled = at; call = c; is = e; callee = sym fit }
@@ -125,6 +128,7 @@ module _ (P : Flow) (f : Name) (p : PointTree) (l : PointLabel) (at : P.label f 
   pops_at_exit ok enters r s e fit = absurd fit
   pops_at_exit ok (exits rule) r s e fit = ok.leaves f p l rule at e
   pops_at_exit ok (evaluates a) r s e fit = absurd fit
+  pops_at_exit ok (initialises owner t init) r s e fit = absurd fit
   pops_at_exit ok (branches a) r s e fit = absurd fit
   pops_at_exit ok (returns answer) r s e fit = absurd fit
   pops_at_exit ok (calls c) r s e fit = absurd fit

@@ -3,8 +3,8 @@
 use Rattle.std.specs.Prelude.{ℕ, ℤ, Bool, IsTrue, All, Option, Some, None}
 use Rattle.csub_core.specs.declared.status.Status.{Status}
 use Rattle.csub_core.specs.Types.{Name}
-use Rattle.csub_core.specs.Trees.{OwnerTree, global_owner, local_owner, Variable, object, temporary, NamedPlace, variable, NamedExpr, constant, reading, operation, input_byte, output_byte, NamedArg, value_argument}
-use Rattle.csub_core.specs.Labels.{LabelTree, enters, exits, evaluates, branches, returns, calls, AnswerTree}
+use Rattle.csub_core.specs.Trees.{OwnerTree, global_owner, local_owner, Variable, object, temporary, NamedPlace, variable, NamedExpr, constant, reading, unary_operation, conversion, stepping, operation, conjunction, disjunction, choice, assignment, update, input_byte, output_byte, NamedArg, value_argument}
+use Rattle.csub_core.specs.Labels.{LabelTree, enters, exits, evaluates, initialises, branches, returns, calls, AnswerTree, InitTree, one_value}
 use Rattle.csub_core.specs.Points.{ExitTree}
 use Rattle.csub_core.specs.Cells.{Root, global_root, local_root, temp_root}
 use Rattle.csub_core.specs.Acts.{Store, Outcome, leaves, gives, pushes, pops, ends, act}
@@ -31,7 +31,15 @@ module _ (S : Root → Bool) where
   abbrev pub CoversExpr : NamedExpr → Type 0
   CoversExpr (constant k v) = Unit {0}
   CoversExpr (reading p) = CoversPlace p
+  CoversExpr (unary_operation op k a) = CoversExpr a
+  CoversExpr (conversion k a) = CoversExpr a
+  CoversExpr (stepping op p) = CoversPlace p
   CoversExpr (operation op k a b) = CoversExpr a × CoversExpr b
+  CoversExpr (conjunction a b) = CoversExpr a × CoversExpr b
+  CoversExpr (disjunction a b) = CoversExpr a × CoversExpr b
+  CoversExpr (choice k c a b) = CoversExpr c × CoversExpr a × CoversExpr b
+  CoversExpr (assignment p e) = CoversPlace p × CoversExpr e
+  CoversExpr (update p op k e) = CoversPlace p × CoversExpr e
   CoversExpr input_byte = Unit {0}
   CoversExpr (output_byte e) = CoversExpr e
 
@@ -42,10 +50,14 @@ module _ (S : Root → Bool) where
   CoversAnswer None = Unit {0}
   CoversAnswer (Some a) = CoversExpr a.value
 
+  abbrev pub CoversInit : InitTree → Type 0
+  CoversInit (one_value e) = CoversExpr e
+
   abbrev pub CoversLabel : LabelTree → Type 0
   CoversLabel enters = Unit {0}
   CoversLabel (exits rule) = Unit {0}
   CoversLabel (evaluates e) = CoversExpr e
+  CoversLabel (initialises owner t init) = CoversOwner owner × CoversInit init
   CoversLabel (branches e) = CoversExpr e
   CoversLabel (returns answer) = CoversAnswer answer
   CoversLabel (calls c) = All CoversArg c.args

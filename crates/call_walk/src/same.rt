@@ -2,42 +2,36 @@
 ghost use Rattle.std.specs.Prelude.{◌≡◌, ◌↔◌, IsTrue, map};
 ghost use Rattle.std.specs.Option.{option_map};
 ghost use Rattle.csub_core.specs.Types.{type_tree, member_tree};
-ghost use Rattle.csub_core.specs.Trees.{expr_tree, arg_tree};
-ghost use Rattle.csub_core.specs.Labels.{answer_tree, call_tree, label_tree};
+ghost use Rattle.csub_core.specs.Trees.{owner_tree, place_tree, expr_tree, arg_tree};
+ghost use Rattle.csub_core.specs.Labels.{answer_tree, call_tree, init_tree, label_tree};
 
 use csub_core::types::{CType, Member};
-use csub_core::{Answer, CallLabel, Label, RArg, RExpr};
+use csub_core::{Answer, CallLabel, Label, Owner, Place, RArg, RExpr, RInit};
 
 /// Whether the resolved trees of two labels are equal. The work is in proportion to the smaller one.
 pub fn same_label(a: &Label, b: &Label) -> bool
     ensures { IsTrue result ↔ (label_tree a.now ≡ label_tree b.now) }
 {
-    match a {
-        Label::Entry => match b {
-            Label::Entry => true,
-            _ => false,
-        },
-        Label::Exit(rule) => match b {
-            Label::Exit(other) => rule == other,
-            _ => false,
-        },
-        Label::Eval(expr) => match b {
-            Label::Eval(other) => same_expr(expr, other),
-            _ => false,
-        },
-        Label::Branch(expr) => match b {
-            Label::Branch(other) => same_expr(expr, other),
-            _ => false,
-        },
-        Label::Return(answer) => match b {
-            Label::Return(other) => same_return(answer, other),
-            _ => false,
-        },
-        Label::Call(call) => match b {
-            Label::Call(other) => same_call(call, other),
-            _ => false,
-        },
+    match (a, b) {
+        (Label::Entry, Label::Entry) => true,
+        (Label::Exit(a0), Label::Exit(b0)) => a0 == b0,
+        (Label::Eval(a0), Label::Eval(b0)) => same_expr(a0, b0),
+        (Label::Init(a0, a1, a2), Label::Init(b0, b1, b2)) => same_owner(a0, b0)
+            && same_type(a1, b1)
+            && same_init(a2, b2),
+        (Label::Branch(a0), Label::Branch(b0)) => same_expr(a0, b0),
+        (Label::Return(a0), Label::Return(b0)) => same_return(a0, b0),
+        (Label::Call(a0), Label::Call(b0)) => same_call(a0, b0),
+        _ => false,
     }
+}
+
+fn same_init(a: &RInit, b: &RInit) -> bool
+    ensures { IsTrue result ↔ (init_tree a.now ≡ init_tree b.now) }
+{
+    let RInit::One(a0) = a;
+    let RInit::One(b0) = b;
+    same_expr(a0, b0)
 }
 
 fn same_return(a: &Option<Answer>, b: &Option<Answer>) -> bool
@@ -75,28 +69,51 @@ fn same_call(a: &CallLabel, b: &CallLabel) -> bool
 fn same_expr(a: &RExpr, b: &RExpr) -> bool
     ensures { IsTrue result ↔ (expr_tree a.now ≡ expr_tree b.now) }
 {
-    match a {
-        RExpr::Const(kind, value) => match b {
-            RExpr::Const(other, other_value) => kind == other && value == other_value,
-            _ => false,
-        },
-        RExpr::Getchar => match b {
-            RExpr::Getchar => true,
-            _ => false,
-        },
-        RExpr::Putchar(byte) => match b {
-            RExpr::Putchar(other) => same_expr(byte, other),
-            _ => false,
-        },
-        RExpr::Binary(op, kind, left, right) => match b {
-            RExpr::Binary(other, other_kind, other_left, other_right) => {
-                op == other
-                    && kind == other_kind
-                    && same_expr(left, other_left)
-                    && same_expr(right, other_right)
-            }
-            _ => false,
-        },
+    match (a, b) {
+        (RExpr::Const(a0, a1), RExpr::Const(b0, b1)) => a0 == b0 && a1 == b1,
+        (RExpr::Read(a0), RExpr::Read(b0)) => same_place(a0, b0),
+        (RExpr::Temp(a0, a1), RExpr::Temp(b0, b1)) => a0 == b0 && a1 == b1,
+        (RExpr::Unary(a0, a1, a2), RExpr::Unary(b0, b1, b2)) => a0 == b0
+            && a1 == b1
+            && same_expr(a2, b2),
+        (RExpr::Cast(a0, a1), RExpr::Cast(b0, b1)) => a0 == b0 && same_expr(a1, b1),
+        (RExpr::Step(a0, a1), RExpr::Step(b0, b1)) => a0 == b0 && same_place(a1, b1),
+        (RExpr::Binary(a0, a1, a2, a3), RExpr::Binary(b0, b1, b2, b3)) => a0 == b0
+            && a1 == b1
+            && same_expr(a2, b2)
+            && same_expr(a3, b3),
+        (RExpr::And(a0, a1), RExpr::And(b0, b1)) => same_expr(a0, b0) && same_expr(a1, b1),
+        (RExpr::Or(a0, a1), RExpr::Or(b0, b1)) => same_expr(a0, b0) && same_expr(a1, b1),
+        (RExpr::Choose(a0, a1, a2, a3), RExpr::Choose(b0, b1, b2, b3)) => a0 == b0
+            && same_expr(a1, b1)
+            && same_expr(a2, b2)
+            && same_expr(a3, b3),
+        (RExpr::Assign(a0, a1), RExpr::Assign(b0, b1)) => same_place(a0, b0) && same_expr(a1, b1),
+        (RExpr::Update(a0, a1, a2, a3), RExpr::Update(b0, b1, b2, b3)) => same_place(a0, b0)
+            && a1 == b1
+            && a2 == b2
+            && same_expr(a3, b3),
+        (RExpr::Getchar, RExpr::Getchar) => true,
+        (RExpr::Putchar(a0), RExpr::Putchar(b0)) => same_expr(a0, b0),
+        _ => false,
+    }
+}
+
+fn same_place(a: &Place, b: &Place) -> bool
+    ensures { IsTrue result ↔ (place_tree a.now ≡ place_tree b.now) }
+{
+    let Place::Var(a0, a1) = a;
+    let Place::Var(b0, b1) = b;
+    same_owner(a0, b0) && same_type(a1, b1)
+}
+
+fn same_owner(a: &Owner, b: &Owner) -> bool
+    ensures { IsTrue result ↔ (owner_tree a.now ≡ owner_tree b.now) }
+{
+    match (a, b) {
+        (Owner::Global(a0), Owner::Global(b0)) => a0.bytes() == b0.bytes(),
+        (Owner::Local(a0, a1), Owner::Local(b0, b1)) => a0.bytes() == b0.bytes() && a1 == b1,
+        _ => false,
     }
 }
 

@@ -67,15 +67,11 @@ fn call(alloc: Global, callee: &[u8], outcome: Option<IntKind>) -> Result<RStmt,
 }
 
 /// `if (getchar() == 65) first else second`
-fn choice(alloc: Global, first: RStmt, second: RStmt) -> Result<RStmt, AllocError> {
+fn choice(alloc: Global, first: Box<RStmt>, second: Box<RStmt>) -> Result<RStmt, AllocError> {
     let read = Box::new(alloc, RExpr::Getchar)?;
     let letter = Box::new(alloc, RExpr::Const(IntKind::Int, 65))?;
     let test = Label::Branch(RExpr::Binary(BinOp::Eq, IntKind::Int, read, letter));
-    Ok(RStmt::If(
-        part(alloc, test),
-        Box::new(alloc, first)?,
-        Some(Box::new(alloc, second)?),
-    ))
+    Ok(RStmt::If(part(alloc, test), first, Some(second)))
 }
 
 /// A function without objects.
@@ -118,10 +114,22 @@ fn puts(alloc: Global, bytes: &[i64]) -> Result<Vec<RStmt>, AllocError> {
     Ok(made)
 }
 
+fn boxed_put(alloc: Global, byte: i64) -> Result<Box<RStmt>, AllocError> {
+    let line = put(alloc, byte)?;
+    Ok(Box::new(alloc, line)?)
+}
+
+/// `if (getchar() == 65) { putchar(66); } else { putchar(other); }`
+fn choosing_put(alloc: Global, other: i64) -> Result<RStmt, AllocError> {
+    let first = boxed_put(alloc, 66)?;
+    let second = boxed_put(alloc, other)?;
+    choice(alloc, first, second)
+}
+
 /// `if (getchar() == 65) { putchar(66); } else { putchar(other); } return 0;`
 fn choosing(alloc: Global, other: i64) -> Result<Graph, Fail> {
     let mut body = Vec::new(alloc);
-    body.push(choice(alloc, put(alloc, 66)?, put(alloc, other)?)?)?;
+    body.push(choosing_put(alloc, other)?)?;
     body.push(give(alloc)?)?;
     graph(alloc, body, Vec::new(alloc))
 }
@@ -206,7 +214,7 @@ fn a_call_is_passed_over_where_its_callee_comes_back(rt: HostRuntime) -> Result<
 fn an_old_point_is_walked_with_each_of_its_partners(rt: HostRuntime) -> Result<(), Fail> {
     let alloc = rt.alloc();
     let mut body = Vec::new(alloc);
-    body.push(choice(alloc, put(alloc, 66)?, put(alloc, 66)?)?)?;
+    body.push(choosing_put(alloc, 66)?)?;
     body.push(put(alloc, 67)?)?;
     body.push(give(alloc)?)?;
     let old = graph(alloc, body, Vec::new(alloc))?;
@@ -214,7 +222,8 @@ fn an_old_point_is_walked_with_each_of_its_partners(rt: HostRuntime) -> Result<(
     let mut first = puts(alloc, &[66, 67])?;
     first.push(give(alloc)?)?;
     let mut other = Vec::new(alloc);
-    other.push(choice(alloc, RStmt::Block(first), put(alloc, 66)?)?)?;
+    let block = Box::new(alloc, RStmt::Block(first))?;
+    other.push(choice(alloc, block, boxed_put(alloc, 66)?)?)?;
     other.push(put(alloc, 67)?)?;
     other.push(put(alloc, 68)?)?;
     other.push(give(alloc)?)?;
