@@ -1,6 +1,6 @@
 -- The program of a small source is valid.
 use Rattle.std.proofs.Common.{◌≡◌, ◌≢◌, ℕ, ◌+◌, ◌≤◌, List, [], ◌∷◌, ◌++◌, length, Option, Some, None, refl, sym, ap, subst, arith, length-append, pos}
-use Rattle.std.specs.Prelude.{map, All}
+use Rattle.std.specs.Prelude.{map, All, AllPairs}
 use Rattle.std.specs.List.{flat_map}
 use Rattle.std.proofs.lemmas.List.{length-map}
 use Rattle.std.proofs.lemmas.List.Elements.{All-cons, All-nil}
@@ -16,7 +16,7 @@ use Rattle.csub_core.specs.Points as points
 use Rattle.csub_core.specs.Labels.{exits}
 use Rattle.csub_core.specs.Successors.{Node, nodes_list}
 use Rattle.csub_core.specs.Flows.{to_exit, end_rule, function_nodes, PlacedNode, placed, point_list, edges_from, edge_list}
-use Rattle.csub_core.specs.Valid.{IsStmt, AreStmts, IsElse, IsPart, IsValid}
+use Rattle.csub_core.specs.Valid.{IsPart, no_loop, IsStmt, AreStmts, IsElse, objects_of, AreOther, frame_cells, IsValid}
 use Rattle.csub_core.specs.declared.valid.role.Role.TheVariants.{Whole}
 use Rattle.read_small.specs.declared.plain.Plain.{Plain}
 use Rattle.read_small.specs.declared.plain.Plain.TheVariants.{Writes, Gives}
@@ -33,29 +33,29 @@ byte_int n h = (omega (arith, ints), omega (arith, ints))
 
 -- ---- the statements
 
-one_part : (P : ProgramTree) (f : FunctionTree) (p : PartTree) → IsPart P f Whole 1 p → All (λ q. IsPart P f Whole 1 q) (p ∷ [])
-one_part P f p h = All-cons (λ q. IsPart P f Whole 1 q) p [] h (All-nil (λ q. IsPart P f Whole 1 q))
+one_part : (P : ProgramTree) (f : FunctionTree) (p : PartTree) → IsPart P f Whole p → All (λ q. IsPart P f Whole q) (p ∷ [])
+one_part P f p h = All-cons (λ q. IsPart P f Whole q) p [] h (All-nil (λ q. IsPart P f Whole q))
 
 module _ (P : ProgramTree) (span : Span) (body : List StmtTree) where
   abbrev own : FunctionTree
   own = main_function span body
 
-  valid_plain : (p : Plain) → AreKinds (plain_words p) → IsStmt P own (plain_stmt p)
+  valid_plain : (p : Plain) → AreKinds (plain_words p) → IsStmt P own no_loop (plain_stmt p)
   valid_plain (Writes at n) h = one_part P own _ (byte_int n h.1.1.0)
   valid_plain (Gives at n) h = one_part P own _ (refl, byte_int n h.1.0)
 
-  valid_many : {L : Type 0} (words : L → List Word) (stmt : L → StmtTree) → ((x : L) → AreKinds (words x) → IsStmt P own (stmt x)) → (xs : List L) → AreKinds (flat_map words xs) → AreStmts P own (stmts_of (map stmt xs))
+  valid_many : {L : Type 0} (words : L → List Word) (stmt : L → StmtTree) → ((x : L) → AreKinds (words x) → IsStmt P own no_loop (stmt x)) → (xs : List L) → AreKinds (flat_map words xs) → AreStmts P own no_loop (stmts_of (map stmt xs))
   valid_many words stmt one [] h = tt
   valid_many words stmt one (x ∷ xs) h = let kinds = kinds_split (words x) (flat_map words xs) h in (one x kinds.0, valid_many words stmt one xs kinds.1)
 
-  valid_block : (ps : List Plain) → AreKinds (braced_words ps) → IsStmt P own (block_of ps)
+  valid_block : (ps : List Plain) → AreKinds (braced_words ps) → IsStmt P own no_loop (block_of ps)
   valid_block ps h = valid_many plain_words plain_stmt valid_plain ps (kinds_split (flat_map plain_words ps) (word CloseBrace ∷ []) h.1).0
 
-  valid_else : (other : Option (List Plain)) → AreKinds (else_words other) → IsElse P own (else_of other)
+  valid_else : (other : Option (List Plain)) → AreKinds (else_words other) → IsElse P own no_loop (else_of other)
   valid_else None h = tt
   valid_else (Some ps) h = valid_block ps h.1
 
-  valid_line : (l : Line) → AreKinds (line_words l) → IsStmt P own (line_stmt l)
+  valid_line : (l : Line) → AreKinds (line_words l) → IsStmt P own no_loop (line_stmt l)
   valid_line (plain p) h = valid_plain p h
   valid_line (test at n ps other) h =
       let rest = kinds_split (braced_words ps) (else_words other) h.1.1.1.1.1.1.1.1 in
@@ -116,13 +116,14 @@ valid_program place lines kinds fits =
       main = (refl, refl);
       distinct = AllPairs-cons (λ a b. a.name ≢ b.name) f (g ∷ []) (All-cons (λ b. f.name ≢ b.name) g [] (λ same. omega (arith, ap length same)) (All-nil (λ b. f.name ≢ b.name)))
           (AllPairs-cons (λ a b. a.name ≢ b.name) g [] (All-nil (λ b. g.name ≢ b.name)) (λ i j d lt none. absurd (omega arith)));
-      bodies = two (λ h. AreStmts P h h.body) f g (one_part P f _ (record { defined = (refl, refl); no_argument = refl; no_parameter = refl; temp = refl; few = omega arith }), tt)
+      bodies = two (λ h. AreStmts P h no_loop h.body) f g (one_part P f _ (record { defined = (refl, refl); args = tt; temp = refl; few = omega arith }), tt)
           (valid_many P (span_at place Main) (map line_stmt lines) line_words line_stmt (valid_line P (span_at place Main) (map line_stmt lines)) lines inner.0);
-      plain = two (λ h. (h.params ≡ []) × (h.locals ≡ [])) f g (refl, refl) (refl, refl);
+      objects = two (λ h. AllPairs AreOther (objects_of h)) f g (λ i j d less below. absurd (omega (arith, below))) (λ i j d less below. absurd (omega (arith, below)));
       functions = omega arith;
       points = omega (arith, points_of place lines, counted.points, bytes, fits);
       edges = omega (arith, edges_of place lines, counted.ways, bytes, fits);
-      frames = two (λ h. h.temps ≤ 4096) f g (omega arith) (omega arith);
+      frames = two (λ h. frame_cells h ≤ 4096) f g (omega arith) (omega arith);
+      parameters = two (λ h. length h.params ≤ 16) f g (omega arith) (omega arith);
     }
 
 pub small_valid : (source : List ℕ) (P : ProgramTree) → IsSmall source P → IsValid P
