@@ -121,6 +121,14 @@ fn disjunction(alloc: Global, left: RExpr, right: RExpr) -> Result<RExpr, AllocE
     Ok(RExpr::Or(first, Box::new(alloc, right)?))
 }
 
+/// A constant, or `7 / 0`.
+fn number_or_trap(alloc: Global, number: Option<i64>) -> Result<RExpr, AllocError> {
+    match number {
+        Some(value) => Ok(constant(value)),
+        None => division_by_zero(alloc),
+    }
+}
+
 /// `7 / 0`
 fn division_by_zero(alloc: Global) -> Result<RExpr, AllocError> {
     operation(alloc, BinOp::Div, constant(7), constant(0))
@@ -185,21 +193,31 @@ fn letters(alloc: Global) -> Result<Vec<RStmt>, AllocError> {
 /// return 7;
 /// ```
 fn loops(alloc: Global) -> Result<Vec<RStmt>, AllocError> {
-    let mut inside = Vec::new(alloc);
-    inside.push(jumps_at(alloc, 66, RStmt::Break)?)?;
-    inside.push(jumps_at(alloc, 67, RStmt::Continue)?)?;
-    inside.push(written(alloc, 50)?)?;
     let mut body = Vec::new(alloc);
-    body.push(RStmt::For(
-        writes(alloc, 48)?,
-        reads(alloc, 65)?,
-        writes(alloc, 49)?,
-        Box::new(alloc, RStmt::Block(inside))?,
-    ))?;
-    let repeated = Box::new(alloc, written(alloc, 51)?)?;
-    body.push(RStmt::Do(repeated, reads(alloc, 65)?))?;
+    body.push(for_loop(alloc)?)?;
+    body.push(do_loop(alloc)?)?;
     body.push(returned(alloc, constant(7))?)?;
     Ok(body)
+}
+
+fn for_loop(alloc: Global) -> Result<RStmt, AllocError> {
+    let body = for_body(alloc)?;
+    let first = writes(alloc, 48)?;
+    let third = writes(alloc, 49)?;
+    Ok(RStmt::For(first, reads(alloc, 65)?, third, body))
+}
+
+fn for_body(alloc: Global) -> Result<Box<RStmt>, AllocError> {
+    let mut lines = Vec::new(alloc);
+    lines.push(jumps_at(alloc, 66, RStmt::Break)?)?;
+    lines.push(jumps_at(alloc, 67, RStmt::Continue)?)?;
+    lines.push(written(alloc, 50)?)?;
+    Ok(Box::new(alloc, RStmt::Block(lines))?)
+}
+
+fn do_loop(alloc: Global) -> Result<RStmt, AllocError> {
+    let repeated = Box::new(alloc, written(alloc, 51)?)?;
+    Ok(RStmt::Do(repeated, reads(alloc, 65)?))
 }
 
 /// A body of one line.
@@ -443,26 +461,42 @@ fn status_of(alloc: Global, kind: IntKind, expr: RExpr, number: i64) -> Result<S
 #[test]
 fn unary_operators_casts_and_choices_give_the_numbers_of_c(rt: HostRuntime) -> Result<(), Fail> {
     let alloc = rt.alloc();
-    let negative = unary(alloc, UnaryOp::Minus, constant(5))?;
-    let seven = choice(alloc, IntKind::Int, negative, constant(7), constant(9))?;
-    let nine = choice(alloc, IntKind::Int, constant(0), constant(7), constant(9))?;
-    let cast = RExpr::Cast(IntKind::Char, Box::new(alloc, constant(200))?);
-    for (expr, kind, number) in [
-        (unary(alloc, UnaryOp::Plus, constant(5))?, IntKind::Int, 5),
-        (unary(alloc, UnaryOp::Not, constant(0))?, IntKind::Int, 1),
-        (unary(alloc, UnaryOp::Not, constant(7))?, IntKind::Int, 0),
-        (unary(alloc, UnaryOp::Flip, constant(0))?, IntKind::Int, -1),
-        (cast, IntKind::Int, -56),
-        (seven, IntKind::Int, 7),
-        (nine, IntKind::Int, 9),
-        (unsigned_half(alloc)?, IntKind::Unsigned, 2_147_483_647),
+    for (op, operand, number) in [
+        (UnaryOp::Plus, 5, 5),
+        (UnaryOp::Not, 0, 1),
+        (UnaryOp::Not, 7, 0),
+        (UnaryOp::Flip, 0, -1),
     ] {
-        assert_eq!(rt;
-            status_of(alloc, kind, expr, number)?,
-            Status::Exit(1),
-            "{number}"
-        );
+        let expr = unary(alloc, op, constant(operand))?;
+        let status = status_of(alloc, IntKind::Int, expr, number)?;
+        assert_eq!(rt; status, Status::Exit(1), "{number}");
     }
+    for (test, number) in [(-5, 7), (0, 9)] {
+        let expr = choice(
+            alloc,
+            IntKind::Int,
+            constant(test),
+            constant(7),
+            constant(9),
+        )?;
+        let status = status_of(alloc, IntKind::Int, expr, number)?;
+        assert_eq!(rt; status, Status::Exit(1), "{number}");
+    }
+    let cast = RExpr::Cast(IntKind::Char, Box::new(alloc, constant(200))?);
+    assert_eq!(rt; status_of(alloc, IntKind::Int, cast, -56)?, Status::Exit(1));
+    Ok(())
+}
+
+#[test]
+fn an_operation_has_the_kind_of_its_operands(rt: HostRuntime) -> Result<(), Fail> {
+    let alloc = rt.alloc();
+    let half = status_of(
+        alloc,
+        IntKind::Unsigned,
+        unsigned_half(alloc)?,
+        2_147_483_647,
+    )?;
+    assert_eq!(rt; half, Status::Exit(1));
     let least = status_of(alloc, IntKind::Int, least_negated(alloc)?, 0)?;
     assert_eq!(rt; least, Status::Trap(Trap::Overflow));
     Ok(())
@@ -472,49 +506,23 @@ fn unary_operators_casts_and_choices_give_the_numbers_of_c(rt: HostRuntime) -> R
 #[test]
 fn a_right_operand_that_is_not_needed_does_not_trap(rt: HostRuntime) -> Result<(), Fail> {
     let alloc = rt.alloc();
-    let divided = Status::Trap(Trap::Divide);
-    for (expr, number, status) in [
-        (
-            conjunction(alloc, constant(0), division_by_zero(alloc)?)?,
-            0,
-            Status::Exit(1),
-        ),
-        (
-            conjunction(alloc, constant(1), division_by_zero(alloc)?)?,
-            0,
-            divided,
-        ),
-        (
-            conjunction(alloc, constant(1), constant(5))?,
-            1,
-            Status::Exit(1),
-        ),
-        (
-            conjunction(alloc, constant(1), constant(0))?,
-            0,
-            Status::Exit(1),
-        ),
-        (
-            disjunction(alloc, constant(1), division_by_zero(alloc)?)?,
-            1,
-            Status::Exit(1),
-        ),
-        (
-            disjunction(alloc, constant(0), division_by_zero(alloc)?)?,
-            1,
-            divided,
-        ),
-        (
-            disjunction(alloc, constant(0), constant(0))?,
-            0,
-            Status::Exit(1),
-        ),
-        (
-            disjunction(alloc, constant(0), constant(5))?,
-            1,
-            Status::Exit(1),
-        ),
+    let (one, divided) = (Status::Exit(1), Status::Trap(Trap::Divide));
+    for (left, right, number, status) in [
+        (0, None, 0, one),
+        (1, None, 0, divided),
+        (1, Some(5), 1, one),
+        (1, Some(0), 0, one),
     ] {
+        let expr = conjunction(alloc, constant(left), number_or_trap(alloc, right)?)?;
+        assert_eq!(rt; status_of(alloc, IntKind::Int, expr, number)?, status);
+    }
+    for (left, right, number, status) in [
+        (1, None, 1, one),
+        (0, None, 1, divided),
+        (0, Some(0), 0, one),
+        (0, Some(5), 1, one),
+    ] {
+        let expr = disjunction(alloc, constant(left), number_or_trap(alloc, right)?)?;
         assert_eq!(rt; status_of(alloc, IntKind::Int, expr, number)?, status);
     }
     Ok(())
@@ -548,6 +556,41 @@ fn increased(alloc: Global, number: i64) -> Result<RExpr, AllocError> {
     Ok(RExpr::Update(place, BinOp::Add, IntKind::Int, operand))
 }
 
+/// `putchar(expr);`
+fn shown_line(alloc: Global, expr: RExpr) -> Result<RStmt, AllocError> {
+    let argument = Box::new(alloc, expr)?;
+    line(alloc, Label::Eval(RExpr::Putchar(argument)))
+}
+
+/// The declaration of `x` with a kind and an initial number.
+fn declared_x(alloc: Global, kind: IntKind, initial: i64) -> Result<RStmt, AllocError> {
+    let number = RInit::One(constant(initial));
+    line(
+        alloc,
+        Label::Init(owner_of_x(alloc)?, CType::Num(kind), number),
+    )
+}
+
+/// `return x == last;`, with `x` of a kind.
+fn return_of_test(alloc: Global, kind: IntKind, last: i64) -> Result<RStmt, AllocError> {
+    let read = RExpr::Read(place_of_x(alloc, kind)?);
+    returned(alloc, operation(alloc, BinOp::Eq, read, constant(last))?)
+}
+
+/// Whether the run of [`run_on_x`] writes a byte, and ends after 8 turns with the object holding `last`.
+fn gives(
+    alloc: Global,
+    kind: IntKind,
+    initial: i64,
+    expr: RExpr,
+    byte: u8,
+    last: i64,
+) -> Result<bool, Fail> {
+    let shown = run_on_x(alloc, kind, initial, expr, last)?;
+    let wrote = shown.output.as_slice() == [byte].as_slice();
+    Ok(wrote && shown.status == Status::Exit(1) && shown.turns == 8)
+}
+
 /// A run of `int main(void) { kind x = initial; putchar(expr); return x == last; }`.
 fn run_on_x(
     alloc: Global,
@@ -556,16 +599,11 @@ fn run_on_x(
     expr: RExpr,
     last: i64,
 ) -> Result<Shown, Fail> {
-    let first = RInit::One(constant(initial));
-    let first = Label::Init(owner_of_x(alloc)?, CType::Num(kind), first);
-    let read = RExpr::Read(place_of_x(alloc, kind)?);
-    let mut body = Vec::new(alloc);
-    body.push(line(alloc, first)?)?;
-    let shown = Label::Eval(RExpr::Putchar(Box::new(alloc, expr)?));
-    body.push(line(alloc, shown)?)?;
-    let test = operation(alloc, BinOp::Eq, read, constant(last))?;
-    body.push(returned(alloc, test)?)?;
-    run_of(alloc, with_local(alloc, kind, body)?, b"", 100)
+    let mut body = one(alloc, declared_x(alloc, kind, initial)?)?;
+    body.push(shown_line(alloc, expr)?)?;
+    body.push(return_of_test(alloc, kind, last)?)?;
+    let functions = with_local(alloc, kind, body)?;
+    run_of(alloc, functions, b"", 100)
 }
 
 // Beside each expression stand the low 8 bits of its value and the number that `x` has after it, by C. A `char` has 8
@@ -575,20 +613,18 @@ fn assignments_and_steps_give_and_store_the_numbers_of_c(rt: HostRuntime) -> Res
     let alloc = rt.alloc();
     let (char, int) = (IntKind::Char, IntKind::Int);
     let read = RExpr::Read(place_of_x(alloc, char)?);
-    for (kind, initial, expr, byte, last) in [
-        (char, 200, read, 200, -56),
-        (char, 1, assigned(alloc, char, 200)?, 200, -56),
-        (int, 7, increased(alloc, 5)?, 12, 12),
-        (int, 7, stepped(alloc, StepOp::PostUp, int)?, 7, 8),
-        (int, 7, stepped(alloc, StepOp::PreUp, int)?, 8, 8),
-        (int, 7, stepped(alloc, StepOp::PostDown, int)?, 7, 6),
-        (int, 7, stepped(alloc, StepOp::PreDown, int)?, 6, 6),
-        (char, 127, stepped(alloc, StepOp::PreUp, char)?, 128, -128),
+    assert!(rt; gives(alloc, char, 200, read, 200, -56)?);
+    assert!(rt; gives(alloc, char, 1, assigned(alloc, char, 200)?, 200, -56)?);
+    assert!(rt; gives(alloc, int, 7, increased(alloc, 5)?, 12, 12)?);
+    for (op, kind, initial, byte, last) in [
+        (StepOp::PostUp, int, 7, 7, 8),
+        (StepOp::PreUp, int, 7, 8, 8),
+        (StepOp::PostDown, int, 7, 7, 6),
+        (StepOp::PreDown, int, 7, 6, 6),
+        (StepOp::PreUp, char, 127, 128, -128),
     ] {
-        let shown = run_on_x(alloc, kind, initial, expr, last)?;
-        assert_eq!(rt; shown.status, Status::Exit(1), "{last}");
-        assert!(rt; shown.output.as_slice() == [byte].as_slice(), "{last}");
-        assert_eq!(rt; shown.turns, 8);
+        let expr = stepped(alloc, op, kind)?;
+        assert!(rt; gives(alloc, kind, initial, expr, byte, last)?, "{last}");
     }
     let most = 2_147_483_647;
     let past = stepped(alloc, StepOp::PostUp, int)?;
@@ -629,8 +665,8 @@ fn successor(alloc: Global) -> Result<Function, AllocError> {
     Ok(next)
 }
 
-/// `return next(x) + x;`, where the temporary 1 takes the result of the call.
-fn return_of_next(alloc: Global) -> Result<RStmt, AllocError> {
+/// The call `next(x)`, into the temporary 1.
+fn calls_of_next(alloc: Global) -> Result<Vec<RCall>, AllocError> {
     let mut args = Vec::new(alloc);
     args.push(RArg::Value(RExpr::Read(place_of_x(alloc, IntKind::Int)?)))?;
     let label = CallLabel {
@@ -645,13 +681,17 @@ fn return_of_next(alloc: Global) -> Result<RStmt, AllocError> {
         label,
         span: NOWHERE,
     })?;
-    let given = RExpr::Temp(1, IntKind::Int);
+    Ok(calls)
+}
+
+/// `return next(x) + x;`
+fn return_of_next(alloc: Global) -> Result<RStmt, AllocError> {
     let read = RExpr::Read(place_of_x(alloc, IntKind::Int)?);
-    let value = operation(alloc, BinOp::Add, given, read)?;
+    let value = operation(alloc, BinOp::Add, RExpr::Temp(1, IntKind::Int), read)?;
     let kind = IntKind::Int;
     let mut parts = Vec::new(alloc);
     parts.push(RPart {
-        calls,
+        calls: calls_of_next(alloc)?,
         main: Some(Label::Return(Some(Answer { kind, value }))),
         span: NOWHERE,
     })?;
@@ -663,9 +703,7 @@ fn return_of_next(alloc: Global) -> Result<RStmt, AllocError> {
 #[test]
 fn a_call_passes_an_argument_and_gives_a_result(rt: HostRuntime) -> Result<(), Fail> {
     let alloc = rt.alloc();
-    let first = RInit::One(constant(41));
-    let first = Label::Init(owner_of_x(alloc)?, CType::Num(IntKind::Int), first);
-    let mut body = one(alloc, line(alloc, first)?)?;
+    let mut body = one(alloc, declared_x(alloc, IntKind::Int, 41)?)?;
     body.push(return_of_next(alloc)?)?;
     let mut functions = with_local(alloc, IntKind::Int, body)?;
     functions.push(successor(alloc)?)?;

@@ -172,21 +172,30 @@ fn when(alloc: Global, then: RStmt, start: u32) -> Result<RStmt, AllocError> {
 //     do while (getchar()) putchar(68); while (getchar());
 //     return 0;
 fn loops(alloc: Global) -> Result<Vec<Function>, AllocError> {
+    let mut body = Vec::new(alloc);
+    body.push(for_loop(alloc)?)?;
+    body.push(do_loop(alloc)?)?;
+    body.push(answer(alloc, 13)?)?;
+    with_main(alloc, body)
+}
+
+fn for_loop(alloc: Global) -> Result<RStmt, AllocError> {
+    let body = for_body(alloc)?;
+    let first = effect(alloc, 65, 4)?;
+    Ok(RStmt::For(first, test(alloc, 5), effect(alloc, 66, 6)?, body))
+}
+
+fn for_body(alloc: Global) -> Result<Box<RStmt>, AllocError> {
     let mut lines = Vec::new(alloc);
     lines.push(when(alloc, RStmt::Break, 7)?)?;
     lines.push(when(alloc, RStmt::Continue, 8)?)?;
     lines.push(line(alloc, Label::Eval(RExpr::Getchar), 9)?)?;
-    let mut body = Vec::new(alloc);
-    body.push(RStmt::For(
-        effect(alloc, 65, 4)?,
-        test(alloc, 5),
-        effect(alloc, 66, 6)?,
-        Box::new(alloc, RStmt::Block(lines))?,
-    ))?;
+    Ok(Box::new(alloc, RStmt::Block(lines))?)
+}
+
+fn do_loop(alloc: Global) -> Result<RStmt, AllocError> {
     let inner = RStmt::While(test(alloc, 10), put(alloc, 68, 11)?);
-    body.push(RStmt::Do(Box::new(alloc, inner)?, test(alloc, 12)))?;
-    body.push(answer(alloc, 13)?)?;
-    with_main(alloc, body)
+    Ok(RStmt::Do(Box::new(alloc, inner)?, test(alloc, 12)))
 }
 
 // Points 0 to 2 are those of `#start`, 3 is the entry of `main`, 4 to 13 are as their spans, and 14 is its exit.
