@@ -11,5 +11,3 @@ pub mod look;
 pub mod node;
 pub mod operator;
 pub mod stop;
-#[cfg(test)]
-mod tests;

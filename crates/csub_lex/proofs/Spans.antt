@@ -1,5 +1,5 @@
 -- The tokens of a source stand in it in their order and apart, and each is spelled by the bytes of its span.
-use Rattle.std.proofs.Common.{◌≡◌, ℕ, ◌+◌, ◌-◌, ◌≤◌, List, [], ◌++◌, length, take, drop, Some, refl, sym, ap, ◌∙◌, subst, arith, length-append, append_assoc}
+use Rattle.std.proofs.Common.{◌≡◌, ℕ, ◌+◌, ◌-◌, ◌≤◌, List, [], ◌∷◌, ◌++◌, length, take, drop, Some, refl, sym, ap, ◌∙◌, subst, arith, length-append, append_assoc}
 use Rattle.std.specs.Prelude.{slice_range}
 use Rattle.std.proofs.lemmas.List.{take_at, drop_at}
 use Rattle.csub_lex.specs.declared.token.Token.{Token}
@@ -36,3 +36,8 @@ spelled {before} (takes text after kind {tokens} piece more) source whole place 
     let here : Piece (take (length before) source) (slice_range source (length before) (length before + length text)) (drop (length before + length text) source) (Some kind) =
     subst (λ (x : List ℕ). Piece (take (length before) x) (slice_range x (length before) (length before + length text)) (drop (length before + length text) x) (Some kind)) (sym whole) (placed before text after kind piece) in
     (within, omega (arith, piece_some piece), here, spelled more source (whole ∙ sym (append_assoc before text after)) (length before + length text) (omega (arith, length-append before text)))
+
+-- each token takes a byte or more of the source
+pub as_many : (source : List ℕ) (place : ℕ) (tokens : List Token) → Spelled source place tokens → place + length tokens ≤ length source
+as_many source place [] within = omega arith
+as_many source place (t ∷ more) (before, some, piece, after) = omega (arith, as_many source t.span.end more after)

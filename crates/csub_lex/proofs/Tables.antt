@@ -15,7 +15,9 @@ use Rattle.csub_lex.specs.declared.token.TokenKind.{TokenKind}
 use Rattle.csub_lex.specs.declared.token.TokenKind.TheVariants as kinds
 use Rattle.csub_lex.specs.Words.{key_text, Word, keyword, name}
 use Rattle.csub_lex.specs.Marks.{mark_text, IsLongest}
-use Rattle.csub_lex.specs.Finding.{all_keys, key_among, key_of, word_kind, all_marks, mark_among, first_mark}
+use Rattle.csub_lex.specs.declared.key.TheConstants.{KEYS}
+use Rattle.csub_lex.specs.declared.mark.TheConstants.{MARKS}
+use Rattle.csub_lex.specs.Finding.{key_among, key_of, word_kind, mark_among, first_mark}
 use Rattle.csub_lex.proofs.Choices.{chosen, some_is}
 
 -- keywords
@@ -76,7 +78,7 @@ key_spelled (k ∷ table) text key e = elim (chosen (pointwise nat_eq text (key_
 
 key_is : (text : List ℕ) (key : Key) → key_of text ≡ Some key → text ≡ key_text key
 unfolding key_of
-key_is text key e = key_spelled all_keys text key e
+key_is text key e = key_spelled KEYS text key e
 
 pub word_sound : (text : List ℕ) → Word text (word_kind (key_of text) text)
 word_sound text = go (key_of text) refl
@@ -142,7 +144,7 @@ known_mark marks.CaretEqual = refl
 known_mark marks.ShiftLeftEqual = refl
 known_mark marks.ShiftRightEqual = refl
 
-known_among : (mark : Mark) → mark_among all_marks (mark_text mark) ≡ Some mark
+known_among : (mark : Mark) → mark_among MARKS (mark_text mark) ≡ Some mark
 unfolding first_mark
 known_among mark = known_mark mark
 
@@ -203,7 +205,7 @@ front_of s p e = (starts_is Decides-eqb s p (starts_with nat_eq s p) refl).0 e
 fits_front : (s p after : List ℕ) → s ≡ p ++ after → starts_with nat_eq s p ≡ true
 fits_front s p after e = (starts_is Decides-eqb s p (starts_with nat_eq s p) refl).1 after e
 
-all_some : list_all (λ mark. nat_lt 0 (length (mark_text mark))) all_marks ≡ true
+all_some : list_all (λ mark. nat_lt 0 (length (mark_text mark))) MARKS ≡ true
 all_some = refl
 
 found_some : (table : List Mark) (s : List ℕ) (mark : Mark) → list_all (λ m. nat_lt 0 (length (mark_text m))) table ≡ true → mark_among table s ≡ Some mark → 0 < length (mark_text mark)
@@ -217,18 +219,18 @@ found_some (m ∷ table) s mark all e =
 
 -- a mark has a byte
 pub mark_some : (mark : Mark) → 0 < length (mark_text mark)
-mark_some mark = found_some all_marks (mark_text mark) mark all_some (known_among mark)
+mark_some mark = found_some MARKS (mark_text mark) mark all_some (known_among mark)
 
-ordered : falls all_marks ≡ true
+ordered : falls MARKS ≡ true
 ordered = refl
 
 pub mark_front : (s : List ℕ) (mark : Mark) → first_mark s ≡ Some mark → s ≡ mark_text mark ++ drop (length (mark_text mark)) s
 unfolding first_mark
-mark_front s mark e = front_of s (mark_text mark) (found_fits all_marks s mark e)
+mark_front s mark e = front_of s (mark_text mark) (found_fits MARKS s mark e)
 
 pub mark_longest : (s : List ℕ) (mark : Mark) → first_mark s ≡ Some mark → IsLongest mark s
 unfolding first_mark
-mark_longest s mark e = λ other after parts. longest all_marks s (mark_text other) mark other ordered e (known_among other) (fits_front s (mark_text other) after parts)
+mark_longest s mark e = λ other after parts. longest MARKS s (mark_text other) mark other ordered e (known_among other) (fits_front s (mark_text other) after parts)
 
 same_text : (mark other : Mark) → mark_text mark ≡ mark_text other → mark ≡ other
 same_text mark other e = some_is mark other (sym (known_mark mark) ∙ ap first_mark e ∙ known_mark other)
@@ -237,9 +239,9 @@ pub mark_complete : (s : List ℕ) (mark : Mark) (after : List ℕ) → s ≡ ma
 mark_complete s mark after parts long = go (first_mark s) refl
   where
     go : (o : Option Mark) → first_mark s ≡ o → o ≡ Some mark
-    go None e = absurd (missed all_marks s (mark_text mark) mark (none_among e) (known_among mark) (fits_front s (mark_text mark) after parts))
+    go None e = absurd (missed MARKS s (mark_text mark) mark (none_among e) (known_among mark) (fits_front s (mark_text mark) after parts))
       where
-        none_among : first_mark s ≡ None → mark_among all_marks s ≡ None
+        none_among : first_mark s ≡ None → mark_among MARKS s ≡ None
         none_among e = unfold first_mark in e
     go (Some other) e =
         let front = mark_front s other e in

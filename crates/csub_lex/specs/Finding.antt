@@ -1,13 +1,14 @@
--- How the next piece of a source is found, one step after another. Private functions are held to these words; the clauses of `lex` cite
--- Cuts alone, and the proofs show that both say the same.
-use Rattle.std.specs.Prelude.{ℕ, ◌≡◌, ◌≤◌, ◌||◌, ◌&&◌, ◌==◌, if◌then◌else◌, nat_le, nat_eq, is_some, List, [], ◌∷◌, length, take, drop, codes, Option, Some, None, Bool, true, false}
+-- How the next piece of a source is found, one step after another. The functions below `lex` are held to these words; the clauses of
+-- `lex` cite Pieces and Tokens alone, and the proofs show that both say the same.
+use Rattle.std.specs.Prelude.{ℕ, ◌≡◌, ◌≤◌, ◌||◌, ◌&&◌, ◌==◌, if◌then◌else◌, nat_le, nat_eq, is_some, Bool, true, false}
+use Rattle.std.specs.Prelude.{List, [], ◌∷◌, length, take, drop, codes, Option, Some, None}
 use Rattle.std.specs.Char.{is_ascii_digit}
 use Rattle.std.specs.List.{prefix_len, starts_with}
 use Rattle.std.specs.Cmp.Lexicographic.{pointwise}
 use Rattle.csub_lex.specs.declared.token.Key.{Key}
-use Rattle.csub_lex.specs.declared.token.Key.TheVariants as keys
 use Rattle.csub_lex.specs.declared.token.Mark.{Mark}
-use Rattle.csub_lex.specs.declared.token.Mark.TheVariants as marks
+use Rattle.csub_lex.specs.declared.key.TheConstants.{KEYS}
+use Rattle.csub_lex.specs.declared.mark.TheConstants.{MARKS}
 use Rattle.csub_lex.specs.declared.token.TokenKind.{TokenKind}
 use Rattle.csub_lex.specs.declared.token.TokenKind.TheVariants as kinds
 use Rattle.csub_lex.specs.declared.error.FaultKind.{FaultKind}
@@ -40,22 +41,21 @@ strip front bytes = if pointwise nat_eq (take (length front) bytes) front then S
 
 -- words
 
-abbrev pub all_keys : List Key
-all_keys = keys.Auto ∷ keys.Break ∷ keys.Case ∷ keys.Char ∷ keys.Const ∷ keys.Continue ∷ keys.Default ∷ keys.Do ∷ keys.Double ∷ keys.Else ∷ keys.Enum ∷ keys.Extern ∷ keys.Float ∷ keys.For ∷ keys.Goto ∷ keys.If ∷ keys.Inline ∷ keys.Int ∷ keys.Long ∷ keys.Register ∷ keys.Restrict ∷ keys.Return ∷ keys.Short ∷ keys.Signed ∷ keys.Sizeof ∷ keys.Static ∷ keys.Struct ∷ keys.Switch ∷ keys.Typedef ∷ keys.Union ∷ keys.Unsigned ∷ keys.Void ∷ keys.Volatile ∷ keys.While ∷ keys.Alignas ∷ keys.Alignof ∷ keys.Atomic ∷ keys.Bool ∷ keys.Complex ∷ keys.Generic ∷ keys.Imaginary ∷ keys.Noreturn ∷ keys.StaticAssert ∷ keys.ThreadLocal ∷ []
-
 abbrev pub key_among : List Key → List ℕ → Option Key
 key_among [] text = None
 key_among (key ∷ more) text = if pointwise nat_eq text (key_text key) then Some key else key_among more text
 
 unfoldable pub key_of : List ℕ → Option Key
-key_of text = key_among all_keys text
+key_of text = key_among KEYS text
 
 abbrev pub word_kind : Option Key → List ℕ → TokenKind
 word_kind None text = kinds.Name text
 word_kind (Some key) text = kinds.Key key
 
 unfoldable pub word_cut : List ℕ → Cut
-word_cut bytes = let n = prefix_len is_word bytes in took (word_kind (key_of (take n bytes)) (take n bytes)) (drop n bytes)
+word_cut bytes =
+    let n = prefix_len is_word bytes in
+    took (word_kind (key_of (take n bytes)) (take n bytes)) (drop n bytes)
 
 -- numbers
 
@@ -69,7 +69,9 @@ with_suffix value None = None
 with_suffix value (Some unsigned) = if nat_le value 4294967295 then Some (value, unsigned) else None
 
 unfoldable pub number_in : ℕ → List ℕ → Option (ℕ × Bool)
-number_in base text = let n = prefix_len (is_digit_of base) text in with_suffix (value_in base (take n text)) (suffix_of (drop n text))
+number_in base text =
+    let n = prefix_len (is_digit_of base) text in
+    with_suffix (value_in base (take n text)) (suffix_of (drop n text))
 
 abbrev pub decimal : Option (ℕ × Bool) → Option (ℕ × Bool)
 decimal None = None
@@ -84,7 +86,8 @@ is_hexadecimal (a ∷ x ∷ d ∷ more) = a == 48 && (x == 120 || x == 88) && is
 
 unfoldable pub number_of : List ℕ → Option (ℕ × Bool)
 number_of text =
-    if is_hexadecimal text then number_in 16 (drop 2 text) else (if begins (λ b. b == 48) text then number_in 8 (drop 1 text) else decimal (number_in 10 text))
+    if is_hexadecimal text then number_in 16 (drop 2 text) else (
+    if begins (λ b. b == 48) text then number_in 8 (drop 1 text) else decimal (number_in 10 text))
 
 abbrev pub numbered : Option (ℕ × Bool) → List ℕ → Cut
 numbered None after = stuck faults.Number
@@ -107,7 +110,9 @@ with_rest after (Some value) = Some (value, after)
 unfoldable pub character_of : ℕ → List ℕ → Option (ℕ × List ℕ)
 character_of quote [] = None
 character_of quote (b ∷ []) = if is_plain quote b then Some (b, []) else None
-character_of quote (b ∷ e ∷ more) = if b == 92 then with_rest more (escaped e more) else (if is_plain quote b then Some (b, e ∷ more) else None)
+character_of quote (b ∷ e ∷ more) =
+    if b == 92 then with_rest more (escaped e more) else (
+    if is_plain quote b then Some (b, e ∷ more) else None)
 
 abbrev pub with_front : Option ℕ → Option (List ℕ × List ℕ) → Option (List ℕ × List ℕ)
 with_front None read = None
@@ -177,16 +182,12 @@ directive_cut before bytes = if blank_line before then skip_to faults.Directive 
 
 -- marks
 
--- no longer one stands behind a shorter one
-abbrev pub all_marks : List Mark
-all_marks = marks.ShiftLeftEqual ∷ marks.ShiftRightEqual ∷ marks.PlusPlus ∷ marks.MinusMinus ∷ marks.ShiftLeft ∷ marks.ShiftRight ∷ marks.LessEqual ∷ marks.GreaterEqual ∷ marks.EqualEqual ∷ marks.BangEqual ∷ marks.AndAnd ∷ marks.BarBar ∷ marks.PlusEqual ∷ marks.MinusEqual ∷ marks.StarEqual ∷ marks.SlashEqual ∷ marks.PercentEqual ∷ marks.AmpersandEqual ∷ marks.BarEqual ∷ marks.CaretEqual ∷ marks.OpenBrace ∷ marks.CloseBrace ∷ marks.OpenParen ∷ marks.CloseParen ∷ marks.OpenBracket ∷ marks.CloseBracket ∷ marks.Semicolon ∷ marks.Comma ∷ marks.Colon ∷ marks.Question ∷ marks.Dot ∷ marks.Tilde ∷ marks.Plus ∷ marks.Minus ∷ marks.Star ∷ marks.Slash ∷ marks.Percent ∷ marks.Ampersand ∷ marks.Bar ∷ marks.Caret ∷ marks.Bang ∷ marks.Less ∷ marks.Greater ∷ marks.Equal ∷ []
-
 abbrev pub mark_among : List Mark → List ℕ → Option Mark
 mark_among [] bytes = None
 mark_among (mark ∷ more) bytes = if starts_with nat_eq bytes (mark_text mark) then Some mark else mark_among more bytes
 
 unfoldable pub first_mark : List ℕ → Option Mark
-first_mark bytes = mark_among all_marks bytes
+first_mark bytes = mark_among MARKS bytes
 
 abbrev pub marked : Option Mark → List ℕ → Cut
 marked None bytes = stuck faults.Byte

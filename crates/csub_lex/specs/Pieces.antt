@@ -23,8 +23,8 @@ pub data Piece (before : List ℕ) : List ℕ → List ℕ → Option TokenKind 
   -- `/*` and the bytes up to the first `*/` behind it (C11 6.4.9p1)
   comment : (body after : List ℕ) → NoClose (body ++ 42 ∷ []) → Piece before (47 ∷ 42 ∷ (body ++ 42 ∷ 47 ∷ [])) after None
   -- `#`, `include` and a header with blanks round them, alone on their line but for a comment behind them (C11 6.10p2, 6.10.2p2)
-  include_line : (gap_1 gap_2 header gap_3 after : List ℕ) → blank_line before ≡ true → Run is_gap gap_1 → Run is_gap gap_2 → Header header → Run is_gap gap_3
-      → EndsInclude after → Piece before (35 ∷ (gap_1 ++ (codes "include" ++ (gap_2 ++ (header ++ gap_3))))) after None
+  include_line : (gap_1 gap_2 header gap_3 after : List ℕ) → blank_line before ≡ true → Run is_gap gap_1 → Run is_gap gap_2
+      → Header header → Run is_gap gap_3 → EndsInclude after → Piece before (35 ∷ (gap_1 ++ (codes "include" ++ (gap_2 ++ (header ++ gap_3))))) after None
   -- a keyword or a name (C11 6.4.1, 6.4.2)
   word : (b : ℕ) (bs after : List ℕ) (kind : TokenKind) → is_letter b ≡ true → Run is_word bs → Stops is_word after → Word (b ∷ bs) kind
       → Piece before (b ∷ bs) after (Some kind)
@@ -41,10 +41,13 @@ pub data Piece (before : List ℕ) : List ℕ → List ℕ → Option TokenKind 
 
 -- no piece begins the bytes
 abbrev pub NoPiece : List ℕ → List ℕ → Type 0
-NoPiece before bytes = (text after : List ℕ) (kind : Option TokenKind) → bytes ≡ text ++ after → Piece before text after kind → ⊥
+NoPiece before bytes =
+    (text after : List ℕ) (kind : Option TokenKind) → bytes ≡ text ++ after → Piece before text after kind → ⊥
 
 -- bytes that no piece begins, and what is missing: a number where a digit stands, an include line at a `#`, and else any piece
 pub data Stuck (before : List ℕ) : List ℕ → FaultKind → Type 0 where
-  no_number : (b : ℕ) (bs : List ℕ) → is_ascii_digit b ≡ true → NoPiece before (b ∷ bs) → Stuck before (b ∷ bs) faults.Number
+  no_number : (b : ℕ) (bs : List ℕ) → is_ascii_digit b ≡ true → NoPiece before (b ∷ bs)
+      → Stuck before (b ∷ bs) faults.Number
   no_directive : (bs : List ℕ) → NoPiece before (35 ∷ bs) → Stuck before (35 ∷ bs) faults.Directive
-  no_byte : (b : ℕ) (bs : List ℕ) → is_ascii_digit b ≡ false → b ≢ 35 → NoPiece before (b ∷ bs) → Stuck before (b ∷ bs) faults.Byte
+  no_byte : (b : ℕ) (bs : List ℕ) → is_ascii_digit b ≡ false → b ≢ 35 → NoPiece before (b ∷ bs)
+      → Stuck before (b ∷ bs) faults.Byte

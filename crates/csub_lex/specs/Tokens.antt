@@ -17,8 +17,8 @@ pub data Tokens : List ℕ → List ℕ → List Token → Type 0 where
   ends : {before : List ℕ} → Tokens before [] []
   skips : {before : List ℕ} (text after : List ℕ) {tokens : List Token} → Piece before text after None → Tokens (before ++ text) after tokens
       → Tokens before (text ++ after) tokens
-  takes : {before : List ℕ} (text after : List ℕ) (kind : TokenKind) {tokens : List Token} → Piece before text after (Some kind) → Tokens (before ++ text) after tokens
-      → Tokens before (text ++ after) (token_at before text kind ∷ tokens)
+  takes : {before : List ℕ} (text after : List ℕ) (kind : TokenKind) {tokens : List Token} → Piece before text after (Some kind)
+      → Tokens (before ++ text) after tokens → Tokens before (text ++ after) (token_at before text kind ∷ tokens)
 
 -- `Fault before bytes kind at`: the bytes, behind `before`, are cut into pieces up to the place `at`, where none begins
 pub data Fault : List ℕ → List ℕ → FaultKind → ℕ → Type 0 where

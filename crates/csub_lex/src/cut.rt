@@ -16,10 +16,12 @@ use std::alloc::Global;
 /// The tokens of a source in their order, each with the bytes that spell it.
 ///
 /// A source is cut from the left into blanks, comments, include lines and tokens (C11 6.4), each as long as the rules allow. There is
-/// one such cut, or one first place where it can't go on; the errors name that place.
+/// one such cut, or one first place where it can't go on; the errors name that place. A token has a byte or more, so there are at most
+/// as many tokens as bytes.
 pub fn lex(alloc: Global, source: &[u8]) -> Result<Vec<Token>, LexError>
     requires { length source.now ≤ 1048576 }
     ensures tokens { IfOk result (λ tokens. Tokens [] source.now tokens.items) }
+    ensures few { IfOk result (λ tokens. length tokens.items ≤ length source.now) }
     ensures spans { IfOk result (λ tokens. Spelled source.now 0 tokens.items) }
     ensures fault { IfErr result (λ error. Names error source.now) }
     ensures place { IfErr result (λ error. InSource error source.now) }

@@ -24,6 +24,3 @@ pub use cut::lex;
 pub use error::{FaultKind, LexError};
 pub use place::line_column;
 pub use token::{Key, Mark, Token, TokenKind};
-
-#[cfg(test)]
-mod tests;

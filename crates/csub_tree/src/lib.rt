@@ -20,6 +20,3 @@ pub use name::{Name, TypeName};
 pub use shape::same_shape;
 pub use statement::{Stmt, StmtKind};
 pub use unit::{Constant, Item, Unit};
-
-#[cfg(test)]
-mod tests;

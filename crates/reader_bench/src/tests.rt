@@ -1,11 +1,15 @@
-// Sources with the depth of their unit and what it holds, or with the place of the token that is refused.
+// Sources with the depth of their unit and what it holds, or with the place of the token that is refused. The tests of one layer alone
+// stand in `tokens`, `trees` and `depths`.
+mod depths;
 mod expressions;
 mod items;
 mod nesting;
 mod programs;
 mod statements;
+mod tokens;
+mod trees;
 
-use csub_lex::{Token, lex};
+use csub_lex::lex;
 use csub_parse::{ParseError, parse};
 use csub_tree::{Item, Stmt, StmtKind, Unit, depth};
 use std::alloc::{AllocError, Global};
@@ -50,16 +54,8 @@ fn push_item(text: &mut String, item: &Item) -> Result<(), AllocError> {
     }
 }
 
-fn answer(alloc: Global, tokens: &[Token]) -> Result<String, AllocError> {
-    if tokens.len() > 1_048_576 {
-        return String::from_str(alloc, "too many");
-    }
-    let unit = match parse(alloc, tokens) {
-        Ok(unit) => unit,
-        Err(ParseError::Syntax(at)) => return format!(in alloc; "syntax {at}"),
-        Err(ParseError::Memory) => return Err(AllocError),
-    };
-    let mut text = format!(in alloc; "{}", depth(&unit))?;
+fn shown_unit(alloc: Global, unit: &Unit) -> Result<String, AllocError> {
+    let mut text = format!(in alloc; "{}", depth(unit))?;
     for item in &unit.items {
         push_item(&mut text, item)?;
     }
@@ -71,9 +67,14 @@ fn shown(alloc: Global, source: &str) -> Result<String, AllocError> {
     if source.len() > 1_048_576 {
         return String::from_str(alloc, "too long");
     }
-    match lex(alloc, source.as_bytes()) {
-        Ok(tokens) => answer(alloc, &tokens),
-        Err(fault) => format!(in alloc; "{fault:?}"),
+    let tokens = match lex(alloc, source.as_bytes()) {
+        Ok(tokens) => tokens,
+        Err(fault) => return format!(in alloc; "{fault:?}"),
+    };
+    match parse(alloc, &tokens) {
+        Ok(unit) => shown_unit(alloc, &unit),
+        Err(ParseError::Syntax(at)) => format!(in alloc; "syntax {at}"),
+        Err(ParseError::Memory) => Err(AllocError),
     }
 }
 

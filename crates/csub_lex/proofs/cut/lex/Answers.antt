@@ -6,7 +6,7 @@ use Rattle.csub_lex.specs.declared.step.Step.TheVariants as steps
 use Rattle.csub_lex.specs.Tokens.{Tokens, Fault, Names, InSource, error_of}
 use Rattle.csub_lex.specs.Finding.{Gives, stuck, next}
 use Rattle.csub_lex.proofs.Loop.{Moves, skip_moves, token_moves, skips_on, takes_on, faults_on, at_end, fault_here, names, in_source}
-use Rattle.csub_lex.proofs.Spans.{spelled}
+use Rattle.csub_lex.proofs.Spans.{spelled, as_many}
 use Rattle.csub_lex.proofs.Only.{unique, no_fault, same_fault}
 use Rattle.csub_lex.proofs.cut.lex.Goals as goal
 
@@ -84,6 +84,9 @@ returns-clause-tokens c = all_of c
 
 pub returns-clause-spans : goal.returns-clause-spans
 returns-clause-spans c = spelled (all_of c) c.args.source.now refl 0 (omega arith)
+
+pub returns-clause-few : goal.returns-clause-few
+returns-clause-few c = omega (arith, as_many c.args.source.now 0 c.cuts.tokens.items (returns-clause-spans c))
 
 pub returns-clause-only : goal.returns-clause-only
 returns-clause-only c = λ tokens h. unique (all_of c) h

@@ -1,7 +1,7 @@
-//! How deep is read, and which token is refused where there is no more depth.
-use crate::expression::{assign, conditional, number};
-use crate::initialiser::init;
-use crate::stop::Stop;
+// How deep is read, and which token is refused where there is no more depth.
+use csub_expr::expression::{assign, conditional, number};
+use csub_expr::initialiser::init;
+use csub_expr::stop::Stop;
 use csub_lex::{Key, Mark, Token, TokenKind};
 use csub_text::{Span, Text};
 use csub_tree::TypeName;

@@ -1,16 +1,13 @@
-//! Depth and shape of small trees that are made by hand.
+// Depth and shape of small trees that are made by hand.
 ghost use Rattle.std.specs.Prelude.{◌≡◌, ◌≤◌, ◌<◌, IfOk};
 ghost use Rattle.csub_tree.specs.Expressions.{expr_tree};
 ghost use Rattle.csub_tree.specs.Units.{unit_tree};
 ghost use Rattle.csub_tree.specs.Depth.{expr_depth, unit_depth};
 
-use crate::declaration::{Declarator, Declare, Init};
-use crate::deep::depth;
-use crate::expression::{Expr, ExprKind};
-use crate::name::{Name, TypeName};
-use crate::shape::same_shape;
-use crate::unit::{Item, Unit};
 use csub_text::{Span, Text, UnaryOp};
+use csub_tree::{
+    Declarator, Declare, Expr, ExprKind, Init, Item, Name, TypeName, Unit, depth, same_shape,
+};
 use std::alloc::{AllocError, Global};
 use std::process::Abort;
 

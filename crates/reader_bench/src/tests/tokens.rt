@@ -2,7 +2,7 @@
 mod constants;
 mod lines;
 
-use crate::{TokenKind, lex, line_column};
+use csub_lex::{TokenKind, lex, line_column};
 use std::alloc::{AllocError, Global};
 use std::process::Abort;
 use std::test::Fail;
