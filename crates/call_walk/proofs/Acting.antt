@@ -4,15 +4,15 @@ use Rattle.std.proofs.lemmas.List.Elements.{All-head, All-tail}
 use Rattle.csub_types.specs.declared.kind.IntKind.TheVariants.{Int}
 use Rattle.csub_types.specs.declared.trap.Trap.TheVariants.{Depth}
 use Rattle.csub_types.specs.Kinds.{convert}
-use Rattle.csub_core.specs.declared.label.EndRule.{EndRule}
-use Rattle.csub_core.specs.declared.label.EndRule.TheVariants.{Nothing, Value, Main, Start}
-use Rattle.csub_core.specs.declared.status.Status.TheVariants.{Trap}
-use Rattle.csub_core.specs.Types.{number_kind, MemberTree}
-use Rattle.csub_core.specs.Trees.{NamedArg, value_argument, reading, assignment, variable, object, temporary}
-use Rattle.csub_core.specs.Labels.{LabelTree, enters, exits, evaluates, initialises, branches, returns, calls, AnswerTree, CallTree, one_value}
-use Rattle.csub_core.specs.Memory.{Answer}
-use Rattle.csub_core.specs.Cells.{Root, Content, entered}
-use Rattle.csub_core.specs.Acts.{Store, Outcome, pushes, ends, after_value, argument_content, argument_contents, most_frames, act_exit, act_return, act_call, act}
+use Rattle.csub_semantics.specs.declared.label.EndRule.{EndRule}
+use Rattle.csub_semantics.specs.declared.label.EndRule.TheVariants.{Nothing, Value, Main, Start}
+use Rattle.csub_semantics.specs.declared.status.Status.TheVariants.{Trap}
+use Rattle.csub_semantics.specs.Types.{number_kind, MemberTree}
+use Rattle.csub_semantics.specs.Trees.{NamedArg, value_argument, reading, assignment, variable, object, temporary}
+use Rattle.csub_semantics.specs.Labels.{LabelTree, enters, exits, evaluates, initialises, branches, returns, calls, AnswerTree, CallTree, one_value}
+use Rattle.csub_semantics.specs.Memory.{Answer}
+use Rattle.csub_semantics.specs.Cells.{Root, Content, entered}
+use Rattle.csub_semantics.specs.Acts.{Store, Outcome, pushes, ends, after_value, argument_content, argument_contents, most_frames, act_exit, act_return, act_call, act}
 use Rattle.call_walk.specs.Shared.{Agree}
 use Rattle.call_walk.specs.Locality.{HasFrames, CoversArg, CoversAnswer, CoversLabel, SameOutcome, both_leave, both_push, both_pop, both_end, ActsAreLocal}
 use Rattle.call_walk.proofs.Agreeing.{IsInside, AreInside, number_inside, agree_dropped, agree_entered}

@@ -2,16 +2,16 @@
 use Rattle.std.proofs.Common.{◌≡◌, ℕ, [], Option, Some, None, option_map, refl, sym, ap, ◌∙◌}
 use Rattle.std.specs.Prelude.{MatchOption}
 use Rattle.std.proofs.lemmas.Option.{same_Some}
-use Rattle.csub_core.specs.declared.label.CallLabel.{CallLabel}
-use Rattle.csub_core.specs.declared.label.Label.{Label}
-use Rattle.csub_core.specs.declared.label.Label.TheVariants.{Entry, Exit, Eval, Init, Branch, Return, Call}
-use Rattle.csub_core.specs.Types.{Name}
-use Rattle.csub_core.specs.Labels.{LabelTree, CallTree, calls, PointLabel, label_tree, call_tree}
-use Rattle.csub_core.specs.Points.{PointTree}
-use Rattle.csub_core.specs.Syntax.{ProgramTree}
-use Rattle.csub_core.specs.Flows.{flow_of}
-use Rattle.csub_core.specs.Numbers.{Site, site, site_at}
-use Rattle.csub_core.specs.Books.{SameLabel, CallsAt, IsNoCallAt}
+use Rattle.csub_semantics.specs.declared.label.CallLabel.{CallLabel}
+use Rattle.csub_semantics.specs.declared.label.Label.{Label}
+use Rattle.csub_semantics.specs.declared.label.Label.TheVariants.{Entry, Exit, Eval, Init, Branch, Return, Call}
+use Rattle.csub_semantics.specs.Types.{Name}
+use Rattle.csub_semantics.specs.Labels.{LabelTree, CallTree, calls, PointLabel, label_tree, call_tree}
+use Rattle.csub_semantics.specs.Points.{PointTree}
+use Rattle.csub_semantics.specs.Syntax.{ProgramTree}
+use Rattle.csub_semantics.specs.Flows.{flow_of}
+use Rattle.csub_semantics.specs.Numbers.{Site, site, site_at}
+use Rattle.csub_semantics.specs.Books.{SameLabel, CallsAt, IsNoCallAt}
 use Rattle.program_laws.proofs.Labelled.{is_flow}
 use Rattle.flow_graph.specs.Graph.{Tables, IsGraphOf}
 use Rattle.call_walk.specs.declared.ask.Callee.{Callee}

@@ -2,12 +2,12 @@
 use Rattle.std.proofs.Common.{◌≡◌, ℕ, ◌+◌, List, [], ◌∷◌, ◌++◌, length, Option, Some, None, option_map, refl, sym, ap, ◌∙◌}
 use Rattle.std.specs.List.{AllByRecursion}
 use Rattle.std.proofs.lemmas.List.Elements.{recursion_from_All}
-use Rattle.csub_core.specs.Types.{Name}
-use Rattle.csub_core.specs.Labels.{LabelTree, enters, exits, evaluates, initialises, branches, returns, calls, CallTree, PointLabel}
-use Rattle.csub_core.specs.Syntax.{PartTree, StmtTree, StmtTrees, ElseTree, parts, block, conditional, while_loop, do_loop, for_loop, breaks, continues, no_stmt, more_stmts, no_else, else_stmt, FunctionTree, ProgramTree}
-use Rattle.csub_core.specs.Points.{PointTree, exit, at, point_eq, ExitTree, next, on_true, on_false, on_case, on_default}
-use Rattle.csub_core.specs.Successors.{Way, Node, Around, way, leaving, looping, enter_part, enter_parts, enter, enter_list, enter_else, own_ways, test_ways, part_nodes, last_ways, parts_nodes, nodes, nodes_list, nodes_else}
-use Rattle.csub_core.specs.Flows.{name_eq, end_rule, to_exit, function_nodes, way_in, flow_of}
+use Rattle.csub_semantics.specs.Types.{Name}
+use Rattle.csub_semantics.specs.Labels.{LabelTree, enters, exits, evaluates, initialises, branches, returns, calls, CallTree, PointLabel}
+use Rattle.csub_semantics.specs.Syntax.{PartTree, StmtTree, StmtTrees, ElseTree, parts, block, conditional, while_loop, do_loop, for_loop, breaks, continues, no_stmt, more_stmts, no_else, else_stmt, FunctionTree, ProgramTree}
+use Rattle.csub_semantics.specs.Points.{PointTree, exit, at, point_eq, ExitTree, next, on_true, on_false, on_case, on_default}
+use Rattle.csub_semantics.specs.Successors.{Way, Node, Around, way, leaving, looping, enter_part, enter_parts, enter, enter_list, enter_else, own_ways, test_ways, part_nodes, last_ways, parts_nodes, nodes, nodes_list, nodes_else}
+use Rattle.csub_semantics.specs.Flows.{name_eq, end_rule, to_exit, function_nodes, way_in, flow_of}
 use Rattle.csub_core.specs.declared.valid.role.Role.TheVariants.{Test}
 use Rattle.csub_core.specs.declared.valid.role.Targets.{Targets}
 use Rattle.csub_core.specs.Valid.{no_loop, in_loop, Scope, scope_of, IsLast, AreStages, IsStmt, AreStmts, IsElse, IsValid}

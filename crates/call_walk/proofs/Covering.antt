@@ -6,13 +6,13 @@ use Rattle.std.proofs.lemmas.List.Elements.{All-nil, All-cons, recursion_from_Al
 use Rattle.std.specs.Cmp.Rules.{signed_items}
 use Rattle.csub_core.specs.declared.valid.role.Role.{Role}
 use Rattle.csub_core.specs.declared.valid.role.Role.TheVariants.{Whole, Test, Effect}
-use Rattle.csub_core.specs.Types.{Name, TypeTree, MemberTree}
-use Rattle.csub_core.specs.Trees.{OwnerTree, global_owner, local_owner, Variable, object, temporary, NamedPlace, variable, NamedExpr, constant, reading, unary_operation, conversion, stepping, operation, conjunction, disjunction, choice, assignment, update, input_byte, output_byte, NamedArg, value_argument}
-use Rattle.csub_core.specs.Labels.{LabelTree, enters, exits, evaluates, initialises, branches, returns, calls, Initial, PointLabel, CallTree, AnswerTree, InitTree, one_value}
-use Rattle.csub_core.specs.Syntax.{LocalTree, FunctionTree, ProgramTree}
-use Rattle.csub_core.specs.Points.{PointTree}
-use Rattle.csub_core.specs.Flows.{Flow, name_eq, flow_of}
-use Rattle.csub_core.specs.Cells.{Root, global_root, local_root, temp_root}
+use Rattle.csub_semantics.specs.Types.{Name, TypeTree, MemberTree}
+use Rattle.csub_semantics.specs.Trees.{OwnerTree, global_owner, local_owner, Variable, object, temporary, NamedPlace, variable, NamedExpr, constant, reading, unary_operation, conversion, stepping, operation, conjunction, disjunction, choice, assignment, update, input_byte, output_byte, NamedArg, value_argument}
+use Rattle.csub_semantics.specs.Labels.{LabelTree, enters, exits, evaluates, initialises, branches, returns, calls, Initial, PointLabel, CallTree, AnswerTree, InitTree, one_value}
+use Rattle.csub_semantics.specs.Syntax.{LocalTree, FunctionTree, ProgramTree}
+use Rattle.csub_semantics.specs.Points.{PointTree}
+use Rattle.csub_semantics.specs.Flows.{Flow, name_eq, flow_of}
+use Rattle.csub_semantics.specs.Cells.{Root, global_root, local_root, temp_root}
 use Rattle.csub_core.specs.Valid.{Scope, IsObject, IsPlace, IsTarget, IsExpr, AreArgs, IsCall, IsAnswer, IsInitialised, IsLast, IsEarlier, IsValid}
 use Rattle.program_laws.proofs.Labelled.{labelled_at}
 use Rattle.program_laws.proofs.Names.{same_name}

@@ -8,12 +8,12 @@ use Rattle.csub_types.specs.declared.trap.Trap.{Trap}
 use Rattle.csub_types.specs.declared.trap.Trap.TheVariants.{Flood}
 use Rattle.csub_types.specs.Kinds.{convert, promote}
 use Rattle.csub_types.specs.Arithmetic.{unary, binary}
-use Rattle.csub_core.specs.Types.{TypeTree, number_type}
-use Rattle.csub_core.specs.Trees.{global_owner, local_owner, Variable, object, temporary, NamedPlace, variable, NamedExpr, constant, reading, unary_operation, conversion, stepping, operation, conjunction, disjunction, choice, assignment, update, input_byte, output_byte}
-use Rattle.csub_core.specs.Memory.{Answer, value, trapped, then_do, given, found, get_byte, most_output, put_byte, low_byte}
-use Rattle.csub_core.specs.Evaluation.{right_operand, computed, step_by, step_value, fetch, locate, store, step, eval}
-use Rattle.csub_core.specs.Cells.{Root, root_of, Cell, cell_of, type_of, Spot, stand_at, number, number_in, named}
-use Rattle.csub_core.specs.Acts.{Store}
+use Rattle.csub_semantics.specs.Types.{TypeTree, number_type}
+use Rattle.csub_semantics.specs.Trees.{global_owner, local_owner, Variable, object, temporary, NamedPlace, variable, NamedExpr, constant, reading, unary_operation, conversion, stepping, operation, conjunction, disjunction, choice, assignment, update, input_byte, output_byte}
+use Rattle.csub_semantics.specs.Memory.{Answer, value, trapped, then_do, given, found, get_byte, most_output, put_byte, low_byte}
+use Rattle.csub_semantics.specs.Evaluation.{right_operand, computed, step_by, step_value, fetch, locate, store, step, eval}
+use Rattle.csub_semantics.specs.Cells.{Root, root_of, Cell, cell_of, type_of, Spot, stand_at, number, number_in, named}
+use Rattle.csub_semantics.specs.Acts.{Store}
 use Rattle.call_walk.specs.Shared.{Agree}
 use Rattle.call_walk.specs.Locality.{HasFrames, CoversVariable, CoversPlace, CoversExpr}
 use Rattle.call_walk.proofs.Agreeing.{number_inside, agree_written}

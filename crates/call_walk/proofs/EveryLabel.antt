@@ -2,14 +2,14 @@
 use Rattle.std.proofs.Common.{ℕ, ◌+◌, List, [], ◌∷◌, ◌++◌, length, All}
 use Rattle.std.specs.List.{AllByRecursion}
 use Rattle.std.proofs.lemmas.List.Elements.{All-head, All-tail, recursion_from_All}
-use Rattle.csub_core.specs.declared.label.EndRule.{EndRule}
-use Rattle.csub_core.specs.Types.{Name}
-use Rattle.csub_core.specs.Labels.{LabelTree, enters, exits}
-use Rattle.csub_core.specs.Syntax.{PartTree, StmtTree, StmtTrees, ElseTree, parts, block, conditional, while_loop, do_loop, for_loop, breaks, continues, no_stmt, more_stmts, no_else, else_stmt, FunctionTree, ProgramTree}
-use Rattle.csub_core.specs.Points.{PointTree, exit, at}
-use Rattle.csub_core.specs.Successors.{Way, Node, Around, leaving, looping, enter_part, enter_parts, enter, enter_list, enter_else, test_ways, part_nodes, last_ways, parts_nodes, nodes, nodes_list, nodes_else}
-use Rattle.csub_core.specs.Flows.{name_eq, end_rule, to_exit, function_nodes}
-use Rattle.csub_core.specs.Points.{point_eq}
+use Rattle.csub_semantics.specs.declared.label.EndRule.{EndRule}
+use Rattle.csub_semantics.specs.Types.{Name}
+use Rattle.csub_semantics.specs.Labels.{LabelTree, enters, exits}
+use Rattle.csub_semantics.specs.Syntax.{PartTree, StmtTree, StmtTrees, ElseTree, parts, block, conditional, while_loop, do_loop, for_loop, breaks, continues, no_stmt, more_stmts, no_else, else_stmt, FunctionTree, ProgramTree}
+use Rattle.csub_semantics.specs.Points.{PointTree, exit, at}
+use Rattle.csub_semantics.specs.Successors.{Way, Node, Around, leaving, looping, enter_part, enter_parts, enter, enter_list, enter_else, test_ways, part_nodes, last_ways, parts_nodes, nodes, nodes_list, nodes_else}
+use Rattle.csub_semantics.specs.Flows.{name_eq, end_rule, to_exit, function_nodes}
+use Rattle.csub_semantics.specs.Points.{point_eq}
 use Rattle.csub_core.specs.declared.valid.role.Role.{Role}
 use Rattle.csub_core.specs.declared.valid.role.Role.TheVariants.{Whole, Test, Effect}
 use Rattle.csub_core.specs.declared.valid.role.Targets.{Targets}

@@ -4,13 +4,13 @@ use Rattle.std.specs.Prelude.{slice_get, Contains, OnOk}
 use Rattle.std.proofs.lemmas.List.{take-append-le}
 use Rattle.std.proofs.lemmas.Option.{slice_get_within, slice_get-get_or, get_or_from_slice_get, same_Some}
 use Rattle.std.proofs.Math.Seq.{take-append_seam}
-use Rattle.csub_core.specs.Types.{Name}
-use Rattle.csub_core.specs.Points.{PointTree, entry, exit, ExitTree, next}
-use Rattle.csub_core.specs.Syntax.{ProgramTree}
-use Rattle.csub_core.specs.Flows.{flow_of, start_name}
-use Rattle.csub_core.specs.Numbers.{site, site_at, edge_at, name_at}
-use Rattle.csub_core.specs.Books as books
-use Rattle.csub_core.specs.Books.{Together, CallsAt, IsNoCallAt, Reason, start, step, enter_callee, over, Justified}
+use Rattle.csub_semantics.specs.Types.{Name}
+use Rattle.csub_semantics.specs.Points.{PointTree, entry, exit, ExitTree, next}
+use Rattle.csub_semantics.specs.Syntax.{ProgramTree}
+use Rattle.csub_semantics.specs.Flows.{flow_of, start_name}
+use Rattle.csub_semantics.specs.Numbers.{site, site_at, edge_at, name_at}
+use Rattle.csub_semantics.specs.Books as books
+use Rattle.csub_semantics.specs.Books.{Together, CallsAt, IsNoCallAt, Reason, start, step, enter_callee, over, Justified}
 use Rattle.flow_graph.specs.Graph.{Tables, IsGraphOf, point_count}
 use Rattle.call_walk.specs.declared.fact.Fact.{Fact}
 use Rattle.call_walk.specs.declared.fact.Why.{Why}

@@ -3,13 +3,13 @@ use Rattle.std.proofs.Common.{◌≡◌, ℕ, ◌+◌, ◌<◌, ◌≤◌, List,
 use Rattle.std.specs.Prelude.{slice_get, is_some, IfSome, IfNone}
 use Rattle.std.proofs.lemmas.Bool.{cases_lt, cases_eq}
 use Rattle.std.proofs.lemmas.Option.{slice_get_within, same_Some}
-use Rattle.csub_core.specs.Types.{Name}
-use Rattle.csub_core.specs.Labels.{LabelTree, enters, exits, evaluates, initialises, branches, returns, calls, CallTree, PointLabel}
-use Rattle.csub_core.specs.Points.{PointTree, exit, ExitTree, next}
-use Rattle.csub_core.specs.Syntax.{ProgramTree}
-use Rattle.csub_core.specs.Flows.{Edge, Flow, flow_of}
-use Rattle.csub_core.specs.Numbers.{Site, site, edge_at}
-use Rattle.csub_core.specs.Books.{Together, CallsAt, IsNoCallAt, Reached, Dangerous}
+use Rattle.csub_semantics.specs.Types.{Name}
+use Rattle.csub_semantics.specs.Labels.{LabelTree, enters, exits, evaluates, initialises, branches, returns, calls, CallTree, PointLabel}
+use Rattle.csub_semantics.specs.Points.{PointTree, exit, ExitTree, next}
+use Rattle.csub_semantics.specs.Syntax.{ProgramTree}
+use Rattle.csub_semantics.specs.Flows.{Edge, Flow, flow_of}
+use Rattle.csub_semantics.specs.Numbers.{Site, site, edge_at}
+use Rattle.csub_semantics.specs.Books.{Together, CallsAt, IsNoCallAt, Reached, Dangerous}
 use Rattle.csub_core.specs.Valid.{IsValid}
 use Rattle.edge_trace.specs.Rows.{has}
 use Rattle.call_walk.specs.declared.fact.Fact.{Fact}

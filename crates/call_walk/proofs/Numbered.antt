@@ -5,13 +5,13 @@ use Rattle.std.specs.Option.{option_and_then}
 use Rattle.std.specs.List.{flat_map}
 use Rattle.std.proofs.lemmas.List.{length-map}
 use Rattle.std.proofs.lemmas.Option.{slice_get-map, slice_get_within, same_Some, get_or_from_slice_get}
-use Rattle.csub_core.specs.Types.{Name}
-use Rattle.csub_core.specs.Labels.{CallTree, calls, PointLabel}
-use Rattle.csub_core.specs.Points.{PointTree, entry, ExitTree, exit_eq}
-use Rattle.csub_core.specs.Syntax.{FunctionTree, ProgramTree}
-use Rattle.csub_core.specs.Successors.{Way, Node}
-use Rattle.csub_core.specs.Flows.{PlacedNode, placed, function_nodes, point_list, Edge, edges_from, name_eq, function_of, node_of, way_in, way_of, labelled, flow_of, start_name}
-use Rattle.csub_core.specs.Numbers.{Site, site, site_of, site_at, edge_at, name_at}
+use Rattle.csub_semantics.specs.Types.{Name}
+use Rattle.csub_semantics.specs.Labels.{CallTree, calls, PointLabel}
+use Rattle.csub_semantics.specs.Points.{PointTree, entry, ExitTree, exit_eq}
+use Rattle.csub_semantics.specs.Syntax.{FunctionTree, ProgramTree}
+use Rattle.csub_semantics.specs.Successors.{Way, Node}
+use Rattle.csub_semantics.specs.Flows.{PlacedNode, placed, function_nodes, point_list, Edge, edges_from, name_eq, function_of, node_of, way_in, way_of, labelled, flow_of, start_name}
+use Rattle.csub_semantics.specs.Numbers.{Site, site, site_of, site_at, edge_at, name_at}
 use Rattle.csub_core.specs.Valid.{BeginsWithStart, IsValid}
 use Rattle.program_laws.specs.Flows.{entry_label, IsFlow}
 use Rattle.program_laws.proofs.Names.{same_name}

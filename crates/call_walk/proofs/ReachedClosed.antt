@@ -1,10 +1,10 @@
 -- The reached pairs and the dangerous edges are a closed claim.
 use Rattle.std.proofs.Common.{◌≡◌, Option, Some, None, refl, sym, ap, ◌∙◌, subst, ◌⊎◌, inl, inr}
-use Rattle.csub_core.specs.Types.{Name}
-use Rattle.csub_core.specs.Labels.{CallTree, calls, PointLabel}
-use Rattle.csub_core.specs.Points.{PointTree, entry, exit, ExitTree, next}
-use Rattle.csub_core.specs.Flows.{Flow}
-use Rattle.csub_core.specs.Books.{SameLabel, Together, CallsAt, IsNoCallAt, Reached, Dangerous, GoesOn, Closed}
+use Rattle.csub_semantics.specs.Types.{Name}
+use Rattle.csub_semantics.specs.Labels.{CallTree, calls, PointLabel}
+use Rattle.csub_semantics.specs.Points.{PointTree, entry, exit, ExitTree, next}
+use Rattle.csub_semantics.specs.Flows.{Flow}
+use Rattle.csub_semantics.specs.Books.{SameLabel, Together, CallsAt, IsNoCallAt, Reached, Dangerous, GoesOn, Closed}
 use Rattle.program_laws.specs.Decided.{Decided}
 use Rattle.program_laws.specs.Flows.{entry_label, IsFlow}
 use Rattle.program_laws.proofs.Decided.{labels}

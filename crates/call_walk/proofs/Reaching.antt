@@ -3,10 +3,10 @@ use Rattle.std.proofs.Common.{◌≡◌, ℕ, zero, suc, ◌+◌, ◌<◌, List,
 use Rattle.std.specs.Prelude.{slice_get}
 use Rattle.std.proofs.lemmas.List.{take-append-le}
 use Rattle.std.proofs.Math.Seq.{take-append-add}
-use Rattle.csub_core.specs.Types.{Name}
-use Rattle.csub_core.specs.Points.{PointTree, entry, exit, ExitTree, next}
-use Rattle.csub_core.specs.Flows.{Flow, start_name}
-use Rattle.csub_core.specs.Books.{Fact, fact, Together, CallsAt, IsNoCallAt, Reason, start, step, enter_callee, over, Justified, IsBook, Reached}
+use Rattle.csub_semantics.specs.Types.{Name}
+use Rattle.csub_semantics.specs.Points.{PointTree, entry, exit, ExitTree, next}
+use Rattle.csub_semantics.specs.Flows.{Flow, start_name}
+use Rattle.csub_semantics.specs.Books.{Fact, fact, Together, CallsAt, IsNoCallAt, Reason, start, step, enter_callee, over, Justified, IsBook, Reached}
 use Rattle.call_walk.specs.Lockstep.{Claim}
 use Rattle.call_walk.proofs.Lists.{get_left, get_right, InFront, InBack, get_cases, get_take, append_nil}
 

@@ -1,10 +1,10 @@
 -- The acts of two valid programs keep that their stores agree on what is shared.
 use Rattle.std.proofs.Common.{◌≡◌, ℕ, ℤ, List, [], ◌∷◌, Option, Some, None, refl, ap, IsTrue}
 use Rattle.std.specs.Cmp.Rules.{signed_items}
-use Rattle.csub_core.specs.Syntax.{ProgramTree}
-use Rattle.csub_core.specs.Flows.{Flow, flow_of}
-use Rattle.csub_core.specs.Cells.{Root, global_root, local_root, temp_root, Inner, Cell, reference}
-use Rattle.csub_core.specs.Runs.{initial_content, initial_at}
+use Rattle.csub_semantics.specs.Syntax.{ProgramTree}
+use Rattle.csub_semantics.specs.Flows.{Flow, flow_of}
+use Rattle.csub_semantics.specs.Cells.{Root, global_root, local_root, temp_root, Inner, Cell, reference}
+use Rattle.csub_semantics.specs.Runs.{initial_content, initial_at}
 use Rattle.csub_core.specs.Valid.{IsValid}
 use Rattle.program_laws.proofs.Labelled.{is_flow}
 use Rattle.call_walk.specs.Shared.{declared_alike, shared, Agree}

@@ -2,14 +2,14 @@
 use Rattle.std.proofs.Common.{◌≡◌, ℕ, zero, suc, ◌+◌, List, [], ◌∷◌, Option, Some, None, refl, sym, ap, ◌∙◌, subst, subst₂}
 use Rattle.std.specs.List.{AllZip}
 use Rattle.std.proofs.lemmas.List.Elements.{All-head, All-tail}
-use Rattle.csub_core.specs.declared.status.Status.{Status}
-use Rattle.csub_core.specs.declared.status.Status.TheVariants.{Turns}
-use Rattle.csub_core.specs.Types.{Name}
-use Rattle.csub_core.specs.Points.{entry}
-use Rattle.csub_core.specs.Flows.{Flow, Edge, start_name}
-use Rattle.csub_core.specs.Acts.{Store}
-use Rattle.csub_core.specs.Runs.{Standing, Turn, goes, stops, lost, turn, Moment, running, ended, nowhere, crossing, after_turn, go_on, opening, after, Results, results_at, run_of}
-use Rattle.csub_core.specs.Books.{Closed, IsImage}
+use Rattle.csub_semantics.specs.declared.status.Status.{Status}
+use Rattle.csub_semantics.specs.declared.status.Status.TheVariants.{Turns}
+use Rattle.csub_semantics.specs.Types.{Name}
+use Rattle.csub_semantics.specs.Points.{entry}
+use Rattle.csub_semantics.specs.Flows.{Flow, Edge, start_name}
+use Rattle.csub_semantics.specs.Acts.{Store}
+use Rattle.csub_semantics.specs.Runs.{Standing, Turn, goes, stops, lost, turn, Moment, running, ended, nowhere, crossing, after_turn, go_on, opening, after, Results, results_at, run_of}
+use Rattle.csub_semantics.specs.Books.{Closed, IsImage}
 use Rattle.program_laws.specs.Flows.{IsFlow}
 use Rattle.call_walk.specs.Shared.{shared, Agree}
 use Rattle.call_walk.specs.Lockstep.{Claim, Edges, CrossesNone, AlikeFrame, Alike, Beside, Lockstep, SameResults, SameRuns}

@@ -2,13 +2,13 @@
 use Rattle.std.proofs.Common.{◌≡◌, ℕ, suc, ◌+◌, ℤ, List, [], ◌∷◌, length, Option, Some, None, Bool, true, false, refl, sym, ap, ◌∙◌, subst, subst₂, ◌⊎◌, inl, inr, if◌then◌else◌}
 use Rattle.std.specs.List.{list_any}
 use Rattle.std.specs.Ordering.{int_eq}
-use Rattle.csub_core.specs.Types.{Name}
-use Rattle.csub_core.specs.Labels.{LabelTree, enters, exits, evaluates, initialises, branches, returns, calls, CallTree, PointLabel}
-use Rattle.csub_core.specs.Points.{PointTree, entry, exit, ExitTree, next, on_case, on_default}
-use Rattle.csub_core.specs.Flows.{Flow, Edge}
-use Rattle.csub_core.specs.Acts.{Store, Outcome, leaves, gives, pushes, pops, act}
-use Rattle.csub_core.specs.Runs.{Frame, Standing, Turn, goes, stops, lost, exit_at, edge_of, cross, put_result, come_back, come_back_to, pop, follow, turn_at, turn_of, opening}
-use Rattle.csub_core.specs.Books.{SameLabel, CallsAt, GoesOn, Closed, IsImage}
+use Rattle.csub_semantics.specs.Types.{Name}
+use Rattle.csub_semantics.specs.Labels.{LabelTree, enters, exits, evaluates, initialises, branches, returns, calls, CallTree, PointLabel}
+use Rattle.csub_semantics.specs.Points.{PointTree, entry, exit, ExitTree, next, on_case, on_default}
+use Rattle.csub_semantics.specs.Flows.{Flow, Edge}
+use Rattle.csub_semantics.specs.Acts.{Store, Outcome, leaves, gives, pushes, pops, act}
+use Rattle.csub_semantics.specs.Runs.{Frame, Standing, Turn, goes, stops, lost, exit_at, edge_of, cross, put_result, come_back, come_back_to, pop, follow, turn_at, turn_of, opening}
+use Rattle.csub_semantics.specs.Books.{SameLabel, CallsAt, GoesOn, Closed, IsImage}
 use Rattle.program_laws.specs.Outcomes.{Fits}
 use Rattle.program_laws.specs.Flows.{IsFlow}
 use Rattle.program_laws.proofs.Fitting.{fits}

@@ -1,13 +1,13 @@
 -- What an act reads and writes: cells of frames, cells of the globals that its label names, and what references in
 -- these refer to.
 use Rattle.std.specs.Prelude.{ℕ, ℤ, Bool, IsTrue, All, Option, Some, None}
-use Rattle.csub_core.specs.declared.status.Status.{Status}
-use Rattle.csub_core.specs.Types.{Name}
-use Rattle.csub_core.specs.Trees.{OwnerTree, global_owner, local_owner, Variable, object, temporary, NamedPlace, variable, NamedExpr, constant, reading, unary_operation, conversion, stepping, operation, conjunction, disjunction, choice, assignment, update, input_byte, output_byte, NamedArg, value_argument}
-use Rattle.csub_core.specs.Labels.{LabelTree, enters, exits, evaluates, initialises, branches, returns, calls, AnswerTree, InitTree, one_value}
-use Rattle.csub_core.specs.Points.{ExitTree}
-use Rattle.csub_core.specs.Cells.{Root, global_root, local_root, temp_root}
-use Rattle.csub_core.specs.Acts.{Store, Outcome, leaves, gives, pushes, pops, ends, act}
+use Rattle.csub_semantics.specs.declared.status.Status.{Status}
+use Rattle.csub_semantics.specs.Types.{Name}
+use Rattle.csub_semantics.specs.Trees.{OwnerTree, global_owner, local_owner, Variable, object, temporary, NamedPlace, variable, NamedExpr, constant, reading, unary_operation, conversion, stepping, operation, conjunction, disjunction, choice, assignment, update, input_byte, output_byte, NamedArg, value_argument}
+use Rattle.csub_semantics.specs.Labels.{LabelTree, enters, exits, evaluates, initialises, branches, returns, calls, AnswerTree, InitTree, one_value}
+use Rattle.csub_semantics.specs.Points.{ExitTree}
+use Rattle.csub_semantics.specs.Cells.{Root, global_root, local_root, temp_root}
+use Rattle.csub_semantics.specs.Acts.{Store, Outcome, leaves, gives, pushes, pops, ends, act}
 use Rattle.call_walk.specs.Shared.{Agree}
 
 -- a set of roots that has those of every frame

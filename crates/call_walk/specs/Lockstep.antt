@@ -1,13 +1,13 @@
 -- Two runs in lockstep, over a set of pairs that is claimed and a set of old edges that are not to be crossed.
 use Rattle.std.specs.Prelude.{ℕ, ◌≡◌, List, All, Some, Contains}
 use Rattle.std.specs.List.{AllZip}
-use Rattle.csub_core.specs.declared.status.Status.{Status}
-use Rattle.csub_core.specs.Types.{Name}
-use Rattle.csub_core.specs.Points.{PointTree, ExitTree}
-use Rattle.csub_core.specs.Flows.{Flow, Edge}
-use Rattle.csub_core.specs.Acts.{Store}
-use Rattle.csub_core.specs.Runs.{Frame, Standing, Turn, stops, turn, running, after, Results, run_of}
-use Rattle.csub_core.specs.Books.{Fact, fact, IsImage}
+use Rattle.csub_semantics.specs.declared.status.Status.{Status}
+use Rattle.csub_semantics.specs.Types.{Name}
+use Rattle.csub_semantics.specs.Points.{PointTree, ExitTree}
+use Rattle.csub_semantics.specs.Flows.{Flow, Edge}
+use Rattle.csub_semantics.specs.Acts.{Store}
+use Rattle.csub_semantics.specs.Runs.{Frame, Standing, Turn, stops, turn, running, after, Results, run_of}
+use Rattle.csub_semantics.specs.Books.{Fact, fact, IsImage}
 use Rattle.call_walk.specs.Shared.{shared, Agree}
 
 -- a set of facts, and a set of edges

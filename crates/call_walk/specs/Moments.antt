@@ -1,12 +1,12 @@
 -- A walk at a moment, for the functions inside: the facts that are held so far, the index of them by old points, the
 -- calls that wait, and what has been followed.
 use Rattle.std.specs.Prelude.{ℕ, ◌≡◌, ◌<◌, ◌^◌, ◌++◌, ◌⊎◌, List, length, slice_get, take, Some, Bool, IsTrue}
-use Rattle.csub_core.specs.Types.{Name}
-use Rattle.csub_core.specs.Points.{PointTree, entry, exit, ExitTree, next}
-use Rattle.csub_core.specs.Syntax.{FunctionTree, ProgramTree}
-use Rattle.csub_core.specs.Flows.{Edge, flow_of, function_of}
-use Rattle.csub_core.specs.Numbers.{site, site_at, edge_at, name_at}
-use Rattle.csub_core.specs.Books.{Together, CallsAt, IsNoCallAt, Reached}
+use Rattle.csub_semantics.specs.Types.{Name}
+use Rattle.csub_semantics.specs.Points.{PointTree, entry, exit, ExitTree, next}
+use Rattle.csub_semantics.specs.Syntax.{FunctionTree, ProgramTree}
+use Rattle.csub_semantics.specs.Flows.{Edge, flow_of, function_of}
+use Rattle.csub_semantics.specs.Numbers.{site, site_at, edge_at, name_at}
+use Rattle.csub_semantics.specs.Books.{Together, CallsAt, IsNoCallAt, Reached}
 use Rattle.edge_trace.specs.Rows.{has}
 use Rattle.flow_graph.specs.Graph.{Tables, IsGraphOf, point_count, edge_count, function_count}
 use Rattle.call_walk.specs.Walks.{LeavesFrom, IsExplained}

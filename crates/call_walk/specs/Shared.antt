@@ -2,9 +2,9 @@
 use Rattle.std.specs.Prelude.{ℕ, ℤ, ◌≡◌, List, Bool, true, false, IsTrue, Option, Some}
 use Rattle.std.specs.Cmp.Lexicographic.{pointwise}
 use Rattle.std.specs.Ordering.{int_eq}
-use Rattle.csub_core.specs.Flows.{Flow}
-use Rattle.csub_core.specs.Cells.{Root, global_root, local_root, temp_root, Cell, reference, Cells}
-use Rattle.csub_core.specs.Acts.{Store}
+use Rattle.csub_semantics.specs.Flows.{Flow}
+use Rattle.csub_semantics.specs.Cells.{Root, global_root, local_root, temp_root, Cell, reference, Cells}
+use Rattle.csub_semantics.specs.Acts.{Store}
 
 -- a global is declared alike where both programs have it with the same initial contents
 abbrev pub declared_alike : Option (List ℤ) → Option (List ℤ) → Bool

@@ -1,12 +1,12 @@
 -- What a walk of two programs is: its facts by names are a book, and its row holds the dangerous edges.
 use Rattle.std.specs.Prelude.{ℕ, ◌≡◌, ◌↔◌, List, [], map, length, take, slice_get, Option, Some, None, Contains, IsTrue}
-use Rattle.csub_core.specs.Types.{Name}
-use Rattle.csub_core.specs.Points.{PointTree, entry, ExitTree, next}
-use Rattle.csub_core.specs.Syntax.{ProgramTree}
-use Rattle.csub_core.specs.Flows.{Edge, edge_list, flow_of}
-use Rattle.csub_core.specs.Numbers.{Site, site, site_at, edge_at, name_at}
-use Rattle.csub_core.specs.Books as books
-use Rattle.csub_core.specs.Books.{Reason, start, step, enter_callee, over, Justified, IsBook, Reached, Dangerous}
+use Rattle.csub_semantics.specs.Types.{Name}
+use Rattle.csub_semantics.specs.Points.{PointTree, entry, ExitTree, next}
+use Rattle.csub_semantics.specs.Syntax.{ProgramTree}
+use Rattle.csub_semantics.specs.Flows.{Edge, edge_list, flow_of}
+use Rattle.csub_semantics.specs.Numbers.{Site, site, site_at, edge_at, name_at}
+use Rattle.csub_semantics.specs.Books as books
+use Rattle.csub_semantics.specs.Books.{Reason, start, step, enter_callee, over, Justified, IsBook, Reached, Dangerous}
 use Rattle.edge_trace.specs.Rows.{has}
 use Rattle.call_walk.specs.declared.fact.Fact.{Fact}
 use Rattle.call_walk.specs.declared.fact.Why.{Why}

@@ -1,17 +1,17 @@
 //! What a walk asks of both graphs.
 ghost use Rattle.std.specs.Prelude.{◌≡◌, ◌<◌, ◌↔◌, Some, IfOk, IfSome, IsTrue, MatchOption};
-ghost use Rattle.csub_core.specs.Types.{Name};
-ghost use Rattle.csub_core.specs.Points.{PointTree, exit, exit_tree, point_tree};
-ghost use Rattle.csub_core.specs.Syntax.{ProgramTree};
-ghost use Rattle.csub_core.specs.Flows.{flow_of};
-ghost use Rattle.csub_core.specs.Numbers.{site, site_at};
-ghost use Rattle.csub_core.specs.Books.{SameLabel, Together, IsNoCallAt};
+ghost use Rattle.csub_semantics.specs.Types.{Name};
+ghost use Rattle.csub_semantics.specs.Points.{PointTree, exit, exit_tree, point_tree};
+ghost use Rattle.csub_semantics.specs.Syntax.{ProgramTree};
+ghost use Rattle.csub_semantics.specs.Flows.{flow_of};
+ghost use Rattle.csub_semantics.specs.Numbers.{site, site_at};
+ghost use Rattle.csub_semantics.specs.Books.{SameLabel, Together, IsNoCallAt};
 ghost use Rattle.flow_graph.specs.Graph.{IsGraphOf, point_count, function_count};
 ghost use Rattle.call_walk.specs.Moments.{AreAt, AreTogether, IsFunction, IsCallee, Defines, AreWays};
 
 use crate::rows::Rows;
 use crate::same::same_label;
-use csub_core::{ExitLabel, Label, Point, Text};
+use csub_semantics::{ExitLabel, Label, Point, Text};
 use flow_graph::{EdgeEnds, Graph};
 use std::alloc::{AllocError, Global};
 

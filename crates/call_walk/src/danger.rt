@@ -1,11 +1,11 @@
 //! The dangerous edges of the facts of a walk.
 ghost use Rattle.std.specs.Prelude.{◌≡◌, ◌<◌, ◌↔◌, ℕ, Some, length, Contains, IfOk, IsTrue};
-ghost use Rattle.csub_core.specs.Types.{Name};
-ghost use Rattle.csub_core.specs.Points.{PointTree, exit_tree};
-ghost use Rattle.csub_core.specs.Syntax.{ProgramTree};
-ghost use Rattle.csub_core.specs.Flows.{edge_list, flow_of};
-ghost use Rattle.csub_core.specs.Numbers.{site, site_at};
-ghost use Rattle.csub_core.specs.Books.{SameLabel};
+ghost use Rattle.csub_semantics.specs.Types.{Name};
+ghost use Rattle.csub_semantics.specs.Points.{PointTree, exit_tree};
+ghost use Rattle.csub_semantics.specs.Syntax.{ProgramTree};
+ghost use Rattle.csub_semantics.specs.Flows.{edge_list, flow_of};
+ghost use Rattle.csub_semantics.specs.Numbers.{site, site_at};
+ghost use Rattle.csub_semantics.specs.Books.{SameLabel};
 ghost use Rattle.csub_core.specs.Valid.{IsValid};
 ghost use Rattle.edge_trace.specs.Rows.{has};
 ghost use Rattle.flow_graph.specs.Graph.{IsGraphOf, point_count, edge_count};
@@ -16,7 +16,7 @@ use crate::ask::callee_at;
 use crate::fact::Fact;
 use crate::pairs::{Pairs, place_of};
 use crate::rows::Rows;
-use csub_core::ExitLabel;
+use csub_semantics::ExitLabel;
 use edge_trace::EdgeRow;
 use flow_graph::{EdgeEnds, Graph};
 use std::alloc::{AllocError, Global};

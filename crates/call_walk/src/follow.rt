@@ -1,10 +1,10 @@
 //! What follows from a fact.
 ghost use Rattle.std.specs.Prelude.{◌≡◌, ◌<◌, ◌+◌, ℕ, List, Some, length, slice_get, Contains, OnOk};
-ghost use Rattle.csub_core.specs.Types.{Name};
-ghost use Rattle.csub_core.specs.Points.{PointTree, ExitTree, exit_tree, next};
-ghost use Rattle.csub_core.specs.Syntax.{ProgramTree};
-ghost use Rattle.csub_core.specs.Flows.{flow_of};
-ghost use Rattle.csub_core.specs.Books.{IsNoCallAt};
+ghost use Rattle.csub_semantics.specs.Types.{Name};
+ghost use Rattle.csub_semantics.specs.Points.{PointTree, ExitTree, exit_tree, next};
+ghost use Rattle.csub_semantics.specs.Syntax.{ProgramTree};
+ghost use Rattle.csub_semantics.specs.Flows.{flow_of};
+ghost use Rattle.csub_semantics.specs.Books.{IsNoCallAt};
 ghost use Rattle.flow_graph.specs.Graph.{IsGraphOf, point_count, function_count};
 ghost use Rattle.call_walk.specs.Moments.{Lists, AreWays, AreAt, IsMoment, AreWaiting, Extends, IsCalledAt, IsPassed, Explains, HoldsNext, PassesOver, AreDone, IsFollowed, AreResumed};
 ghost use Rattle.call_walk.specs.declared.fact.Fact.{Fact};
@@ -13,7 +13,7 @@ use crate::ask::{Callee, Pair, are_exits, callee_at, successors};
 use crate::fact::{Fact, Why};
 use crate::pairs::{Pairs, add, place_of};
 use crate::rows::Rows;
-use csub_core::ExitLabel;
+use csub_semantics::ExitLabel;
 use flow_graph::{EdgeEnds, Graph};
 use std::alloc::AllocError;
 

@@ -2,10 +2,10 @@
 //! whose body does nothing.
 
 ghost use Rattle.std.specs.Prelude.{List};
-ghost use Rattle.csub_core.specs.Syntax.{ProgramTree};
-ghost use Rattle.csub_core.specs.Flows.{Edge, flow_of};
+ghost use Rattle.csub_semantics.specs.Syntax.{ProgramTree};
+ghost use Rattle.csub_semantics.specs.Flows.{Edge, flow_of};
 ghost use Rattle.csub_core.specs.Valid.{IsValid};
-ghost use Rattle.csub_core.specs.Books.{Fact, Reached, Dangerous, Closed};
+ghost use Rattle.csub_semantics.specs.Books.{Fact, Reached, Dangerous, Closed};
 ghost use Rattle.call_walk.specs.Locality.{ActsAreLocal};
 ghost use Rattle.call_walk.specs.Lockstep.{Lockstep, SameRuns, claims, among};
 

@@ -1,12 +1,11 @@
 //! Whether labels are equal, by their trees.
 ghost use Rattle.std.specs.Prelude.{◌≡◌, ◌↔◌, IsTrue, map};
 ghost use Rattle.std.specs.Option.{option_map};
-ghost use Rattle.csub_core.specs.Types.{type_tree, member_tree};
-ghost use Rattle.csub_core.specs.Trees.{owner_tree, place_tree, expr_tree, arg_tree};
-ghost use Rattle.csub_core.specs.Labels.{answer_tree, call_tree, init_tree, label_tree};
+ghost use Rattle.csub_semantics.specs.Types.{type_tree, member_tree};
+ghost use Rattle.csub_semantics.specs.Trees.{owner_tree, place_tree, expr_tree, arg_tree};
+ghost use Rattle.csub_semantics.specs.Labels.{answer_tree, call_tree, init_tree, label_tree};
 
-use csub_core::types::{CType, Member};
-use csub_core::{Answer, CallLabel, Label, Owner, Place, RArg, RExpr, RInit};
+use csub_semantics::{Answer, CType, CallLabel, Label, Member, Owner, Place, RArg, RExpr, RInit};
 
 /// Whether the resolved trees of two labels are equal. The work is in proportion to the smaller one.
 pub fn same_label(a: &Label, b: &Label) -> bool

@@ -1,8 +1,8 @@
 //! The walk of two programs through calls.
 ghost use Rattle.std.specs.Prelude.{◌≡◌, IfOk};
-ghost use Rattle.csub_core.specs.Points.{entry};
-ghost use Rattle.csub_core.specs.Flows.{start_name};
-ghost use Rattle.csub_core.specs.Syntax.{ProgramTree};
+ghost use Rattle.csub_semantics.specs.Points.{entry};
+ghost use Rattle.csub_semantics.specs.Flows.{start_name};
+ghost use Rattle.csub_semantics.specs.Syntax.{ProgramTree};
 ghost use Rattle.flow_graph.specs.Graph.{IsGraphOf};
 ghost use Rattle.call_walk.specs.Walks.{IsWalk};
 ghost use Rattle.call_walk.specs.Moments.{AreWays, IsMoment, IsHeld, HoldsAll};

@@ -1,4 +1,3 @@
-pub mod StmtRows
 pub mod ValidArgs
 pub mod ValidCounts
 pub mod ValidLists

@@ -1,11 +1,11 @@
 -- The arguments of a call fit its parameters where they are as many, and each is a valid expression.
 use Rattle.std.proofs.Common.{◌≡◌, ◌↔◌, ℕ, suc, List, [], ◌∷◌, map, length, All, arith, ap}
 use Rattle.std.proofs.lemmas.List.Elements.{All-nil, All-cons, All-head, All-tail}
-use Rattle.csub_core.specs.declared.types.Member.{Member}
-use Rattle.csub_core.specs.declared.expression.RArg.{RArg}
-use Rattle.csub_core.specs.declared.expression.RArg.TheVariants.{Value}
-use Rattle.csub_core.specs.Types.{member_tree}
-use Rattle.csub_core.specs.Trees.{arg_tree}
+use Rattle.csub_semantics.specs.declared.types.Member.{Member}
+use Rattle.csub_semantics.specs.declared.expression.RArg.{RArg}
+use Rattle.csub_semantics.specs.declared.expression.RArg.TheVariants.{Value}
+use Rattle.csub_semantics.specs.Types.{member_tree}
+use Rattle.csub_semantics.specs.Trees.{arg_tree}
 use Rattle.csub_core.specs.Valid.{Scope, AreArgs}
 use Rattle.csub_core.specs.Checks.{IsValue}
 

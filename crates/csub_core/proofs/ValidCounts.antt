@@ -7,15 +7,15 @@ use Rattle.std.proofs.lemmas.List.Sums.{sum_by-cons}
 use Rattle.std.proofs.lemmas.List.Concat.{flat_map-append}
 use Rattle.std.specs.declared.vec.Vec.{Vec}
 use Rattle.std.specs.declared.alloc.Global.{Global}
-use Rattle.csub_core.specs.declared.function.Function.{Function}
-use Rattle.csub_core.specs.declared.function.RStmt.{RStmt, Block}
-use Rattle.csub_core.specs.Types.{Name}
-use Rattle.csub_core.specs.Labels.{LabelTree, enters, exits, evaluates, initialises, branches, returns, calls}
-use Rattle.csub_core.specs.Syntax.{PartTree, StmtTree, StmtTrees, ElseTree, parts, block, conditional, while_loop, do_loop, for_loop, breaks, continues, no_stmt, more_stmts, no_else, else_stmt, FunctionTree, function_tree, stmt_tree, stmts_of}
-use Rattle.csub_core.proofs.StmtRows.{stmt_tree-Block}
-use Rattle.csub_core.specs.Points.{PointTree, exit, at}
-use Rattle.csub_core.specs.Successors.{Way, Node, Around, own_ways, last_ways, part_nodes, parts_nodes, nodes, nodes_list, nodes_else, leaving, looping, test_ways, enter, enter_part, enter_list, enter_else, enter_parts}
-use Rattle.csub_core.specs.Flows.{function_nodes, to_exit, end_rule, placed, edges_from, point_list, edge_list}
+use Rattle.csub_semantics.specs.declared.function.Function.{Function}
+use Rattle.csub_semantics.specs.declared.function.RStmt.{RStmt, Block}
+use Rattle.csub_semantics.specs.Types.{Name}
+use Rattle.csub_semantics.specs.Labels.{LabelTree, enters, exits, evaluates, initialises, branches, returns, calls}
+use Rattle.csub_semantics.specs.Syntax.{PartTree, StmtTree, StmtTrees, ElseTree, parts, block, conditional, while_loop, do_loop, for_loop, breaks, continues, no_stmt, more_stmts, no_else, else_stmt, FunctionTree, function_tree, stmt_tree, stmts_of}
+use Rattle.csub_semantics.proofs.StmtRows.{stmt_tree-Block}
+use Rattle.csub_semantics.specs.Points.{PointTree, exit, at}
+use Rattle.csub_semantics.specs.Successors.{Way, Node, Around, own_ways, last_ways, part_nodes, parts_nodes, nodes, nodes_list, nodes_else, leaving, looping, test_ways, enter, enter_part, enter_list, enter_else, enter_parts}
+use Rattle.csub_semantics.specs.Flows.{function_nodes, to_exit, end_rule, placed, edges_from, point_list, edge_list}
 use Rattle.csub_core.specs.Checks.{count, count_list, count_else, count_test, count_function}
 
 -- what is left of a limit after two counts

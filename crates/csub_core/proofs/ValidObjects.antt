@@ -2,11 +2,11 @@
 use Rattle.std.proofs.Common.{◌≡◌, ◌≢◌, ◌↔◌, ◌∙◌, ℕ, List, [], ◌∷◌, ◌++◌, ◌&&◌, map, get_or, All, AllPairs, Option, Some, None, find, nat_eq, refl, ap, sym, subst}
 use Rattle.std.specs.Option.{option_map, option_or}
 use Rattle.std.proofs.lemmas.List.Folds.{find-append}
-use Rattle.csub_core.specs.declared.types.Member.{Member}
-use Rattle.csub_core.specs.declared.function.LocalVar.{LocalVar}
-use Rattle.csub_core.specs.Types.{Name, TypeTree, member_tree}
-use Rattle.csub_core.specs.Syntax.{LocalTree, local_tree}
-use Rattle.csub_core.specs.Flows.{name_eq}
+use Rattle.csub_semantics.specs.declared.types.Member.{Member}
+use Rattle.csub_semantics.specs.declared.function.LocalVar.{LocalVar}
+use Rattle.csub_semantics.specs.Types.{Name, TypeTree, member_tree}
+use Rattle.csub_semantics.specs.Syntax.{LocalTree, local_tree}
+use Rattle.csub_semantics.specs.Flows.{name_eq}
 use Rattle.csub_core.specs.Valid.{parameter_object, type_in, AreOther}
 use Rattle.csub_core.specs.Checks.{AreApart}
 use Rattle.csub_core.proofs.ValidLists.{All-of_map, AllPairs-of_map, AllPairs-append}

@@ -1,7 +1,7 @@
 -- Validity of a program, by what is looked at in turn.
 use Rattle.std.proofs.Common.{◌≢◌, ◌↔◌, List, map, All, AllPairs}
-use Rattle.csub_core.specs.declared.function.Function.{Function}
-use Rattle.csub_core.specs.Syntax.{ProgramTree, function_tree}
+use Rattle.csub_semantics.specs.declared.function.Function.{Function}
+use Rattle.csub_semantics.specs.Syntax.{ProgramTree, function_tree}
 use Rattle.csub_core.specs.Valid.{IsValid}
 use Rattle.csub_core.specs.Checks.{IsFramed, AreNamed, HasEnds, IsFunction}
 use Rattle.csub_core.proofs.ValidLists.{All-of_map, AllPairs-of_map}

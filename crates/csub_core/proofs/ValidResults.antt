@@ -3,9 +3,9 @@ use Rattle.std.proofs.Common.{◌≡◌, ℕ, zero, suc, ◌<◌, List, [], ◌�
 use Rattle.std.specs.Option.{option_and_then}
 use Rattle.csub_text.specs.declared.span.Span.{Span}
 use Rattle.csub_types.specs.declared.kind.IntKind.{IntKind}
-use Rattle.csub_core.specs.declared.function.RCall.{RCall}
-use Rattle.csub_core.specs.Labels.{LabelTree}
-use Rattle.csub_core.specs.Syntax.{Stage, call_stage, own_stage}
+use Rattle.csub_semantics.specs.declared.function.RCall.{RCall}
+use Rattle.csub_semantics.specs.Labels.{LabelTree}
+use Rattle.csub_semantics.specs.Syntax.{Stage, call_stage, own_stage}
 use Rattle.csub_core.specs.Valid.{stage_result, result_of}
 use Rattle.csub_core.specs.Checks.{own_result}
 

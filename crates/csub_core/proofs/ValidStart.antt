@@ -1,7 +1,7 @@
 -- The first function of a program, `#start`, by the parts of its definition.
 use Rattle.std.proofs.Common.{◌≡◌, List, [], ◌∷◌, map, length, refl}
-use Rattle.csub_core.specs.declared.function.RStmt.{RStmt}
-use Rattle.csub_core.specs.Syntax.{StmtTree, StmtTrees, parts, block, conditional, while_loop, do_loop, for_loop, breaks, continues, more_stmts, stmt_tree, stmts_of}
+use Rattle.csub_semantics.specs.declared.function.RStmt.{RStmt}
+use Rattle.csub_semantics.specs.Syntax.{StmtTree, StmtTrees, parts, block, conditional, while_loop, do_loop, for_loop, breaks, continues, more_stmts, stmt_tree, stmts_of}
 use Rattle.csub_core.specs.Valid.{IsStartBody}
 
 two_lines : (s t : StmtTree) (rest : StmtTrees) → IsStartBody (more_stmts s (more_stmts t rest)) → ⊥

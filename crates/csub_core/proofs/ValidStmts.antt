@@ -4,16 +4,16 @@ use Rattle.std.proofs.lemmas.List.Elements.{All-nil, All-cons, All-head, All-tai
 use Rattle.std.specs.declared.vec.Vec.{Vec}
 use Rattle.std.specs.declared.alloc.Global.{Global}
 use Rattle.csub_text.specs.declared.span.Span.{Span}
-use Rattle.csub_core.specs.declared.function.RCall.{RCall}
-use Rattle.csub_core.specs.declared.function.RPart.{RPart}
-use Rattle.csub_core.specs.Labels.{LabelTree}
-use Rattle.csub_core.specs.declared.function.RStmt.{RStmt, Parts, Block}
+use Rattle.csub_semantics.specs.declared.function.RCall.{RCall}
+use Rattle.csub_semantics.specs.declared.function.RPart.{RPart}
+use Rattle.csub_semantics.specs.Labels.{LabelTree}
+use Rattle.csub_semantics.specs.declared.function.RStmt.{RStmt, Parts, Block}
 use Rattle.csub_core.specs.declared.valid.role.Role.TheVariants.{Whole, Effect}
 use Rattle.csub_core.specs.declared.valid.role.Targets.{Targets}
-use Rattle.csub_core.specs.Syntax.{call_stage, own_stage, part_tree, stmt_tree, stmts_of, FunctionTree, ProgramTree}
+use Rattle.csub_semantics.specs.Syntax.{call_stage, own_stage, part_tree, stmt_tree, stmts_of, FunctionTree, ProgramTree}
 use Rattle.csub_core.specs.Valid.{is_declared, declares, IsPart, IsStmt, AreStmts}
 use Rattle.csub_core.specs.Checks.{declared_own}
-use Rattle.csub_core.proofs.StmtRows.{stmt_tree-Block}
+use Rattle.csub_semantics.proofs.StmtRows.{stmt_tree-Block}
 use Rattle.csub_core.proofs.ValidLists.{All-of_map}
 
 module _ (P : ProgramTree) (f : FunctionTree) (to : Targets) where

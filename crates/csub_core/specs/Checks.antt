@@ -4,14 +4,14 @@ use Rattle.csub_core.specs.declared.valid.role.Role.{Role}
 use Rattle.csub_core.specs.declared.valid.role.Site.{Site}
 use Rattle.csub_core.specs.declared.valid.role.Role.TheVariants.{Whole, Test, Effect}
 use Rattle.csub_types.specs.declared.kind.IntKind.{IntKind}
-use Rattle.csub_core.specs.Trees.{NamedArg, value_argument}
-use Rattle.csub_core.specs.Labels.{LabelTree, call_tree}
-use Rattle.csub_core.specs.Syntax.{PartTree, StmtTree, StmtTrees, ElseTree, parts, block, conditional, while_loop, do_loop, for_loop, breaks, continues, no_stmt, more_stmts, no_else, else_stmt, FunctionTree, ProgramTree, part_tree, function_tree}
+use Rattle.csub_semantics.specs.Trees.{NamedArg, value_argument}
+use Rattle.csub_semantics.specs.Labels.{LabelTree, call_tree}
+use Rattle.csub_semantics.specs.Syntax.{PartTree, StmtTree, StmtTrees, ElseTree, parts, block, conditional, while_loop, do_loop, for_loop, breaks, continues, no_stmt, more_stmts, no_else, else_stmt, FunctionTree, ProgramTree, part_tree, function_tree}
 use Rattle.csub_core.specs.Valid.{Scope, scope_of, is_declared, label_result, IsExpr, IsCall, IsLast, AreStmts, no_loop, objects_of, AreOther, frame_cells, most_parameters, BeginsWithStart, IsMain, most_functions, most_points, most_edges, most_cells}
-use Rattle.csub_core.specs.Flows.{main_name, function_of, point_list, edge_list}
-use Rattle.csub_core.specs.declared.function.RCall.{RCall}
-use Rattle.csub_core.specs.declared.function.LocalVar.{LocalVar}
-use Rattle.csub_core.specs.declared.types.Member.{Member}
+use Rattle.csub_semantics.specs.Flows.{main_name, function_of, point_list, edge_list}
+use Rattle.csub_semantics.specs.declared.function.RCall.{RCall}
+use Rattle.csub_semantics.specs.declared.function.LocalVar.{LocalVar}
+use Rattle.csub_semantics.specs.declared.types.Member.{Member}
 
 -- what the expressions of a part may name, by where they stand
 abbrev pub scope_at : Site → Scope

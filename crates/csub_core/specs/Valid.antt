@@ -8,14 +8,14 @@ use Rattle.csub_types.specs.declared.kind.IntKind.{IntKind}
 use Rattle.csub_types.specs.declared.kind.IntKind.TheVariants.{Int}
 use Rattle.csub_types.specs.Kinds.{IsOf, promote, common}
 use Rattle.csub_types.specs.Arithmetic.{unary_kind, binary_kind}
-use Rattle.csub_core.specs.Types.{Name, TypeTree, number_kind, MemberTree}
-use Rattle.csub_core.specs.Trees.{NamedPlace, NamedExpr, Variable, NamedArg, value_argument, OwnerTree, global_owner, local_owner, variable, object, temporary, constant, reading, unary_operation, conversion, stepping, operation, conjunction, disjunction, choice, assignment, update, input_byte, output_byte}
-use Rattle.csub_core.specs.Labels.{LabelTree, evaluates, initialises, branches, returns, calls, AnswerTree, CallTree, InitTree, one_value}
-use Rattle.csub_core.specs.Syntax.{PartTree, StmtTree, StmtTrees, ElseTree, parts, block, conditional, while_loop, do_loop, for_loop, breaks, continues, no_stmt, more_stmts, no_else, else_stmt, Stage, LocalTree, FunctionTree, ProgramTree}
+use Rattle.csub_semantics.specs.Types.{Name, TypeTree, number_kind, MemberTree}
+use Rattle.csub_semantics.specs.Trees.{NamedPlace, NamedExpr, Variable, NamedArg, value_argument, OwnerTree, global_owner, local_owner, variable, object, temporary, constant, reading, unary_operation, conversion, stepping, operation, conjunction, disjunction, choice, assignment, update, input_byte, output_byte}
+use Rattle.csub_semantics.specs.Labels.{LabelTree, evaluates, initialises, branches, returns, calls, AnswerTree, CallTree, InitTree, one_value}
+use Rattle.csub_semantics.specs.Syntax.{PartTree, StmtTree, StmtTrees, ElseTree, parts, block, conditional, while_loop, do_loop, for_loop, breaks, continues, no_stmt, more_stmts, no_else, else_stmt, Stage, LocalTree, FunctionTree, ProgramTree}
 use Rattle.csub_core.specs.declared.valid.role.Role.{Role}
 use Rattle.csub_core.specs.declared.valid.role.Role.TheVariants.{Whole, Test, Effect}
 use Rattle.csub_core.specs.declared.valid.role.Targets.{Targets}
-use Rattle.csub_core.specs.Flows.{name_eq, start_name, main_name, function_of, point_list, edge_list}
+use Rattle.csub_semantics.specs.Flows.{name_eq, start_name, main_name, function_of, point_list, edge_list}
 
 -- the kind of an operation: a shift has the promoted kind of its left operand (C11 6.5.7), any other the common kind
 abbrev pub operation_kind : BinOp → IntKind → IntKind → IntKind

@@ -1,9 +1,9 @@
 //! A program, which keeps its validity.
 ghost use Rattle.std.specs.Prelude.{◌≡◌, ◌↔◌, IsSome, IfSome, map};
-ghost use Rattle.csub_core.specs.Syntax.{function_tree};
+ghost use Rattle.csub_semantics.specs.Syntax.{function_tree};
 ghost use Rattle.csub_core.specs.Valid.{IsValid};
 
-use crate::function::Function;
+use csub_semantics::Function;
 use crate::valid::is_valid;
 use std::marker::Model;
 
@@ -17,10 +17,10 @@ pub struct Program {
 impl Model for Program {
     ghost use Rattle.std.specs.Prelude.{List, map};
     ghost use Rattle.std.specs.Coded.{codes};
-    ghost use Rattle.csub_core.specs.contracts.expression.RExpr as expr;
-    ghost use Rattle.csub_core.specs.contracts.function.RStmt as stmt;
-    ghost use Rattle.csub_core.specs.declared.function.Function.{Function};
-    ghost use Rattle.csub_core.specs.Syntax.{function_tree};
+    ghost use Rattle.csub_semantics.specs.contracts.expression.RExpr as expr;
+    ghost use Rattle.csub_semantics.specs.contracts.function.RStmt as stmt;
+    ghost use Rattle.csub_semantics.specs.declared.function.Function.{Function};
+    ghost use Rattle.csub_semantics.specs.Syntax.{function_tree};
     ghost use Rattle.csub_core.specs.Valid.{IsValid};
 
     ghost Value = { List Function };

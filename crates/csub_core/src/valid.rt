@@ -4,8 +4,8 @@
 //! looked at first, so that the rest is done for programs of bounded size alone.
 ghost use Rattle.std.specs.Prelude.{◌≡◌, ◌≢◌, ◌↔◌, ◌≤◌, All, AllPairs, IsTrue, length, map};
 ghost use Rattle.std.specs.List.{AllWithin};
-ghost use Rattle.csub_core.specs.declared.function.Function.{Function};
-ghost use Rattle.csub_core.specs.Syntax.{function_tree};
+ghost use Rattle.csub_semantics.specs.declared.function.Function.{Function};
+ghost use Rattle.csub_semantics.specs.Syntax.{function_tree};
 ghost use Rattle.csub_core.specs.Valid.{IsValid, frame_cells, most_cells};
 ghost use Rattle.csub_core.specs.Checks.{IsWithinLimits, HasEnds, AreNamed, IsFramed, IsFunction, HasObjects, IsSmall};
 
@@ -17,7 +17,7 @@ mod role;
 mod start;
 mod statements;
 
-use crate::function::Function;
+use csub_semantics::Function;
 use crate::valid::calls::is_named;
 use crate::valid::counts::{has_few_edges, has_few_points};
 use crate::valid::objects::objects_differ;

@@ -1,14 +1,14 @@
 -- Where a run begins.
 use Rattle.std.proofs.Common.{◌≡◌, ◌<◌, ◌∙◌, ℕ, List, [], ◌∷◌, length, Some, None, All, refl, sym, ap, subst, arith}
 use Rattle.std.proofs.lemmas.List.Elements.{All-nil}
-use Rattle.csub_core.specs.Types.{Name}
-use Rattle.csub_core.specs.Syntax.{ProgramTree}
-use Rattle.csub_core.specs.Points.{entry}
-use Rattle.csub_core.specs.Flows.{point_list, Edge, flow_of, start_name}
-use Rattle.csub_core.specs.Numbers.{Site, site, site_at}
-use Rattle.csub_core.specs.Cells.{Cells, Root, global_root, local_root, temp_root, Inner}
-use Rattle.csub_core.specs.Acts.{Store}
-use Rattle.csub_core.specs.Runs.{Frame, Standing, Moment, initial_at, initial_cells, opening, running, after}
+use Rattle.csub_semantics.specs.Types.{Name}
+use Rattle.csub_semantics.specs.Syntax.{ProgramTree}
+use Rattle.csub_semantics.specs.Points.{entry}
+use Rattle.csub_semantics.specs.Flows.{point_list, Edge, flow_of, start_name}
+use Rattle.csub_semantics.specs.Numbers.{Site, site, site_at}
+use Rattle.csub_semantics.specs.Cells.{Cells, Root, global_root, local_root, temp_root, Inner}
+use Rattle.csub_semantics.specs.Acts.{Store}
+use Rattle.csub_semantics.specs.Runs.{Frame, Standing, Moment, initial_at, initial_cells, opening, running, after}
 use Rattle.csub_core.specs.Valid.{IsValid, BeginsWithStart}
 use Rattle.csub_machine.specs.declared.turn.Frame.{Frame as CodeFrame}
 use Rattle.csub_machine.specs.declared.run.Run.{Run}

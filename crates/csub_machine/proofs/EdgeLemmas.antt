@@ -4,8 +4,8 @@ use Rattle.std.specs.Cmp.Lexicographic.{pointwise}
 use Rattle.std.specs.Ordering.{int_eq}
 use Rattle.std.proofs.lemmas.Grind.{common_steps}
 use Rattle.std.proofs.Common.{arith, ℤ}
-use Rattle.csub_core.specs.Points.{PointTree, entry, exit, at, point_eq, ExitTree, next, on_true, on_false, on_case, on_default, exit_eq}
-use Rattle.csub_core.specs.Flows.{Edge}
+use Rattle.csub_semantics.specs.Points.{PointTree, entry, exit, at, point_eq, ExitTree, next, on_true, on_false, on_case, on_default, exit_eq}
+use Rattle.csub_semantics.specs.Flows.{Edge}
 use Rattle.csub_machine.specs.Crossed.{edge_eq}
 use Rattle.csub_machine.proofs.Same.{both, nat_true, nat_same, name_true, name_same}
 

@@ -1,8 +1,8 @@
 -- One more parameter gets its content.
 use Rattle.std.proofs.Common.{◌≡◌, ◌<◌, ◌+◌, ℕ, suc, List, ◌∷◌, map, drop, length, get_or, ap, ◌∙◌, sym, add-one, drop-cons}
-use Rattle.csub_core.specs.Types.{member_tree}
-use Rattle.csub_core.specs.Cells.{Cells, entered, written, parameter_cell}
-use Rattle.csub_core.specs.declared.types.Member.{Member}
+use Rattle.csub_semantics.specs.Types.{member_tree}
+use Rattle.csub_semantics.specs.Cells.{Cells, entered, written, parameter_cell}
+use Rattle.csub_semantics.specs.declared.types.Member.{Member}
 use Rattle.csub_machine.specs.declared.cells.Content.{Content}
 use Rattle.csub_machine.specs.Named.{content_seen}
 

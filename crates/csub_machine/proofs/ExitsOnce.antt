@@ -2,11 +2,11 @@
 use Rattle.std.proofs.Common.{◌≡◌, ◌∙◌, ℕ, zero, suc, ◌+◌, List, [], ◌∷◌, ◌++◌, length, Some, refl, sym, ap, subst}
 use Rattle.std.specs.List.{slice_get}
 use Rattle.std.proofs.lemmas.Option.{same_Some}
-use Rattle.csub_core.specs.Labels.{LabelTree, enters, exits, evaluates, initialises, branches, returns, calls}
-use Rattle.csub_core.specs.Points.{PointTree, at, ExitTree, next, on_true, on_false}
-use Rattle.csub_core.specs.Syntax.{PartTree, StmtTree, StmtTrees, ElseTree, parts, block, conditional, while_loop, do_loop, for_loop, breaks, continues, no_stmt, more_stmts, no_else, else_stmt, FunctionTree}
-use Rattle.csub_core.specs.Successors.{Way, Node, Around, way, leaving, looping, enter_part, enter_parts, enter, enter_list, enter_else, own_ways, test_ways, part_nodes, last_ways, parts_nodes, nodes, nodes_list, nodes_else}
-use Rattle.csub_core.specs.Flows.{to_exit, function_nodes}
+use Rattle.csub_semantics.specs.Labels.{LabelTree, enters, exits, evaluates, initialises, branches, returns, calls}
+use Rattle.csub_semantics.specs.Points.{PointTree, at, ExitTree, next, on_true, on_false}
+use Rattle.csub_semantics.specs.Syntax.{PartTree, StmtTree, StmtTrees, ElseTree, parts, block, conditional, while_loop, do_loop, for_loop, breaks, continues, no_stmt, more_stmts, no_else, else_stmt, FunctionTree}
+use Rattle.csub_semantics.specs.Successors.{Way, Node, Around, way, leaving, looping, enter_part, enter_parts, enter, enter_list, enter_else, own_ways, test_ways, part_nodes, last_ways, parts_nodes, nodes, nodes_list, nodes_else}
+use Rattle.csub_semantics.specs.Flows.{to_exit, function_nodes}
 
 abbrev pub ExitsOnce : List (Way PointTree) → Type 0
 ExitsOnce ws = (i j : ℕ) (w v : Way PointTree) → slice_get ws i ≡ Some w → slice_get ws j ≡ Some v → w.exit ≡ v.exit → i ≡ j

@@ -2,11 +2,11 @@
 use Rattle.std.proofs.Common.{◌≡◌, ◌<◌, ◌∙◌, ℕ, zero, suc, List, [], ◌∷◌, length, Option, Some, None, Bool, true, false, if◌then◌else◌, refl, sym, ap, arith}
 use Rattle.std.specs.Prelude.{slice_get}
 use Rattle.std.specs.Option.{option_map, IfNone}
-use Rattle.csub_core.specs.Types.{Name}
-use Rattle.csub_core.specs.Syntax.{FunctionTree, ProgramTree}
-use Rattle.csub_core.specs.Points.{PointTree, ExitTree}
-use Rattle.csub_core.specs.Flows.{Edge, point_list, edge_list, flow_of, function_of, name_eq}
-use Rattle.csub_core.specs.Numbers.{Site, site, site_of, site_at, edge_at, name_at}
+use Rattle.csub_semantics.specs.Types.{Name}
+use Rattle.csub_semantics.specs.Syntax.{FunctionTree, ProgramTree}
+use Rattle.csub_semantics.specs.Points.{PointTree, ExitTree}
+use Rattle.csub_semantics.specs.Flows.{Edge, point_list, edge_list, flow_of, function_of, name_eq}
+use Rattle.csub_semantics.specs.Numbers.{Site, site, site_of, site_at, edge_at, name_at}
 use Rattle.std.proofs.lemmas.List.{length-map}
 use Rattle.flow_graph.specs.Graph.{Tables, IsGraphOf, point_count, edge_count, function_count, point_at, point_of, function_at, function_of as graph_function_of}
 use Rattle.flow_graph.proofs.Whole.{edges_listed}

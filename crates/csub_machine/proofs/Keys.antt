@@ -18,7 +18,7 @@ use Rattle.csub_machine.specs.contracts.cells.RootPartialEq.TheImpl as same_root
 use Rattle.csub_machine.specs.contracts.cells.InnerPartialEq.TheImpl as same_inner
 use Rattle.csub_machine.specs.contracts.cells.CellNameOrd.TheImpl as order
 use Rattle.csub_machine.specs.contracts.cells.CellNameOrd.TheImpl.Laws.{matches_eq-law}
-use Rattle.csub_core.specs.Cells as the
+use Rattle.csub_semantics.specs.Cells as the
 use Rattle.csub_machine.proofs.Same.{cell_true}
 use Rattle.csub_machine.specs.Named.{root_seen, inner_seen, cell_seen, content_seen, among}
 

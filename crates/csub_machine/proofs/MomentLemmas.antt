@@ -1,10 +1,10 @@
 -- One moment after another.
 use Rattle.std.proofs.Common.{◌≡◌, ◌∙◌, ap, ℕ, zero, suc, ◌+◌, List, add-one, Option}
 use Rattle.std.proofs.Math.Nat.{add-zero, add-suc}
-use Rattle.csub_core.specs.declared.status.Status.{Status}
-use Rattle.csub_core.specs.Flows.{Flow, Edge}
-use Rattle.csub_core.specs.Acts.{Store}
-use Rattle.csub_core.specs.Runs.{Standing, goes, stops, lost, turn, running, ended, nowhere, crossing, after_turn, go_on, after}
+use Rattle.csub_semantics.specs.declared.status.Status.{Status}
+use Rattle.csub_semantics.specs.Flows.{Flow, Edge}
+use Rattle.csub_semantics.specs.Acts.{Store}
+use Rattle.csub_semantics.specs.Runs.{Standing, goes, stops, lost, turn, running, ended, nowhere, crossing, after_turn, go_on, after}
 
 module _ (F : Flow) (input : List ℕ) where
   pub after_goes : (k : ℕ) (es : List Edge) (at to : Standing) (c : Option Edge) → after F input k ≡ running es at → turn F at ≡ goes c to → after F input (k + 1) ≡ running (crossing c es) to

@@ -2,11 +2,11 @@
 use Rattle.std.proofs.Common.{◌≡◌, ◌≢◌, ◌⊎◌, inl, inr, ◌∙◌, ◌+◌, ℕ, suc, List, [], ◌∷◌, length, map, AllPairs, Some, refl, sym, ap, arith, get_or}
 use Rattle.std.specs.List.{slice_get, flat_map}
 use Rattle.std.proofs.lemmas.Option.{same_Some, slice_get-map, slice_get_within, slice_get-get_or}
-use Rattle.csub_core.specs.Points.{PointTree}
-use Rattle.csub_core.specs.Syntax.{FunctionTree, ProgramTree}
-use Rattle.csub_core.specs.Successors.{Way}
-use Rattle.csub_core.specs.Flows.{PlacedNode, placed, function_nodes, point_list, Edge, edges_from, edge_list}
-use Rattle.csub_core.specs.Numbers.{Site, site, site_of}
+use Rattle.csub_semantics.specs.Points.{PointTree}
+use Rattle.csub_semantics.specs.Syntax.{FunctionTree, ProgramTree}
+use Rattle.csub_semantics.specs.Successors.{Way}
+use Rattle.csub_semantics.specs.Flows.{PlacedNode, placed, function_nodes, point_list, Edge, edges_from, edge_list}
+use Rattle.csub_semantics.specs.Numbers.{Site, site, site_of}
 use Rattle.csub_core.specs.Valid.{IsValid}
 use Rattle.flow_graph.specs.Numbers.{count_function}
 use Rattle.flow_graph.proofs.Lists.{slice_get_cases_append, made_of, range_at}

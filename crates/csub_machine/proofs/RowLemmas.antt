@@ -3,10 +3,10 @@ use Rattle.std.proofs.Common.{◌≡◌, ◌≢◌, ◌<◌, ℕ, zero, suc, Lis
 use Rattle.std.specs.Prelude.{slice_get, slice_set, slice_index_or, replicate}
 use Rattle.std.specs.List.{Contains}
 use Rattle.std.proofs.lemmas.Simd.{splat_is_map}
-use Rattle.csub_core.specs.Syntax.{ProgramTree}
-use Rattle.csub_core.specs.Flows.{Edge, edge_list}
-use Rattle.csub_core.specs.Numbers.{edge_at, IsCrossed}
-use Rattle.csub_core.specs.Runs.{crossing}
+use Rattle.csub_semantics.specs.Syntax.{ProgramTree}
+use Rattle.csub_semantics.specs.Flows.{Edge, edge_list}
+use Rattle.csub_semantics.specs.Numbers.{edge_at, IsCrossed}
+use Rattle.csub_semantics.specs.Runs.{crossing}
 use Rattle.csub_machine.specs.Crossed.{edge_eq, is_among, crossed_row}
 use Rattle.csub_machine.proofs.EdgeLemmas.{edge_true, edge_same, edge_other}
 

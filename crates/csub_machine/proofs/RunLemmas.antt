@@ -1,10 +1,10 @@
 -- A run of the code from one moment to another.
 use Rattle.std.proofs.Common.{◌≡◌, ◌≤◌, ◌∙◌, ap, sym, ℕ, ◌+◌, ◌-◌, List, true, false, Option, Some, IsSome, subst, refl}
 use Rattle.std.proofs.Math.Nat.{add-sub_of_le}
-use Rattle.csub_core.specs.declared.status.Status.{Status}
-use Rattle.csub_core.specs.Syntax.{ProgramTree}
-use Rattle.csub_core.specs.Flows.{Edge, flow_of}
-use Rattle.csub_core.specs.Runs.{goes, stops, turn, Moment, running, ended, nowhere, crossing, after}
+use Rattle.csub_semantics.specs.declared.status.Status.{Status}
+use Rattle.csub_semantics.specs.Syntax.{ProgramTree}
+use Rattle.csub_semantics.specs.Flows.{Edge, flow_of}
+use Rattle.csub_semantics.specs.Runs.{goes, stops, turn, Moment, running, ended, nowhere, crossing, after}
 use Rattle.csub_machine.specs.declared.run.Run.{Run}
 use Rattle.csub_machine.specs.States.{state_of}
 use Rattle.csub_machine.specs.Moments.{IsRunningAt, status_at, output_of, turns_of, crossed_of}

@@ -2,10 +2,10 @@
 use Rattle.std.proofs.Common.{◌≡◌, ◌≤◌, ◌∙◌, ℕ, ◌-◌, Some, refl, sym, ap, subst}
 use Rattle.std.proofs.Math.Nat.{add-sub_of_le}
 use Rattle.std.proofs.lemmas.Option.{same_Some}
-use Rattle.csub_core.specs.declared.status.Status.{Status}
-use Rattle.csub_core.specs.declared.status.Status.TheVariants.{Turns}
-use Rattle.csub_core.specs.Flows.{flow_of}
-use Rattle.csub_core.specs.Runs.{Moment, running, ended, nowhere, after, Results, results_at, run_of}
+use Rattle.csub_semantics.specs.declared.status.Status.{Status}
+use Rattle.csub_semantics.specs.declared.status.Status.TheVariants.{Turns}
+use Rattle.csub_semantics.specs.Flows.{flow_of}
+use Rattle.csub_semantics.specs.Runs.{Moment, running, ended, nowhere, after, Results, results_at, run_of}
 use Rattle.csub_machine.specs.Places.{tree_of}
 use Rattle.csub_machine.specs.Moments.{Seen, moment_of, IsRunningAt, IsRunning, status_at, status_of, output_of, turns_of, crossed_of, results_of}
 use Rattle.csub_machine.proofs.MomentLemmas.{after_ended}

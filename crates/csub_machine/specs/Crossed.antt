@@ -1,10 +1,10 @@
 -- The row of the edges that a run crossed.
 use Rattle.std.specs.Prelude.{ℕ, List, map, Bool, ◌&&◌, Option, Some, None}
 use Rattle.std.specs.List.{list_any}
-use Rattle.csub_core.specs.Syntax.{ProgramTree}
-use Rattle.csub_core.specs.Points.{point_eq, exit_eq}
-use Rattle.csub_core.specs.Flows.{name_eq, Edge, edge_list}
-use Rattle.csub_core.specs.Numbers.{edge_at}
+use Rattle.csub_semantics.specs.Syntax.{ProgramTree}
+use Rattle.csub_semantics.specs.Points.{point_eq, exit_eq}
+use Rattle.csub_semantics.specs.Flows.{name_eq, Edge, edge_list}
+use Rattle.csub_semantics.specs.Numbers.{edge_at}
 
 abbrev pub edge_eq : Edge → Edge → Bool
 edge_eq d e = name_eq d.function e.function && (point_eq d.from e.from && exit_eq d.exit e.exit)

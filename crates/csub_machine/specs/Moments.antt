@@ -1,9 +1,9 @@
 -- What a machine is seen as, and what its calls answer: all of it is said of the moment of its run.
 use Rattle.std.specs.Prelude.{ℕ, List, [], Option, Some, None}
-use Rattle.csub_core.specs.declared.function.Function.{Function}
-use Rattle.csub_core.specs.declared.status.Status.{Status}
-use Rattle.csub_core.specs.Flows.{flow_of, Edge}
-use Rattle.csub_core.specs.Runs.{Moment, running, ended, nowhere, after, Results}
+use Rattle.csub_semantics.specs.declared.function.Function.{Function}
+use Rattle.csub_semantics.specs.declared.status.Status.{Status}
+use Rattle.csub_semantics.specs.Flows.{flow_of, Edge}
+use Rattle.csub_semantics.specs.Runs.{Moment, running, ended, nowhere, after, Results}
 use Rattle.csub_machine.specs.Places.{tree_of}
 
 -- a program, its input, and how many turns were asked for

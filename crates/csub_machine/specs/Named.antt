@@ -10,8 +10,8 @@ use Rattle.csub_machine.specs.declared.cells.CellName.{CellName}
 use Rattle.csub_machine.specs.declared.cells.Content.{Content}
 use Rattle.csub_machine.specs.declared.cells.Content.TheVariants.{Number, Reference}
 use Rattle.csub_machine.specs.declared.cells.Spot.{Spot}
-use Rattle.csub_core.specs.Types.{number_type}
-use Rattle.csub_core.specs.Cells as the
+use Rattle.csub_semantics.specs.Types.{number_type}
+use Rattle.csub_semantics.specs.Cells as the
 
 abbrev pub root_seen : Root → the.Root
 root_seen (Global' a) = the.global_root a

@@ -1,10 +1,10 @@
 -- What the code answers for the outcome of an act.
 use Rattle.std.specs.Prelude.{ℕ, ◌≡◌, ◌<◌, Result, Ok, Err}
-use Rattle.csub_core.specs.Types.{Name}
-use Rattle.csub_core.specs.Labels.{LabelTree, calls}
-use Rattle.csub_core.specs.Acts as the
-use Rattle.csub_core.specs.Points.{exit_tree}
-use Rattle.csub_core.specs.declared.status.Status.TheVariants.{Trap as TrapStatus}
+use Rattle.csub_semantics.specs.Types.{Name}
+use Rattle.csub_semantics.specs.Labels.{LabelTree, calls}
+use Rattle.csub_semantics.specs.Acts as the
+use Rattle.csub_semantics.specs.Points.{exit_tree}
+use Rattle.csub_semantics.specs.declared.status.Status.TheVariants.{Trap as TrapStatus}
 use Rattle.csub_machine.specs.declared.act.Outcome.{Outcome}
 use Rattle.csub_machine.specs.declared.act.Outcome.TheVariants.{Leaves, Pushes, Pops, Ends}
 use Rattle.csub_machine.specs.declared.stop.Stop.{Stop}

@@ -1,12 +1,12 @@
 -- Points by their numbers, in the words of runs.
 use Rattle.std.specs.Prelude.{ℕ, ◌≡◌, ◌<◌, List, [], length, map, Option, Some, None}
-use Rattle.csub_core.specs.Types.{Name}
-use Rattle.csub_core.specs.Labels.{LabelTree}
-use Rattle.csub_core.specs.Points.{ExitTree, entry}
-use Rattle.csub_core.specs.declared.function.Function.{Function}
-use Rattle.csub_core.specs.Syntax.{ProgramTree, function_tree}
-use Rattle.csub_core.specs.Flows.{point_list, edge_list, flow_of, function_of}
-use Rattle.csub_core.specs.Numbers.{Site, site, site_at, edge_at}
+use Rattle.csub_semantics.specs.Types.{Name}
+use Rattle.csub_semantics.specs.Labels.{LabelTree}
+use Rattle.csub_semantics.specs.Points.{ExitTree, entry}
+use Rattle.csub_semantics.specs.declared.function.Function.{Function}
+use Rattle.csub_semantics.specs.Syntax.{ProgramTree, function_tree}
+use Rattle.csub_semantics.specs.Flows.{point_list, edge_list, flow_of, function_of}
+use Rattle.csub_semantics.specs.Numbers.{Site, site, site_at, edge_at}
 use Rattle.csub_machine.specs.declared.ways.Step.{Step}
 
 -- a program of the code, in the words of the definitions

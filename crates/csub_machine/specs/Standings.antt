@@ -1,10 +1,10 @@
 -- Where the code stands, and what it answers for a turn.
 use Rattle.std.specs.Prelude.{ℕ, ◌≡◌, ◌<◌, ◌≤◌, ◌+◌, List, ◌∷◌, map, reverse, length, All, true, Option, Some, None}
-use Rattle.csub_core.specs.Syntax.{ProgramTree}
-use Rattle.csub_core.specs.Flows.{point_list, edge_list, flow_of}
-use Rattle.csub_core.specs.Acts.{Store, most_frames}
-use Rattle.csub_core.specs.Runs as the
-use Rattle.csub_core.specs.Runs.{after}
+use Rattle.csub_semantics.specs.Syntax.{ProgramTree}
+use Rattle.csub_semantics.specs.Flows.{point_list, edge_list, flow_of}
+use Rattle.csub_semantics.specs.Acts.{Store, most_frames}
+use Rattle.csub_semantics.specs.Runs as the
+use Rattle.csub_semantics.specs.Runs.{after}
 use Rattle.csub_machine.specs.Moments.{output_of, turns_of, crossed_of}
 use Rattle.csub_machine.specs.Crossed.{edge_of, crossed_row}
 use Rattle.csub_machine.specs.declared.run.Run.{Run}

@@ -2,9 +2,9 @@
 use Rattle.std.specs.Prelude.{ℕ, ℤ, ◌≡◌, List, ◌++◌, drop, map, None, Result, Ok, Err}
 use Rattle.std.specs.declared.vec.Vec.{Vec}
 use Rattle.std.specs.declared.alloc.Global.{Global}
-use Rattle.csub_core.specs.Memory.{Answer, value, trapped}
-use Rattle.csub_core.specs.Cells.{Cells, Content}
-use Rattle.csub_core.specs.Acts.{Store}
+use Rattle.csub_semantics.specs.Memory.{Answer, value, trapped}
+use Rattle.csub_semantics.specs.Cells.{Cells, Content}
+use Rattle.csub_semantics.specs.Acts.{Store}
 use Rattle.csub_machine.specs.declared.cells.Content.{Content as CodeContent}
 use Rattle.csub_machine.specs.declared.store.Store.{Store as CodeStore}
 use Rattle.csub_machine.specs.declared.stop.Stop.{Stop}

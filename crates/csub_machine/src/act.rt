@@ -1,10 +1,10 @@
 //! The acts of labels.
 ghost use Rattle.std.specs.Prelude.{◌≡◌, ◌-◌, ◌<◌, map, OnOk, IfOk};
-ghost use Rattle.csub_core.specs.Types.{type_tree, member_tree};
-ghost use Rattle.csub_core.specs.Trees.{owner_tree, arg_tree};
-ghost use Rattle.csub_core.specs.Labels.{calls, exits, call_tree, init_tree, label_tree};
-ghost use Rattle.csub_core.specs.Cells.{entered};
-ghost use Rattle.csub_core.specs.Acts.{act, act_init, act_call, act_exit, argument_content, argument_contents};
+ghost use Rattle.csub_semantics.specs.Types.{type_tree, member_tree};
+ghost use Rattle.csub_semantics.specs.Trees.{owner_tree, arg_tree};
+ghost use Rattle.csub_semantics.specs.Labels.{calls, exits, call_tree, init_tree, label_tree};
+ghost use Rattle.csub_semantics.specs.Cells.{entered};
+ghost use Rattle.csub_semantics.specs.Acts.{act, act_init, act_call, act_exit, argument_content, argument_contents};
 ghost use Rattle.csub_machine.specs.Named.{content_seen, cells_of};
 ghost use Rattle.csub_machine.specs.States.{state_of, Gives, OnlyAdds, contents_seen};
 ghost use Rattle.csub_machine.specs.Outcomes.{Acts, PushesWithin};
@@ -13,10 +13,7 @@ use crate::cells::{CellName, Content, Root, drop_frame, set_content};
 use crate::eval::{eval, eval_into};
 use crate::stop::Stop;
 use crate::store::{Store, fetch_temporary, locate_object};
-use csub_core::{
-    Answer, CType, CallLabel, EndRule, ExitLabel, IntKind, Label, Member, Owner, RArg, RInit,
-    Status, Text, Trap,
-};
+use csub_semantics::{Answer, CType, CallLabel, EndRule, ExitLabel, IntKind, Label, Member, Owner, RArg, RInit, Status, Text, Trap};
 use csub_types::kind::convert;
 use std::alloc::{AllocError, Global};
 use std::collections::BTreeMap;

@@ -1,10 +1,10 @@
 //! Cells by their names, in an ordered map.
 ghost use Rattle.std.specs.Prelude.{◌≡◌, OnOk, not};
 ghost use Rattle.std.specs.Option.{option_map, option_copied};
-ghost use Rattle.csub_core.specs.Cells.{written, dropped, of_frame};
+ghost use Rattle.csub_semantics.specs.Cells.{written, dropped, of_frame};
 ghost use Rattle.csub_machine.specs.Named.{root_seen, cell_seen, content_seen, cells_of};
 
-use csub_core::{IntKind, Text};
+use csub_semantics::{IntKind, Text};
 use std::alloc::AllocError;
 use std::collections::BTreeMap;
 

@@ -2,18 +2,18 @@
 ghost use Rattle.std.specs.Prelude.{◌≡◌, pos};
 ghost use Rattle.csub_types.specs.Kinds.{promote, convert};
 ghost use Rattle.csub_types.specs.Arithmetic.{unary, binary};
-ghost use Rattle.csub_core.specs.Trees.{reading, stepping, update, output_byte, place_tree, expr_tree};
-ghost use Rattle.csub_core.specs.Memory.{value, then_do, put_byte, low_byte};
-ghost use Rattle.csub_core.specs.Evaluation as the;
-ghost use Rattle.csub_core.specs.Evaluation.{right_operand, computed, computed_unary, is_nonzero, eval};
-ghost use Rattle.csub_core.specs.Cells.{named};
+ghost use Rattle.csub_semantics.specs.Trees.{reading, stepping, update, output_byte, place_tree, expr_tree};
+ghost use Rattle.csub_semantics.specs.Memory.{value, then_do, put_byte, low_byte};
+ghost use Rattle.csub_semantics.specs.Evaluation as the;
+ghost use Rattle.csub_semantics.specs.Evaluation.{right_operand, computed, computed_unary, is_nonzero, eval};
+ghost use Rattle.csub_semantics.specs.Cells.{named};
 ghost use Rattle.csub_machine.specs.Named.{spot_seen};
 ghost use Rattle.csub_machine.specs.States.{state_of, Gives, same, OnlyAdds};
 
 use crate::cells::Spot;
 use crate::stop::Stop;
 use crate::store::{Store, fetch, fetch_temporary, locate, next_byte, put_number, write_byte};
-use csub_core::{BinOp, IntKind, Place, RExpr, StepOp, Trap, UnaryOp};
+use csub_semantics::{BinOp, IntKind, Place, RExpr, StepOp, Trap, UnaryOp};
 use csub_types::arithmetic::{binary, unary};
 use csub_types::kind::{convert, promote};
 

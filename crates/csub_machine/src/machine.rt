@@ -1,6 +1,7 @@
 //! The machine.
 use crate::run::{Run, advance, begin, settle};
-use csub_core::{Program, Status};
+use csub_core::Program;
+use csub_semantics::Status;
 use edge_trace::EdgeRow;
 use flow_graph::Graph;
 use std::alloc::{AllocError, Global};
@@ -19,8 +20,8 @@ pub struct Machine<'a> {
 
 impl<'a> Model for Machine<'a> {
     ghost use Rattle.std.specs.Coded.{codes};
-    ghost use Rattle.csub_core.specs.contracts.expression.RExpr as expr;
-    ghost use Rattle.csub_core.specs.contracts.function.RStmt as stmt;
+    ghost use Rattle.csub_semantics.specs.contracts.expression.RExpr as expr;
+    ghost use Rattle.csub_semantics.specs.contracts.function.RStmt as stmt;
     ghost use Rattle.flow_graph.specs.Graph.{IsGraphOf};
     ghost use Rattle.csub_machine.specs.Places.{tree_of};
     ghost use Rattle.csub_machine.specs.Moments.{Seen};
@@ -38,10 +39,10 @@ impl<'a> Model for Machine<'a> {
 impl<'a> Machine<'a> {
     ghost use Rattle.std.specs.Prelude.{ℕ, ◌≡◌, ◌<◌, ◌≤◌, ◌+◌, ◌↔◌, Some, length, map, IsTrue, IfOk, OnOk, OnErr, IsSome, IfNone};
     ghost use Rattle.edge_trace.specs.Rows.{has};
-    ghost use Rattle.csub_core.specs.Syntax.{function_tree};
-    ghost use Rattle.csub_core.specs.Flows.{flow_of, edge_list};
-    ghost use Rattle.csub_core.specs.Numbers.{IsCrossed};
-    ghost use Rattle.csub_core.specs.Runs.{run_of};
+    ghost use Rattle.csub_semantics.specs.Syntax.{function_tree};
+    ghost use Rattle.csub_semantics.specs.Flows.{flow_of, edge_list};
+    ghost use Rattle.csub_semantics.specs.Numbers.{IsCrossed};
+    ghost use Rattle.csub_semantics.specs.Runs.{run_of};
     ghost use Rattle.flow_graph.specs.Graph.{IsGraphOf};
     ghost use Rattle.csub_machine.specs.Moments.{IsRunning, status_of, moment_of, output_of, turns_of, crossed_of, results_of};
 

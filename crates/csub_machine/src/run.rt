@@ -1,7 +1,7 @@
 //! A run, turn by turn, with the edges that it crossed.
 ghost use Rattle.std.specs.Prelude.{◌≡◌, ◌≤◌, ◌<◌, ◌+◌, OnOk, OnErr, IfOk, IsSome, IfNone, List, length};
-ghost use Rattle.csub_core.specs.Flows.{Edge, edge_list};
-ghost use Rattle.csub_core.specs.Runs.{crossing};
+ghost use Rattle.csub_semantics.specs.Flows.{Edge, edge_list};
+ghost use Rattle.csub_semantics.specs.Runs.{crossing};
 ghost use Rattle.flow_graph.specs.Graph.{IsGraphOf};
 ghost use Rattle.csub_machine.specs.Places.{tree_of};
 ghost use Rattle.csub_machine.specs.Moments.{IsRunningAt, status_at};
@@ -10,7 +10,8 @@ ghost use Rattle.csub_machine.specs.Standings.{IsOfProgram, IsAt, moment_at};
 
 use crate::store::{Store, make_store};
 use crate::turn::{Frame, Frames, Turn, take_turn};
-use csub_core::{Program, Status};
+use csub_core::Program;
+use csub_semantics::Status;
 use edge_trace::EdgeRow;
 use flow_graph::Graph;
 use program_laws::never_lost;

@@ -1,7 +1,7 @@
 //! Why an act gives no value.
 ghost use Rattle.std.specs.Prelude.{◌≡◌};
 
-use csub_core::Trap;
+use csub_semantics::Trap;
 use std::alloc::{AllocError, AllocFailed};
 
 /// Why an act gives no value.

@@ -1,18 +1,18 @@
 //! The input, the output and the cells of a run, and what is done to them.
 ghost use Rattle.std.specs.Prelude.{◌≡◌, ◌≤◌, length, [], IfOk, OnOk};
-ghost use Rattle.csub_core.specs.Types.{type_tree};
-ghost use Rattle.csub_core.specs.Trees.{reading, variable, object, temporary, owner_tree, place_tree};
-ghost use Rattle.csub_core.specs.Memory.{get_byte, put_byte, value};
-ghost use Rattle.csub_core.specs.Evaluation as the;
-ghost use Rattle.csub_core.specs.Evaluation.{fetch, locate, eval};
-ghost use Rattle.csub_core.specs.Cells.{named, temp_root};
-ghost use Rattle.csub_core.specs.Runs.{put_result};
+ghost use Rattle.csub_semantics.specs.Types.{type_tree};
+ghost use Rattle.csub_semantics.specs.Trees.{reading, variable, object, temporary, owner_tree, place_tree};
+ghost use Rattle.csub_semantics.specs.Memory.{get_byte, put_byte, value};
+ghost use Rattle.csub_semantics.specs.Evaluation as the;
+ghost use Rattle.csub_semantics.specs.Evaluation.{fetch, locate, eval};
+ghost use Rattle.csub_semantics.specs.Cells.{named, temp_root};
+ghost use Rattle.csub_semantics.specs.Runs.{put_result};
 ghost use Rattle.csub_machine.specs.Named.{cell_seen, spot_seen};
 ghost use Rattle.csub_machine.specs.States.{state_of, no_cells, Gives, same, nothing, OnlyAdds};
 
 use crate::cells::{CellName, Content, Root, Spot, content_at, set_content};
 use crate::stop::Stop;
-use csub_core::{CType, IntKind, Owner, Place, Trap};
+use csub_semantics::{CType, IntKind, Owner, Place, Trap};
 use csub_types::kind::convert;
 use std::alloc::{AllocError, Global};
 use std::collections::BTreeMap;

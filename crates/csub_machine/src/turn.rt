@@ -1,9 +1,9 @@
 //! One turn of a run.
 ghost use Rattle.std.specs.Prelude.{◌≡◌, ◌<◌, [], ◌∷◌, ◌++◌, length, List, IfOk, OnOk};
-ghost use Rattle.csub_core.specs.Flows.{flow_of, point_list};
-ghost use Rattle.csub_core.specs.Points.{exit_tree};
-ghost use Rattle.csub_core.specs.Runs.{Frame as StandingFrame, turn, cross, pop};
-ghost use Rattle.csub_core.specs.Acts.{Store as Held};
+ghost use Rattle.csub_semantics.specs.Flows.{flow_of, point_list};
+ghost use Rattle.csub_semantics.specs.Points.{exit_tree};
+ghost use Rattle.csub_semantics.specs.Runs.{Frame as StandingFrame, turn, cross, pop};
+ghost use Rattle.csub_semantics.specs.Acts.{Store as Held};
 ghost use Rattle.flow_graph.specs.Graph.{IsGraphOf};
 ghost use Rattle.csub_machine.specs.Places.{tree_of, place_of};
 ghost use Rattle.csub_machine.specs.States.{state_of, OnlyAdds};
@@ -13,7 +13,8 @@ use crate::act::{Outcome, act};
 use crate::stop::Stop;
 use crate::store::{Store, put_result};
 use crate::ways::{entry_of, label_of, step_along};
-use csub_core::{ExitLabel, Label, Program, Status};
+use csub_core::Program;
+use csub_semantics::{ExitLabel, Label, Status};
 use flow_graph::Graph;
 use program_laws::flows;
 use std::alloc::AllocError;

@@ -1,12 +1,13 @@
 //! What the graph says of a point, in the words of runs.
 ghost use Rattle.std.specs.Prelude.{◌≡◌, ◌<◌, length, IfSome, IfNone};
-ghost use Rattle.csub_core.specs.Labels.{label_tree};
-ghost use Rattle.csub_core.specs.Points.{exit_tree};
-ghost use Rattle.csub_core.specs.Flows.{point_list};
+ghost use Rattle.csub_semantics.specs.Labels.{label_tree};
+ghost use Rattle.csub_semantics.specs.Points.{exit_tree};
+ghost use Rattle.csub_semantics.specs.Flows.{point_list};
 ghost use Rattle.flow_graph.specs.Graph.{IsGraphOf};
 ghost use Rattle.csub_machine.specs.Places.{tree_of, HasLabel, LeadsTo, LeadsNowhere, IsEntry, IsUndefined};
 
-use csub_core::{ExitLabel, Label, Program, Text};
+use csub_core::Program;
+use csub_semantics::{ExitLabel, Label, Text};
 use flow_graph::Graph;
 
 /// Where a way out leads to: the number of the point, and that of the edge.

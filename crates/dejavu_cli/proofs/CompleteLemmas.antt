@@ -1,7 +1,7 @@
 -- Where nothing stands in its way a command is done; or for `record` the history is too long, or memory was wanted.
 use Rattle.std.proofs.Common.{◌≡◌, ℕ, List, Option, Some, None, refl, ◌∙◌, subst, inl, inr, ◌⊎◌}
 use Rattle.dv_outside.specs.Outside.{Files, file_at, Rose}
-use Rattle.csub_core.specs.Syntax.{ProgramTree}
+use Rattle.csub_semantics.specs.Syntax.{ProgramTree}
 use Rattle.read_small.specs.Small.{IsSmall, MeansOneProgram}
 use Rattle.test_suite.specs.Tests.{TestParts}
 use Rattle.test_history.specs.Histories.{HistoryParts}

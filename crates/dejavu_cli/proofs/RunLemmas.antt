@@ -2,12 +2,12 @@
 use Rattle.std.proofs.Common.{◌≡◌, ◌↔◌, ℕ, suc, ◌≤◌, List, [], ◌∷◌, length, map, Bool, IsTrue, Some, refl, sym, ap, ◌∙◌, subst, arith, All}
 use Rattle.std.specs.List.{AllZip}
 use Rattle.std.proofs.lemmas.List.Elements.{All-cons, All-head, All-tail, All-nil}
-use Rattle.csub_core.specs.declared.function.Function.{Function}
-use Rattle.csub_core.specs.declared.status.Status.{Status}
-use Rattle.csub_core.specs.Syntax.{ProgramTree, function_tree}
-use Rattle.csub_core.specs.Flows.{flow_of, edge_list}
-use Rattle.csub_core.specs.Numbers.{IsCrossed}
-use Rattle.csub_core.specs.Runs.{run_of}
+use Rattle.csub_semantics.specs.declared.function.Function.{Function}
+use Rattle.csub_semantics.specs.declared.status.Status.{Status}
+use Rattle.csub_semantics.specs.Syntax.{ProgramTree, function_tree}
+use Rattle.csub_semantics.specs.Flows.{flow_of, edge_list}
+use Rattle.csub_semantics.specs.Numbers.{IsCrossed}
+use Rattle.csub_semantics.specs.Runs.{run_of}
 use Rattle.csub_core.specs.Valid.{IsValid}
 use Rattle.csub_machine.specs.Moments.{Seen, moment_of, output_of, turns_of, crossed_of, results_of}
 use Rattle.edge_trace.specs.Rows.{has}

@@ -6,13 +6,13 @@ use Rattle.std.proofs.Math.ListN.{get_or-eq_default}
 use Rattle.std.proofs.lemmas.Bool.{cases_lt}
 use Rattle.std.proofs.lemmas.List.Elements.{All-cons, All-head, All-tail, All-nil, All-contains_itself}
 use Rattle.hex.specs.Hex.{IsBytes}
-use Rattle.csub_core.specs.declared.status.Status.{Status}
-use Rattle.csub_core.specs.declared.status.Status.TheVariants.{Exit, Trap, Turns}
-use Rattle.csub_core.specs.Syntax.{ProgramTree}
-use Rattle.csub_core.specs.Flows.{Edge, flow_of}
-use Rattle.csub_core.specs.Runs.{Results}
+use Rattle.csub_semantics.specs.declared.status.Status.{Status}
+use Rattle.csub_semantics.specs.declared.status.Status.TheVariants.{Exit, Trap, Turns}
+use Rattle.csub_semantics.specs.Syntax.{ProgramTree}
+use Rattle.csub_semantics.specs.Flows.{Edge, flow_of}
+use Rattle.csub_semantics.specs.Runs.{Results}
 use Rattle.csub_core.specs.Valid.{IsValid}
-use Rattle.csub_core.specs.Books.{Reached, Dangerous}
+use Rattle.csub_semantics.specs.Books.{Reached, Dangerous}
 use Rattle.program_laws.specs.Bounds.{RunsAreBounded, IsBounded, IsExitStatus}
 use Rattle.program_laws.specs.Numbered.{EdgesHaveNumbers}
 use Rattle.call_walk.specs.Lockstep.{SameRuns, CrossesNone}

@@ -3,7 +3,7 @@ use Rattle.std.proofs.Common.{◌≡◌, ℕ, List, Option, Some, Result, Ok, Er
 use Rattle.std.specs.declared.vec.Vec.{Vec}
 use Rattle.std.specs.declared.alloc.Global.{Global}
 use Rattle.dv_outside.specs.Outside.{Files, IsFetched}
-use Rattle.csub_core.specs.Syntax.{ProgramTree}
+use Rattle.csub_semantics.specs.Syntax.{ProgramTree}
 use Rattle.read_small.specs.Small.{IsSmall, MeansOneProgram}
 use Rattle.dejavu_cli.specs.Words.{select_files}
 use Rattle.dejavu_cli.specs.Select.{IsHistoryFile, IsSelection}

@@ -2,7 +2,7 @@
 use Rattle.std.specs.Prelude.{ℕ, ◌≡◌, ◌<◌, ◌≤◌, ◌⊎◌, List, ◌++◌, length, Option, Some, None, codes}
 use Rattle.std.specs.Fmt.{decimal}
 use Rattle.dv_outside.specs.Outside.{Files, file_at, Rose, Appends, AppendsPrefix}
-use Rattle.csub_core.specs.Syntax.{ProgramTree}
+use Rattle.csub_semantics.specs.Syntax.{ProgramTree}
 use Rattle.read_small.specs.Small.{IsSmall}
 use Rattle.test_suite.specs.Tests.{TestParts}
 use Rattle.test_history.specs.Histories.{HistoryParts}

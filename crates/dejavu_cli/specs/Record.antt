@@ -2,10 +2,10 @@
 use Rattle.std.specs.Prelude.{ℕ, ◌≡◌, ◌≤◌, ◌↔◌, Bool, List, length, Some, IsTrue}
 use Rattle.std.specs.List.{AllZip}
 use Rattle.sha2.specs.Sha256.{sha256}
-use Rattle.csub_core.specs.Syntax.{ProgramTree}
-use Rattle.csub_core.specs.Flows.{flow_of, edge_list}
-use Rattle.csub_core.specs.Numbers.{IsCrossed}
-use Rattle.csub_core.specs.Runs.{Results, run_of}
+use Rattle.csub_semantics.specs.Syntax.{ProgramTree}
+use Rattle.csub_semantics.specs.Flows.{flow_of, edge_list}
+use Rattle.csub_semantics.specs.Numbers.{IsCrossed}
+use Rattle.csub_semantics.specs.Runs.{Results, run_of}
 use Rattle.edge_trace.specs.Rows.{has}
 use Rattle.read_small.specs.Small.{IsSmall}
 use Rattle.test_suite.specs.Tests.{TestParts}

@@ -2,11 +2,11 @@
 use Rattle.std.specs.Prelude.{ℕ, ◌≡◌, ◌<◌, ◌≤◌, Bool, List, length, Some, IsTrue}
 use Rattle.std.specs.List.{AllZip}
 use Rattle.sha2.specs.Sha256.{sha256}
-use Rattle.csub_core.specs.Syntax.{ProgramTree}
-use Rattle.csub_core.specs.Flows.{Edge, edge_list, flow_of}
-use Rattle.csub_core.specs.Numbers.{edge_at}
-use Rattle.csub_core.specs.Runs.{Results, run_of}
-use Rattle.csub_core.specs.Books.{Dangerous}
+use Rattle.csub_semantics.specs.Syntax.{ProgramTree}
+use Rattle.csub_semantics.specs.Flows.{Edge, edge_list, flow_of}
+use Rattle.csub_semantics.specs.Numbers.{edge_at}
+use Rattle.csub_semantics.specs.Runs.{Results, run_of}
+use Rattle.csub_semantics.specs.Books.{Dangerous}
 use Rattle.edge_trace.specs.Rows.{has}
 use Rattle.test_suite.specs.Tests.{TestParts}
 use Rattle.test_history.specs.Histories.{EntryParts, HistoryParts, IsReadable}

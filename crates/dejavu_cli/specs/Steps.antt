@@ -2,10 +2,10 @@
 use Rattle.std.specs.Prelude.{ℕ, ◌≡◌, ◌<◌, ◌≤◌, ◌↔◌, Bool, List, length, Some, IsTrue}
 use Rattle.std.specs.List.{AllZip}
 use Rattle.dv_outside.specs.Outside.{Rose}
-use Rattle.csub_core.specs.Syntax.{ProgramTree}
-use Rattle.csub_core.specs.Flows.{Edge, edge_list, flow_of}
-use Rattle.csub_core.specs.Numbers.{edge_at}
-use Rattle.csub_core.specs.Books.{Dangerous}
+use Rattle.csub_semantics.specs.Syntax.{ProgramTree}
+use Rattle.csub_semantics.specs.Flows.{Edge, edge_list, flow_of}
+use Rattle.csub_semantics.specs.Numbers.{edge_at}
+use Rattle.csub_semantics.specs.Books.{Dangerous}
 use Rattle.edge_trace.specs.Rows.{has}
 use Rattle.read_small.specs.Small.{IsSmall}
 use Rattle.test_suite.specs.Tests.{TestParts}

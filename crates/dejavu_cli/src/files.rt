@@ -1,8 +1,8 @@
 //! Files that a command names.
 ghost use Rattle.std.specs.Prelude.{◌≡◌, ◌+◌, ◌≤◌, IfOk, IfErr, MatchResult, length, map};
 ghost use Rattle.dv_outside.specs.Outside.{IsFetched, NeverFalls};
-ghost use Rattle.csub_core.specs.Syntax.{ProgramTree, function_tree};
-ghost use Rattle.csub_core.specs.Flows.{edge_list};
+ghost use Rattle.csub_semantics.specs.Syntax.{ProgramTree, function_tree};
+ghost use Rattle.csub_semantics.specs.Flows.{edge_list};
 ghost use Rattle.read_small.specs.Small.{IsSmall};
 ghost use Rattle.dejavu_cli.specs.Record.{IsSmallSuite};
 ghost use Rattle.dejavu_cli.specs.Steps.{IsFetchCause, IsSourceCause, IsSuiteCause, IsOnlyHistory, IsHistoryCause};

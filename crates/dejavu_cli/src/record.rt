@@ -1,6 +1,6 @@
 //! The history of a source and a suite.
 ghost use Rattle.std.specs.Prelude.{◌≤◌, IfOk, IfErr, All, map, length};
-ghost use Rattle.csub_core.specs.Syntax.{function_tree};
+ghost use Rattle.csub_semantics.specs.Syntax.{function_tree};
 ghost use Rattle.test_suite.specs.Tests.{IsWithin};
 ghost use Rattle.test_history.specs.Histories.{IsHistoryWithin};
 ghost use Rattle.dejavu_cli.specs.Record.{IsHistory, most_small_tests};

@@ -1,7 +1,7 @@
 //! Runs of tests.
 ghost use Rattle.std.specs.Prelude.{◌≡◌, IfOk, All, map};
 ghost use Rattle.std.specs.List.{AllZip};
-ghost use Rattle.csub_core.specs.Syntax.{function_tree};
+ghost use Rattle.csub_semantics.specs.Syntax.{function_tree};
 ghost use Rattle.flow_graph.specs.Graph.{IsGraphOf};
 ghost use Rattle.test_suite.specs.Tests.{IsWithin};
 ghost use Rattle.dejavu_cli.specs.Record.{IsEntry};

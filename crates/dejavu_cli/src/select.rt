@@ -1,6 +1,6 @@
 //! What has to run again.
 ghost use Rattle.std.specs.Prelude.{◌≡◌, IfOk, MatchResult, map, length};
-ghost use Rattle.csub_core.specs.Syntax.{ProgramTree, function_tree};
+ghost use Rattle.csub_semantics.specs.Syntax.{ProgramTree, function_tree};
 ghost use Rattle.read_small.specs.Small.{IsSmall};
 ghost use Rattle.flow_graph.specs.Graph.{IsGraphOf};
 ghost use Rattle.dejavu_cli.specs.Select.{IsSelection};

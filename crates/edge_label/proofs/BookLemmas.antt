@@ -8,7 +8,7 @@ use Rattle.std.proofs.lemmas.Option.{slice_get-map, slice_get_within, get_or_fro
 use Rattle.std.proofs.lemmas.List.{map-append}
 use Rattle.std.proofs.lemmas.Slice.Eq.{bytes_eq-Decides}
 use Rattle.std.proofs.lemmas.Map.Keys.{apart_from_distinct}
-use Rattle.csub_core.specs.Labels.{PointLabel}
+use Rattle.csub_semantics.specs.Labels.{PointLabel}
 use Rattle.edge_label.specs.Codes.{point_code}
 use Rattle.edge_label.specs.Readers.{label_of}
 use Rattle.edge_label.specs.ReadBack.{label_of-point_code}

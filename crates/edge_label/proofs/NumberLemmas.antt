@@ -1,7 +1,7 @@
 -- Numbers of a book, for callers.
 use Rattle.std.proofs.Common.{◌<◌, ℕ, zero, suc, List, [], ◌∷◌, length, refl, arith}
 use Rattle.std.proofs.lemmas.Option.{slice_get_within}
-use Rattle.csub_core.specs.Labels.{PointLabel}
+use Rattle.csub_semantics.specs.Labels.{PointLabel}
 use Rattle.edge_label.specs.Numbers.{HasNumber, KeepsNumbers}
 
 -- a label's number was given

@@ -1,6 +1,6 @@
 -- Books of labels. A book is seen as the list of its labels, in the order of their numbers.
 use Rattle.std.specs.Prelude.{◌≡◌, ◌⊎◌, ℕ, List, [], ◌∷◌, ◌++◌, Some, slice_get}
-use Rattle.csub_core.specs.Labels.{LabelTree, PointLabel}
+use Rattle.csub_semantics.specs.Labels.{LabelTree, PointLabel}
 
 -- the book has this number for this label
 abbrev pub HasNumber : List PointLabel → ℕ → PointLabel → Type 0

@@ -9,11 +9,11 @@ use Rattle.csub_text.specs.declared.operator.BinOp.{BinOp}
 use Rattle.csub_text.specs.declared.operator.BinOp.TheVariants.{Mul, Div, Rem, Add, Sub, Shl, Shr, Lt, Gt, Le, Ge, Eq, Ne, BitAnd, BitXor, BitOr}
 use Rattle.csub_types.specs.declared.kind.IntKind.{IntKind}
 use Rattle.csub_types.specs.declared.kind.IntKind.TheVariants.{Char, Int, Unsigned}
-use Rattle.csub_core.specs.declared.label.EndRule.{EndRule}
-use Rattle.csub_core.specs.declared.label.EndRule.TheVariants as rule
-use Rattle.csub_core.specs.Types.{Name, TypeTree, number_type, MemberTree}
-use Rattle.csub_core.specs.Trees.{variable, constant, reading, unary_operation, conversion, stepping, operation, conjunction, disjunction, choice, assignment, update, input_byte, output_byte, value_argument, OwnerTree, global_owner, local_owner, Variable, object, temporary, NamedPlace, NamedExpr, NamedArg}
-use Rattle.csub_core.specs.Labels.{AnswerTree, CallTree, InitTree, one_value, LabelTree, enters, exits, evaluates, initialises, branches, returns, calls, Initial, PointLabel}
+use Rattle.csub_semantics.specs.declared.label.EndRule.{EndRule}
+use Rattle.csub_semantics.specs.declared.label.EndRule.TheVariants as rule
+use Rattle.csub_semantics.specs.Types.{Name, TypeTree, number_type, MemberTree}
+use Rattle.csub_semantics.specs.Trees.{variable, constant, reading, unary_operation, conversion, stepping, operation, conjunction, disjunction, choice, assignment, update, input_byte, output_byte, value_argument, OwnerTree, global_owner, local_owner, Variable, object, temporary, NamedPlace, NamedExpr, NamedArg}
+use Rattle.csub_semantics.specs.Labels.{AnswerTree, CallTree, InitTree, one_value, LabelTree, enters, exits, evaluates, initialises, branches, returns, calls, Initial, PointLabel}
 
 -- a reader takes a value off the front of a list, and gives what is left
 abbrev pub Reader : Type 0 → Type 0

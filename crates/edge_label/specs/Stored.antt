@@ -1,7 +1,7 @@
 -- How contracts hold a book: its labels are stored by their codes.
 use Rattle.std.specs.Prelude.{◌≡◌, ℕ, List, map}
 use Rattle.std.specs.Coded.{Coded, code_by, coded_list, coded_ℕ}
-use Rattle.csub_core.specs.Labels.{PointLabel}
+use Rattle.csub_semantics.specs.Labels.{PointLabel}
 use Rattle.edge_label.specs.Codes.{point_code}
 use Rattle.edge_label.specs.Readers.{label_of}
 use Rattle.edge_label.specs.ReadBack.{label_of-point_code}

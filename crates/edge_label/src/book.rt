@@ -1,11 +1,11 @@
 //! Labels with their numbers.
 ghost use Rattle.std.specs.Prelude.{◌≡◌, ◌↔◌, ◌+◌, ◌<◌, ◌≤◌, [], IsTrue, IfOk, OnOk, OnErr, length, ℕ};
-ghost use Rattle.csub_core.specs.Labels.{label_tree, PointLabel};
+ghost use Rattle.csub_semantics.specs.Labels.{label_tree, PointLabel};
 ghost use Rattle.edge_label.specs.Numbers.{HasNumber, KeepsNumbers, AddsOnly, bare};
 
 use crate::code::push_label;
 use crate::steps::Steps;
-use csub_core::Label;
+use csub_semantics::Label;
 use indexmap::IndexSet;
 use std::alloc::{AllocError, Global};
 use std::marker::Model;
@@ -20,7 +20,7 @@ pub struct LabelBook {
 
 impl Model for LabelBook {
     ghost use Rattle.std.specs.Prelude.{List, map};
-    ghost use Rattle.csub_core.specs.Labels.{PointLabel};
+    ghost use Rattle.csub_semantics.specs.Labels.{PointLabel};
     ghost use Rattle.edge_label.specs.Readers.{label_of};
     ghost use Rattle.edge_label.specs.Stored.{stored_labels, AreCodes};
 

@@ -2,11 +2,11 @@
 use Rattle.std.proofs.Common.{◌≡◌, ℕ, zero, suc, ◌+◌, ◌<◌, List, [], ◌∷◌, ◌++◌, length, map, refl, ap, sym, ◌∙◌, arith, add_assoc, add-zero, zero-add}
 use Rattle.std.specs.List.{range_with_len}
 use Rattle.std.proofs.lemmas.List.{map-append}
-use Rattle.csub_core.specs.Points.{PointTree, entry, exit, at}
-use Rattle.csub_core.specs.Syntax.{PartTree, StmtTree, StmtTrees, ElseTree, parts, block, conditional, while_loop, do_loop, for_loop, breaks, continues, no_stmt, more_stmts, no_else, else_stmt, FunctionTree}
-use Rattle.csub_core.specs.Successors as points
-use Rattle.csub_core.specs.Successors.{Way, Node, Around}
-use Rattle.csub_core.specs.Flows.{function_nodes, to_exit}
+use Rattle.csub_semantics.specs.Points.{PointTree, entry, exit, at}
+use Rattle.csub_semantics.specs.Syntax.{PartTree, StmtTree, StmtTrees, ElseTree, parts, block, conditional, while_loop, do_loop, for_loop, breaks, continues, no_stmt, more_stmts, no_else, else_stmt, FunctionTree}
+use Rattle.csub_semantics.specs.Successors as points
+use Rattle.csub_semantics.specs.Successors.{Way, Node, Around}
+use Rattle.csub_semantics.specs.Flows.{function_nodes, to_exit}
 use Rattle.flow_graph.specs.Numbers.{count, count_list, count_else, count_parts, count_head, count_function}
 use Rattle.flow_graph.proofs.Lists.{range-plus}
 

@@ -5,7 +5,7 @@ use Rattle.std.specs.List.{slice_get, flat_map, sum_by}
 use Rattle.std.proofs.lemmas.List.{length-append, length-map, length-replicate}
 use Rattle.std.proofs.lemmas.List.Sums.{sum_by-cons}
 use Rattle.std.proofs.lemmas.Option.{slice_get_within, same_Some}
-use Rattle.csub_core.specs.Flows.{PlacedNode, Edge, edges_from}
+use Rattle.csub_semantics.specs.Flows.{PlacedNode, Edge, edges_from}
 use Rattle.flow_graph.specs.declared.node.GraphPoint.{GraphPoint}
 use Rattle.flow_graph.specs.Graph.{way_count, firsts_of, sources_of}
 use Rattle.flow_graph.proofs.Lists.{slice_get-left, slice_get-right, slice_get_cases_append, rest_of, head_or}

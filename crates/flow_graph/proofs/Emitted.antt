@@ -3,12 +3,12 @@ use Rattle.std.proofs.Common.{◌≡◌, List, [], ◌∷◌, ◌++◌, ◌∙�
 use Rattle.std.specs.Option.{option_map}
 use Rattle.std.proofs.lemmas.List.{reverse-append}
 use Rattle.csub_text.specs.declared.span.Span.{Span}
-use Rattle.csub_core.specs.declared.function.RPart.{RPart}
-use Rattle.csub_core.specs.declared.function.RCall.{RCall}
-use Rattle.csub_core.specs.Labels.{LabelTree, enters, exits, evaluates, initialises, branches, returns, calls, label_tree}
-use Rattle.csub_core.specs.Points.{at, next}
-use Rattle.csub_core.specs.Syntax.{Stage, PartTree, StmtTree, for_loop, part_tree, call_stage, own_stage}
-use Rattle.csub_core.specs.Successors.{Way, Around, way, looping, own_ways, last_ways}
+use Rattle.csub_semantics.specs.declared.function.RPart.{RPart}
+use Rattle.csub_semantics.specs.declared.function.RCall.{RCall}
+use Rattle.csub_semantics.specs.Labels.{LabelTree, enters, exits, evaluates, initialises, branches, returns, calls, label_tree}
+use Rattle.csub_semantics.specs.Points.{at, next}
+use Rattle.csub_semantics.specs.Syntax.{Stage, PartTree, StmtTree, for_loop, part_tree, call_stage, own_stage}
+use Rattle.csub_semantics.specs.Successors.{Way, Around, way, looping, own_ways, last_ways}
 use Rattle.flow_graph.specs.Numbers.{Numbered, count_parts, count_head, enter, enter_part, enter_parts, part_numbered, parts_numbered, head_numbered, numbered, past_label}
 use Rattle.flow_graph.proofs.Rows.{parts_from, parts_from-back}
 

@@ -4,12 +4,12 @@ use Rattle.std.specs.List.{slice_get, find}
 use Rattle.std.specs.Cmp.{signed_Decides}
 use Rattle.std.specs.Cmp.Rules.{signed_items}
 use Rattle.std.proofs.lemmas.Option.{same_Some}
-use Rattle.csub_core.specs.Labels.{LabelTree, enters, exits, evaluates, initialises, branches, returns, calls}
-use Rattle.csub_core.specs.Points.{at, ExitTree, next, on_true, on_false, on_case, on_default, exit_eq}
-use Rattle.csub_core.specs.Syntax.{PartTree, StmtTree, StmtTrees, ElseTree, parts, block, conditional, while_loop, do_loop, for_loop, breaks, continues, no_stmt, more_stmts, no_else, else_stmt, FunctionTree}
-use Rattle.csub_core.specs.Successors as points
-use Rattle.csub_core.specs.Successors.{Way, Node, Around, way}
-use Rattle.csub_core.specs.Flows.{function_nodes, to_exit}
+use Rattle.csub_semantics.specs.Labels.{LabelTree, enters, exits, evaluates, initialises, branches, returns, calls}
+use Rattle.csub_semantics.specs.Points.{at, ExitTree, next, on_true, on_false, on_case, on_default, exit_eq}
+use Rattle.csub_semantics.specs.Syntax.{PartTree, StmtTree, StmtTrees, ElseTree, parts, block, conditional, while_loop, do_loop, for_loop, breaks, continues, no_stmt, more_stmts, no_else, else_stmt, FunctionTree}
+use Rattle.csub_semantics.specs.Successors as points
+use Rattle.csub_semantics.specs.Successors.{Way, Node, Around, way}
+use Rattle.csub_semantics.specs.Flows.{function_nodes, to_exit}
 
 -- equal exit labels
 pub exit_same : (x y : ExitTree) → exit_eq x y ≡ true → x ≡ y

@@ -4,10 +4,10 @@ use Rattle.std.specs.Prelude.{◌≢◌, AllPairs, ◌&&◌}
 use Rattle.std.specs.List.{slice_get, range_with_len}
 use Rattle.std.specs.Cmp.Lexicographic.{pointwise, same_text}
 use Rattle.std.proofs.lemmas.Option.{slice_get-map, slice_get_within, same_Some, slice_get-get_or}
-use Rattle.csub_core.specs.Points.{PointTree, entry, exit, at, point_eq}
-use Rattle.csub_core.specs.Syntax.{FunctionTree, ProgramTree}
-use Rattle.csub_core.specs.Successors.{Node}
-use Rattle.csub_core.specs.Flows.{function_nodes, PlacedNode, placed, point_list, name_eq, function_of, node_in, node_of}
+use Rattle.csub_semantics.specs.Points.{PointTree, entry, exit, at, point_eq}
+use Rattle.csub_semantics.specs.Syntax.{FunctionTree, ProgramTree}
+use Rattle.csub_semantics.specs.Successors.{Node}
+use Rattle.csub_semantics.specs.Flows.{function_nodes, PlacedNode, placed, point_list, name_eq, function_of, node_in, node_of}
 use Rattle.flow_graph.specs.Numbers.{count_function}
 use Rattle.flow_graph.proofs.Lists.{slice_get_cases_append, range_at, made_of, rest_of}
 use Rattle.flow_graph.proofs.Distinct.{number_of, numbers, function_places}

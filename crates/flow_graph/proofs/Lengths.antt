@@ -1,11 +1,11 @@
 -- How many points there are, by names and by numbers.
 use Rattle.std.proofs.Common.{◌≡◌, List, [], ◌∷◌, ◌++◌, ◌∙◌, suc, arith, refl, ap, ℕ, ◌+◌, length}
 use Rattle.std.proofs.lemmas.List.{length-append}
-use Rattle.csub_core.specs.Labels.{enters, exits}
-use Rattle.csub_core.specs.Syntax.{PartTree, StmtTree, StmtTrees, ElseTree, parts, block, conditional, while_loop, do_loop, for_loop, breaks, continues, no_stmt, more_stmts, no_else, else_stmt, FunctionTree}
-use Rattle.csub_core.specs.Successors as points
-use Rattle.csub_core.specs.Flows.{function_nodes, to_exit, end_rule}
-use Rattle.csub_core.specs.Points.{PointTree, entry, exit, at, next}
+use Rattle.csub_semantics.specs.Labels.{enters, exits}
+use Rattle.csub_semantics.specs.Syntax.{PartTree, StmtTree, StmtTrees, ElseTree, parts, block, conditional, while_loop, do_loop, for_loop, breaks, continues, no_stmt, more_stmts, no_else, else_stmt, FunctionTree}
+use Rattle.csub_semantics.specs.Successors as points
+use Rattle.csub_semantics.specs.Flows.{function_nodes, to_exit, end_rule}
+use Rattle.csub_semantics.specs.Points.{PointTree, entry, exit, at, next}
 use Rattle.flow_graph.specs.Numbers.{Numbered, count, count_list, count_else, count_parts, count_head, count_function, enter, enter_list, enter_else, enter_part, enter_parts, part_numbered, parts_numbered, head_numbered, numbered, list_numbered, else_numbered, function_numbered, by_exit}
 
 ends-length : {A : Type 0} (x y : A) (xs : List A) → length ((x ∷ xs) ++ y ∷ []) ≡ length xs + 2

@@ -2,8 +2,8 @@
 use Rattle.std.proofs.Common.{◌≡◌, List, [], ◌∷◌, ◌++◌, ◌∙◌, reverse, arith, map, refl, ap, sym, ℕ, ◌+◌, ◌<◌, ◌≤◌, length, get_or, drop, add-one, drop-cons, append_assoc}
 use Rattle.std.proofs.Math.ListN.{drop_of_length-le}
 use Rattle.std.proofs.lemmas.List.{length-append, length-map, map-append, reverse-append, reverse-reverse}
-use Rattle.csub_core.specs.declared.function.Function.{Function}
-use Rattle.csub_core.specs.Syntax.{function_tree, ProgramTree}
+use Rattle.csub_semantics.specs.declared.function.Function.{Function}
+use Rattle.csub_semantics.specs.Syntax.{function_tree, ProgramTree}
 use Rattle.flow_graph.specs.declared.node.GraphNode.{GraphNode}
 use Rattle.flow_graph.specs.Numbers.{Numbered, numbered_node, NumberedPoint, NumberedFunction, of_function, count_function, count_program, exit_number, function_numbered, program_numbered, functions_numbered}
 use Rattle.flow_graph.proofs.Lengths.{function_numbered-length}

@@ -6,14 +6,14 @@ use Rattle.std.proofs.lemmas.List.{length-map}
 use Rattle.std.proofs.lemmas.List.Sums.{sum_by-cons}
 use Rattle.std.proofs.lemmas.Simd.{map-map}
 use Rattle.std.proofs.lemmas.Option.{slice_get-map, same_Some, slice_get-get_or}
-use Rattle.csub_core.specs.Types.{Name}
-use Rattle.csub_core.specs.Labels.{label_tree}
-use Rattle.csub_core.specs.Points.{PointTree, entry, exit, point_tree, ExitTree, exit_tree, exit_eq}
-use Rattle.csub_core.specs.Syntax.{FunctionTree, ProgramTree}
-use Rattle.csub_core.specs.Successors.{Way}
-use Rattle.csub_core.specs.Flows as flows
-use Rattle.csub_core.specs.Flows.{PlacedNode, point_list, Edge, edges_from, edge_list, labelled, name_eq, flow_of}
-use Rattle.csub_core.specs.Numbers.{Site, site, site_of, site_at, edge_at, name_at}
+use Rattle.csub_semantics.specs.Types.{Name}
+use Rattle.csub_semantics.specs.Labels.{label_tree}
+use Rattle.csub_semantics.specs.Points.{PointTree, entry, exit, point_tree, ExitTree, exit_tree, exit_eq}
+use Rattle.csub_semantics.specs.Syntax.{FunctionTree, ProgramTree}
+use Rattle.csub_semantics.specs.Successors.{Way}
+use Rattle.csub_semantics.specs.Flows as flows
+use Rattle.csub_semantics.specs.Flows.{PlacedNode, point_list, Edge, edges_from, edge_list, labelled, name_eq, flow_of}
+use Rattle.csub_semantics.specs.Numbers.{Site, site, site_of, site_at, edge_at, name_at}
 use Rattle.flow_graph.specs.declared.node.GraphWay.{GraphWay}
 use Rattle.flow_graph.specs.declared.node.GraphPoint.{GraphPoint}
 use Rattle.flow_graph.specs.declared.node.GraphFunction.{GraphFunction}

@@ -2,14 +2,14 @@
 -- way out leads by number to the point to which it leads by name.
 use Rattle.std.proofs.Common.{◌≡◌, List, [], ◌∷◌, ◌++◌, ◌∙◌, arith, map, refl, ap, sym, subst, ℕ, ◌+◌, length, Option, Some, append_assoc, append-nil}
 use Rattle.std.proofs.lemmas.List.{map-append}
-use Rattle.csub_core.specs.Types.{Name}
-use Rattle.csub_core.specs.Labels.{LabelTree, enters, exits, evaluates, initialises, branches, returns, calls}
-use Rattle.csub_core.specs.Points.{PointTree, entry, exit, at, next, on_true, on_false}
-use Rattle.csub_core.specs.Syntax.{Stage, PartTree, StmtTree, StmtTrees, ElseTree, parts, block, conditional, while_loop, do_loop, for_loop, breaks, continues, no_stmt, more_stmts, no_else, else_stmt, FunctionTree}
-use Rattle.csub_core.specs.Successors as points
-use Rattle.csub_core.specs.Successors.{Way, Node, Around, way, leaving, looping, own_ways, last_ways, test_ways}
-use Rattle.csub_core.specs.Flows.{function_nodes, to_exit, end_rule}
-use Rattle.csub_core.specs.Numbers.{Site, site}
+use Rattle.csub_semantics.specs.Types.{Name}
+use Rattle.csub_semantics.specs.Labels.{LabelTree, enters, exits, evaluates, initialises, branches, returns, calls}
+use Rattle.csub_semantics.specs.Points.{PointTree, entry, exit, at, next, on_true, on_false}
+use Rattle.csub_semantics.specs.Syntax.{Stage, PartTree, StmtTree, StmtTrees, ElseTree, parts, block, conditional, while_loop, do_loop, for_loop, breaks, continues, no_stmt, more_stmts, no_else, else_stmt, FunctionTree}
+use Rattle.csub_semantics.specs.Successors as points
+use Rattle.csub_semantics.specs.Successors.{Way, Node, Around, way, leaving, looping, own_ways, last_ways, test_ways}
+use Rattle.csub_semantics.specs.Flows.{function_nodes, to_exit, end_rule}
+use Rattle.csub_semantics.specs.Numbers.{Site, site}
 use Rattle.flow_graph.specs.Numbers.{Numbered, count, count_parts, count_head, count_list, enter, enter_list, enter_else, enter_part, enter_parts, part_numbered, parts_numbered, numbered, list_numbered, else_numbered, exit_number, by_exit, function_numbered}
 use Rattle.flow_graph.specs.Graph.{NamedNode, way_of, node_of}
 use Rattle.flow_graph.proofs.Lengths.{part_nodes-length, parts_nodes-length, nodes_list-length, nodes-length}

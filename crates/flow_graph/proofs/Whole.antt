@@ -8,13 +8,13 @@ use Rattle.std.proofs.lemmas.List.Concat.{length-flat_map}
 use Rattle.std.proofs.lemmas.List.Elements.{All-nil, All-cons, All-head, All-tail, All-same}
 use Rattle.std.proofs.lemmas.Option.{slice_get-map, slice_get_within}
 use Rattle.std.proofs.lemmas.Simd.{map-map}
-use Rattle.csub_core.specs.Types.{Name}
-use Rattle.csub_core.specs.Labels.{label_tree}
-use Rattle.csub_core.specs.Points.{PointTree, entry, point_tree}
-use Rattle.csub_core.specs.Syntax.{FunctionTree, ProgramTree}
-use Rattle.csub_core.specs.Successors.{Node}
-use Rattle.csub_core.specs.Flows.{function_nodes, PlacedNode, placed, point_list, edges_from, edge_list}
-use Rattle.csub_core.specs.Numbers.{Site, site, site_of, site_at, name_at}
+use Rattle.csub_semantics.specs.Types.{Name}
+use Rattle.csub_semantics.specs.Labels.{label_tree}
+use Rattle.csub_semantics.specs.Points.{PointTree, entry, point_tree}
+use Rattle.csub_semantics.specs.Syntax.{FunctionTree, ProgramTree}
+use Rattle.csub_semantics.specs.Successors.{Node}
+use Rattle.csub_semantics.specs.Flows.{function_nodes, PlacedNode, placed, point_list, edges_from, edge_list}
+use Rattle.csub_semantics.specs.Numbers.{Site, site, site_of, site_at, name_at}
 use Rattle.csub_core.specs.Valid.{IsValid}
 use Rattle.flow_graph.specs.declared.node.GraphPoint.{GraphPoint}
 use Rattle.flow_graph.specs.declared.node.GraphFunction.{GraphFunction}

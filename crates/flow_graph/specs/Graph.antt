@@ -1,13 +1,13 @@
 -- What the graph of a program is: its functions and points in the program's order, with numbers in place of names.
 use Rattle.std.specs.Prelude.{ℕ, ◌≡◌, ◌+◌, ◌^◌, ◌<◌, List, [], ◌∷◌, ◌++◌, map, length, replicate, Option, Some, sum_by, All}
 use Rattle.csub_text.specs.declared.span.Span.{Span}
-use Rattle.csub_core.specs.Types.{Name}
-use Rattle.csub_core.specs.Labels.{LabelTree, label_tree}
-use Rattle.csub_core.specs.Points.{PointTree, entry, exit, point_tree, exit_tree}
-use Rattle.csub_core.specs.Syntax.{FunctionTree, ProgramTree}
-use Rattle.csub_core.specs.Successors.{Node, Way, way}
-use Rattle.csub_core.specs.Flows.{PlacedNode, point_list}
-use Rattle.csub_core.specs.Numbers.{Site, site, site_at, name_at}
+use Rattle.csub_semantics.specs.Types.{Name}
+use Rattle.csub_semantics.specs.Labels.{LabelTree, label_tree}
+use Rattle.csub_semantics.specs.Points.{PointTree, entry, exit, point_tree, exit_tree}
+use Rattle.csub_semantics.specs.Syntax.{FunctionTree, ProgramTree}
+use Rattle.csub_semantics.specs.Successors.{Node, Way, way}
+use Rattle.csub_semantics.specs.Flows.{PlacedNode, point_list}
+use Rattle.csub_semantics.specs.Numbers.{Site, site, site_at, name_at}
 use Rattle.csub_core.specs.Valid.{IsValid}
 use Rattle.flow_graph.specs.declared.node.GraphWay.{GraphWay}
 use Rattle.flow_graph.specs.declared.node.GraphPoint.{GraphPoint}

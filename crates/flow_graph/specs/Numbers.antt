@@ -2,12 +2,12 @@
 -- functions of the builder say of themselves. What the whole graph is stands in `Graph`.
 use Rattle.std.specs.Prelude.{ℕ, ◌+◌, List, [], ◌∷◌, ◌++◌, map, length, Option, Some}
 use Rattle.csub_text.specs.declared.span.Span.{Span}
-use Rattle.csub_core.specs.Types.{Name}
-use Rattle.csub_core.specs.Labels.{LabelTree, enters, exits, label_tree, returns}
-use Rattle.csub_core.specs.Points.{PointTree, entry, exit, at, point_tree, exit_tree, next}
-use Rattle.csub_core.specs.Syntax.{PartTree, StmtTree, StmtTrees, ElseTree, parts, block, conditional, while_loop, do_loop, for_loop, breaks, continues, no_stmt, more_stmts, no_else, else_stmt, FunctionTree, ProgramTree}
-use Rattle.csub_core.specs.Successors.{Way, Around, way, leaving, looping, last_ways, test_ways}
-use Rattle.csub_core.specs.Flows.{end_rule}
+use Rattle.csub_semantics.specs.Types.{Name}
+use Rattle.csub_semantics.specs.Labels.{LabelTree, enters, exits, label_tree, returns}
+use Rattle.csub_semantics.specs.Points.{PointTree, entry, exit, at, point_tree, exit_tree, next}
+use Rattle.csub_semantics.specs.Syntax.{PartTree, StmtTree, StmtTrees, ElseTree, parts, block, conditional, while_loop, do_loop, for_loop, breaks, continues, no_stmt, more_stmts, no_else, else_stmt, FunctionTree, ProgramTree}
+use Rattle.csub_semantics.specs.Successors.{Way, Around, way, leaving, looping, last_ways, test_ways}
+use Rattle.csub_semantics.specs.Flows.{end_rule}
 use Rattle.flow_graph.specs.declared.node.GraphWay.{GraphWay}
 use Rattle.flow_graph.specs.declared.node.GraphNode.{GraphNode}
 use Rattle.flow_graph.specs.declared.node.GraphPoint.{GraphPoint}

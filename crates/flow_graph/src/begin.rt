@@ -1,10 +1,10 @@
 //! Where points begin that are counted, and not there yet.
 ghost use Rattle.std.specs.Prelude.{◌≡◌, ◌≤◌, ◌+◌, length, map};
-ghost use Rattle.csub_core.specs.Syntax.{part_tree};
+ghost use Rattle.csub_semantics.specs.Syntax.{part_tree};
 ghost use Rattle.flow_graph.specs.Numbers.{count_parts, enter_part, enter_parts};
 
 use crate::count::{count_part, count_parts_of};
-use csub_core::RPart;
+use csub_semantics::RPart;
 
 /// Where a statement begins.
 #[derive(Clone, Copy, Debug, PartialEq, Eq)]

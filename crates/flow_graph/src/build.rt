@@ -1,13 +1,13 @@
 //! The points of a program.
 ghost use Rattle.std.specs.Prelude.{◌≡◌, ◌<◌, ◌+◌, ◌^◌, ◌++◌, IfOk, length, map};
-ghost use Rattle.csub_core.specs.Flows.{end_rule as end_rule'};
-ghost use Rattle.csub_core.specs.Syntax.{function_tree};
+ghost use Rattle.csub_semantics.specs.Flows.{end_rule as end_rule'};
+ghost use Rattle.csub_semantics.specs.Syntax.{function_tree};
 ghost use Rattle.flow_graph.specs.Numbers.{numbered_node, numbered_point, numbered_function, of_function, count_function, count_program, function_numbered, program_numbered, functions_numbered};
 
 use crate::count::count_all;
 use crate::emit::{Onward, emit_list};
 use crate::node::{GraphFunction, GraphNode, GraphPoint, one_way};
-use csub_core::{EndRule, Function, IntKind, Label, Point, Text};
+use csub_semantics::{EndRule, Function, IntKind, Label, Point, Text};
 use std::alloc::{AllocError, Global};
 
 /// The functions and the points of a program, each by its number.

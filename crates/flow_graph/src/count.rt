@@ -3,10 +3,10 @@
 //! The builder counts the body of a `while` and of a `for` before it makes the body's points, so it counts a point once
 //! for each such loop round it: no more often than the point's path has steps.
 ghost use Rattle.std.specs.Prelude.{◌≡◌, ◌^◌, ◌<◌, length, map};
-ghost use Rattle.csub_core.specs.Syntax.{part_tree, stmt_tree, stmts_of};
+ghost use Rattle.csub_semantics.specs.Syntax.{part_tree, stmt_tree, stmts_of};
 ghost use Rattle.flow_graph.specs.Numbers.{count, count_parts, count_list};
 
-use csub_core::{RPart, RStmt};
+use csub_semantics::{RPart, RStmt};
 
 /// How many points a part has.
 pub fn count_part(part: &RPart) -> u32

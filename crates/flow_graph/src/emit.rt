@@ -1,15 +1,15 @@
 //! The points of statements, by their numbers, last first: where a statement leads to is known from what follows it.
 ghost use Rattle.std.specs.Prelude.{◌≡◌, ◌≤◌, ◌+◌, ◌++◌, IfOk, [], ◌∷◌, map, reverse, length};
 ghost use Rattle.std.specs.Option.{option_map};
-ghost use Rattle.csub_core.specs.Labels.{label_tree};
-ghost use Rattle.csub_core.specs.Syntax.{call_stage, part_tree, do_loop, for_loop, stmt_tree, stmts_of};
-ghost use Rattle.csub_core.specs.Successors.{looping};
+ghost use Rattle.csub_semantics.specs.Labels.{label_tree};
+ghost use Rattle.csub_semantics.specs.Syntax.{call_stage, part_tree, do_loop, for_loop, stmt_tree, stmts_of};
+ghost use Rattle.csub_semantics.specs.Successors.{looping};
 ghost use Rattle.flow_graph.specs.Numbers.{numbered_way, numbered_node, around, count, count_parts, count_head, count_list, enter, enter_part, enter_parts, enter_head, enter_list, past_label, part_numbered, parts_numbered, head_numbered, numbered, list_numbered};
 
 use crate::begin::{Begin, begin_again, part_begin};
 use crate::count::count_of;
 use crate::node::{GraphNode, GraphWay, inner_path, one_way, point_at, step, test_ways};
-use csub_core::{Label, RCall, RPart, RStmt, copy_call, copy_label};
+use csub_semantics::{Label, RCall, RPart, RStmt, copy_call, copy_label};
 use std::alloc::{AllocError, Global};
 
 /// Where control goes from a statement: past its end, at a return, and in a loop at a `break` and at a `continue`.

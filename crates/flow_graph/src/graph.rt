@@ -1,19 +1,20 @@
 //! The graph of a program.
 ghost use Rattle.std.specs.Prelude.{◌≡◌, ◌<◌, IfOk, IfSome, OnSome, Some, [], length, map, slice_get};
 ghost use Rattle.std.specs.Option.{option_and_then, option_map};
-ghost use Rattle.csub_core.specs.Types.{Name};
-ghost use Rattle.csub_core.specs.Labels.{label_tree};
-ghost use Rattle.csub_core.specs.Points.{entry, exit, point_tree, exit_tree};
-ghost use Rattle.csub_core.specs.Syntax.{ProgramTree, function_tree};
-ghost use Rattle.csub_core.specs.Flows.{PlacedNode, Edge, point_list, edge_list, flow_of, function_of};
-ghost use Rattle.csub_core.specs.Numbers.{Site, site, site_at, edge_at as edge_at', name_at};
+ghost use Rattle.csub_semantics.specs.Types.{Name};
+ghost use Rattle.csub_semantics.specs.Labels.{label_tree};
+ghost use Rattle.csub_semantics.specs.Points.{entry, exit, point_tree, exit_tree};
+ghost use Rattle.csub_semantics.specs.Syntax.{ProgramTree, function_tree};
+ghost use Rattle.csub_semantics.specs.Flows.{PlacedNode, Edge, point_list, edge_list, flow_of, function_of};
+ghost use Rattle.csub_semantics.specs.Numbers.{Site, site, site_at, edge_at as edge_at', name_at};
 ghost use Rattle.flow_graph.specs.Graph.{IsGraphOf, point_count, edge_count, function_count};
 
 use crate::build::{Listed, list_points};
 use crate::edges::{EdgeNumbers, number_edges};
 use crate::node::{GraphFunction, GraphPoint};
 use crate::search::{find_function, find_way};
-use csub_core::{ExitLabel, Label, Point, Program, Span, Text};
+use csub_core::Program;
+use csub_semantics::{ExitLabel, Label, Point, Span, Text};
 use std::alloc::{AllocError, Global};
 use std::marker::Model;
 
@@ -31,7 +32,7 @@ pub struct Graph {
 impl Model for Graph {
     ghost use Rattle.std.specs.Prelude.{◌≡◌};
     ghost use Rattle.std.specs.Coded.{codes};
-    ghost use Rattle.csub_core.specs.contracts.expression.RExpr as expr;
+    ghost use Rattle.csub_semantics.specs.contracts.expression.RExpr as expr;
     ghost use Rattle.flow_graph.specs.Graph.{Tables, IsClosed, firsts_of, sources_of};
 
     ghost Value = { Tables };

@@ -3,11 +3,11 @@ ghost use Rattle.std.specs.Prelude.{◌≡◌, ◌<◌, length, IfSome, slice_ge
 ghost use Rattle.std.specs.Option.{option_and_then};
 ghost use Rattle.std.specs.Ordering.{int_eq};
 ghost use Rattle.std.specs.Cmp.Lexicographic.{pointwise};
-ghost use Rattle.csub_core.specs.Points.{exit_tree, exit_eq};
-ghost use Rattle.csub_core.specs.Flows.{name_eq};
+ghost use Rattle.csub_semantics.specs.Points.{exit_tree, exit_eq};
+ghost use Rattle.csub_semantics.specs.Flows.{name_eq};
 
 use crate::node::{GraphFunction, GraphWay};
-use csub_core::{ExitLabel, Text};
+use csub_semantics::{ExitLabel, Text};
 
 /// Whether two exit labels are equal.
 fn same_exit(a: &ExitLabel, b: &ExitLabel) -> bool

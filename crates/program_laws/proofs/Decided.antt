@@ -10,11 +10,11 @@ use Rattle.csub_text.specs.declared.operator.BinOp.{BinOp}
 use Rattle.csub_text.specs.declared.operator.BinOp.TheVariants.{Mul, Div, Rem, Add, Sub, Shl, Shr, Lt, Gt, Le, Ge, Eq, Ne, BitAnd, BitXor, BitOr}
 use Rattle.csub_types.specs.declared.kind.IntKind.{IntKind}
 use Rattle.csub_types.specs.declared.kind.IntKind.TheVariants.{Char, Int, Unsigned}
-use Rattle.csub_core.specs.declared.label.EndRule.{EndRule}
-use Rattle.csub_core.specs.declared.label.EndRule.TheVariants.{Nothing, Value, Main, Start}
-use Rattle.csub_core.specs.Types.{Name, TypeTree, number_type, MemberTree}
-use Rattle.csub_core.specs.Trees.{NamedPlace, NamedExpr, NamedArg, variable, constant, reading, unary_operation, conversion, stepping, operation, conjunction, disjunction, choice, assignment, update, input_byte, output_byte, value_argument, OwnerTree, global_owner, local_owner, Variable, object, temporary}
-use Rattle.csub_core.specs.Labels.{LabelTree, enters, exits, evaluates, initialises, branches, returns, calls, AnswerTree, CallTree, InitTree, one_value, Initial, PointLabel}
+use Rattle.csub_semantics.specs.declared.label.EndRule.{EndRule}
+use Rattle.csub_semantics.specs.declared.label.EndRule.TheVariants.{Nothing, Value, Main, Start}
+use Rattle.csub_semantics.specs.Types.{Name, TypeTree, number_type, MemberTree}
+use Rattle.csub_semantics.specs.Trees.{NamedPlace, NamedExpr, NamedArg, variable, constant, reading, unary_operation, conversion, stepping, operation, conjunction, disjunction, choice, assignment, update, input_byte, output_byte, value_argument, OwnerTree, global_owner, local_owner, Variable, object, temporary}
+use Rattle.csub_semantics.specs.Labels.{LabelTree, enters, exits, evaluates, initialises, branches, returns, calls, AnswerTree, CallTree, InitTree, one_value, Initial, PointLabel}
 use Rattle.program_laws.specs.Decided.{Decided}
 
 -- what is built of one part, two or more is equal where all the parts are

@@ -1,19 +1,19 @@
 -- The outcome of an act fits its label.
 use Rattle.std.proofs.Common.{ℕ, ◌-◌, ℤ, pos, Bool, true, false, Option, Some, None, nat_le, int_eq, refl, inl, inr, if◌then◌else◌}
-use Rattle.csub_core.specs.declared.label.EndRule.{EndRule}
-use Rattle.csub_core.specs.declared.label.EndRule.TheVariants.{Nothing, Value, Main, Start}
+use Rattle.csub_semantics.specs.declared.label.EndRule.{EndRule}
+use Rattle.csub_semantics.specs.declared.label.EndRule.TheVariants.{Nothing, Value, Main, Start}
 use Rattle.csub_types.specs.declared.trap.Trap.TheVariants.{Depth}
 use Rattle.csub_types.specs.declared.kind.IntKind.TheVariants.{Int}
-use Rattle.csub_core.specs.declared.status.Status.{Status}
-use Rattle.csub_core.specs.declared.status.Status.TheVariants.{Exit, Trap}
-use Rattle.csub_core.specs.Types.{Name}
-use Rattle.csub_core.specs.Trees.{reading, assignment, variable, object, temporary}
-use Rattle.csub_core.specs.Labels.{LabelTree, enters, exits, evaluates, initialises, branches, returns, calls, one_value}
-use Rattle.csub_core.specs.Points.{on_true, on_false}
-use Rattle.csub_core.specs.Memory.{Answer, value, trapped, low_byte}
-use Rattle.csub_core.specs.Evaluation.{eval}
-use Rattle.csub_core.specs.Cells.{named, entered}
-use Rattle.csub_core.specs.Acts.{Store, Outcome, pushes, ends, after_value, argument_contents, most_frames, act_exit, act}
+use Rattle.csub_semantics.specs.declared.status.Status.{Status}
+use Rattle.csub_semantics.specs.declared.status.Status.TheVariants.{Exit, Trap}
+use Rattle.csub_semantics.specs.Types.{Name}
+use Rattle.csub_semantics.specs.Trees.{reading, assignment, variable, object, temporary}
+use Rattle.csub_semantics.specs.Labels.{LabelTree, enters, exits, evaluates, initialises, branches, returns, calls, one_value}
+use Rattle.csub_semantics.specs.Points.{on_true, on_false}
+use Rattle.csub_semantics.specs.Memory.{Answer, value, trapped, low_byte}
+use Rattle.csub_semantics.specs.Evaluation.{eval}
+use Rattle.csub_semantics.specs.Cells.{named, entered}
+use Rattle.csub_semantics.specs.Acts.{Store, Outcome, pushes, ends, after_value, argument_contents, most_frames, act_exit, act}
 use Rattle.program_laws.specs.Outcomes.{LeavesBy, Pushes, Pops, IsNext, IsOfTest, Fits}
 
 -- where all that may follow a value fits, and the end by a trap does, all fits

@@ -3,13 +3,13 @@ use Rattle.std.proofs.Common.{◌≡◌, ◌⊎◌, inl, inr, Option, Some, None
 use Rattle.std.specs.List.{list_any}
 use Rattle.std.specs.Ordering.{int_eq}
 use Rattle.std.proofs.lemmas.List.Elements.{All-nil}
-use Rattle.csub_core.specs.declared.label.EndRule.{EndRule}
-use Rattle.csub_core.specs.Types.{Name}
-use Rattle.csub_core.specs.Labels.{exits, calls, CallTree, Initial, PointLabel}
-use Rattle.csub_core.specs.Syntax.{FunctionTree, ProgramTree}
-use Rattle.csub_core.specs.Points.{PointTree, entry, exit, ExitTree, on_case, on_default}
-use Rattle.csub_core.specs.Successors.{Way, Node}
-use Rattle.csub_core.specs.Flows.{start_name, function_nodes, function_of, node_in, node_of, way_in, way_of, labelled, flow_of}
+use Rattle.csub_semantics.specs.declared.label.EndRule.{EndRule}
+use Rattle.csub_semantics.specs.Types.{Name}
+use Rattle.csub_semantics.specs.Labels.{exits, calls, CallTree, Initial, PointLabel}
+use Rattle.csub_semantics.specs.Syntax.{FunctionTree, ProgramTree}
+use Rattle.csub_semantics.specs.Points.{PointTree, entry, exit, ExitTree, on_case, on_default}
+use Rattle.csub_semantics.specs.Successors.{Way, Node}
+use Rattle.csub_semantics.specs.Flows.{start_name, function_nodes, function_of, node_in, node_of, way_in, way_of, labelled, flow_of}
 use Rattle.csub_core.specs.Valid.{IsValid}
 use Rattle.program_laws.specs.Flows.{entry_label, IsFlow}
 use Rattle.program_laws.proofs.Nodes.{Leads}

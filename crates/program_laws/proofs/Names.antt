@@ -2,9 +2,9 @@
 use Rattle.std.proofs.Common.{◌≡◌, true, refl, nat_eq, ◌&&◌}
 use Rattle.std.specs.Cmp.Lexicographic.{pointwise, bytes_decides}
 use Rattle.std.proofs.lemmas.Bool.{eqb-true, eq-eqb, and_parts, and_from}
-use Rattle.csub_core.specs.Types.{Name}
-use Rattle.csub_core.specs.Flows.{name_eq}
-use Rattle.csub_core.specs.Points.{PointTree, entry, exit, at, point_eq}
+use Rattle.csub_semantics.specs.Types.{Name}
+use Rattle.csub_semantics.specs.Flows.{name_eq}
+use Rattle.csub_semantics.specs.Points.{PointTree, entry, exit, at, point_eq}
 
 pub same_name : (a b : Name) → name_eq a b ≡ true → a ≡ b
 same_name a b e = (bytes_decides a b).0 e

@@ -3,11 +3,11 @@ use Rattle.std.proofs.Common.{◌≡◌, ℕ, ◌+◌, ℤ, List, [], ◌∷◌,
 use Rattle.std.specs.List.{AllByRecursion, list_any}
 use Rattle.std.specs.Ordering.{int_eq}
 use Rattle.std.proofs.lemmas.List.Elements.{All-head, All-tail}
-use Rattle.csub_core.specs.Labels.{LabelTree, enters, exits, evaluates, initialises, branches, returns, calls}
-use Rattle.csub_core.specs.Syntax.{Stage, PartTree, StmtTree, StmtTrees, ElseTree, parts, block, conditional, while_loop, do_loop, for_loop, breaks, continues, no_stmt, more_stmts, no_else, else_stmt, FunctionTree, ProgramTree}
-use Rattle.csub_core.specs.Points.{PointTree, exit, at, ExitTree, next, on_true, on_false, on_case, on_default}
-use Rattle.csub_core.specs.Successors.{Way, Node, Around, way, leaving, looping, enter_part, enter_parts, enter, enter_list, enter_else, own_ways, test_ways, part_nodes, last_ways, parts_nodes, nodes, nodes_list, nodes_else}
-use Rattle.csub_core.specs.Flows.{end_rule, to_exit, function_nodes, function_of, way_in, cases_in}
+use Rattle.csub_semantics.specs.Labels.{LabelTree, enters, exits, evaluates, initialises, branches, returns, calls}
+use Rattle.csub_semantics.specs.Syntax.{Stage, PartTree, StmtTree, StmtTrees, ElseTree, parts, block, conditional, while_loop, do_loop, for_loop, breaks, continues, no_stmt, more_stmts, no_else, else_stmt, FunctionTree, ProgramTree}
+use Rattle.csub_semantics.specs.Points.{PointTree, exit, at, ExitTree, next, on_true, on_false, on_case, on_default}
+use Rattle.csub_semantics.specs.Successors.{Way, Node, Around, way, leaving, looping, enter_part, enter_parts, enter, enter_list, enter_else, own_ways, test_ways, part_nodes, last_ways, parts_nodes, nodes, nodes_list, nodes_else}
+use Rattle.csub_semantics.specs.Flows.{end_rule, to_exit, function_nodes, function_of, way_in, cases_in}
 use Rattle.csub_core.specs.declared.valid.role.Role.TheVariants.{Whole, Test, Effect}
 use Rattle.csub_core.specs.declared.valid.role.Targets.{Targets}
 use Rattle.csub_core.specs.Valid.{no_loop, in_loop, IsDefinedAs, Scope, scope_of, IsLast, IsEarlier, AreStages, IsPart, IsStmt, AreStmts, IsElse}

@@ -4,11 +4,11 @@ use Rattle.std.specs.Option.{option_map}
 use Rattle.std.specs.List.{slice_get, flat_map}
 use Rattle.std.specs.Cmp.{signed_Decides}
 use Rattle.std.specs.Cmp.Rules.{signed_items}
-use Rattle.csub_core.specs.Types.{Name}
-use Rattle.csub_core.specs.Points.{PointTree, point_eq, ExitTree, next, on_true, on_false, on_case, on_default, exit_eq}
-use Rattle.csub_core.specs.Syntax.{FunctionTree, ProgramTree}
-use Rattle.csub_core.specs.Successors.{Way, Node}
-use Rattle.csub_core.specs.Flows.{name_eq, function_nodes, placed, point_list, Edge, edges_from, edge_list, function_of, node_of, node_in, way_of, way_in}
+use Rattle.csub_semantics.specs.Types.{Name}
+use Rattle.csub_semantics.specs.Points.{PointTree, point_eq, ExitTree, next, on_true, on_false, on_case, on_default, exit_eq}
+use Rattle.csub_semantics.specs.Syntax.{FunctionTree, ProgramTree}
+use Rattle.csub_semantics.specs.Successors.{Way, Node}
+use Rattle.csub_semantics.specs.Flows.{name_eq, function_nodes, placed, point_list, Edge, edges_from, edge_list, function_of, node_of, node_in, way_of, way_in}
 use Rattle.program_laws.proofs.Names.{same_name, same_point}
 use Rattle.program_laws.specs.Numbered.{EdgesHaveNumbers}
 

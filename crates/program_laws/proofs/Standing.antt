@@ -2,12 +2,12 @@
 use Rattle.std.proofs.Common.{◌≡◌, List, [], ◌∷◌, Bool, true, false, cond, Option, Some, None, option_map, refl, ap, ◌∙◌}
 use Rattle.std.specs.List.{AllByRecursion}
 use Rattle.std.proofs.lemmas.List.Elements.{recursion_from_All}
-use Rattle.csub_core.specs.Types.{Name}
-use Rattle.csub_core.specs.Labels.{enters, CallTree}
-use Rattle.csub_core.specs.Syntax.{FunctionTree, ProgramTree}
-use Rattle.csub_core.specs.Points.{PointTree, entry, at, point_eq, ExitTree, next}
-use Rattle.csub_core.specs.Successors.{Way, Node, way, enter_list}
-use Rattle.csub_core.specs.Flows.{name_eq, start_name, to_exit, function_nodes, function_of, node_in, node_of, way_in, way_of, cases_in, cases_of, labelled, flow_of}
+use Rattle.csub_semantics.specs.Types.{Name}
+use Rattle.csub_semantics.specs.Labels.{enters, CallTree}
+use Rattle.csub_semantics.specs.Syntax.{FunctionTree, ProgramTree}
+use Rattle.csub_semantics.specs.Points.{PointTree, entry, at, point_eq, ExitTree, next}
+use Rattle.csub_semantics.specs.Successors.{Way, Node, way, enter_list}
+use Rattle.csub_semantics.specs.Flows.{name_eq, start_name, to_exit, function_nodes, function_of, node_in, node_of, way_in, way_of, cases_in, cases_of, labelled, flow_of}
 use Rattle.csub_core.specs.Valid.{IsDefinedAs, AreStmts, no_loop, BeginsWithStart, IsValid}
 use Rattle.program_laws.specs.Flows.{entry_label}
 use Rattle.program_laws.proofs.Lists.{each_weaker, found_each}

@@ -1,14 +1,14 @@
 -- No turn of a valid program is lost.
 use Rattle.std.proofs.Common.{◌≡◌, ◌≢◌, ℕ, zero, suc, ◌+◌, ℤ, List, [], ◌∷◌, length, Option, IsSome, inl, inr, refl, sym, ap, ◌∙◌, subst}
-use Rattle.csub_core.specs.declared.label.EndRule.{EndRule}
-use Rattle.csub_core.specs.declared.label.EndRule.TheVariants.{Start}
-use Rattle.csub_core.specs.Types.{Name}
-use Rattle.csub_core.specs.Labels.{LabelTree, enters, exits, evaluates, initialises, branches, returns, calls, CallTree}
-use Rattle.csub_core.specs.Syntax.{ProgramTree}
-use Rattle.csub_core.specs.Points.{PointTree, entry, ExitTree, next}
-use Rattle.csub_core.specs.Flows.{Flow, Edge, start_name, end_rule, function_nodes, flow_of}
-use Rattle.csub_core.specs.Acts.{Store, Outcome, leaves, gives, pushes, pops, ends, act}
-use Rattle.csub_core.specs.Runs.{Frame, Standing, Turn, goes, stops, lost, cross, put_result, come_back, come_back_to, pop, follow, turn_at, turn_of, turn, Moment, running, ended, nowhere, after_turn, go_on, after, results_at}
+use Rattle.csub_semantics.specs.declared.label.EndRule.{EndRule}
+use Rattle.csub_semantics.specs.declared.label.EndRule.TheVariants.{Start}
+use Rattle.csub_semantics.specs.Types.{Name}
+use Rattle.csub_semantics.specs.Labels.{LabelTree, enters, exits, evaluates, initialises, branches, returns, calls, CallTree}
+use Rattle.csub_semantics.specs.Syntax.{ProgramTree}
+use Rattle.csub_semantics.specs.Points.{PointTree, entry, ExitTree, next}
+use Rattle.csub_semantics.specs.Flows.{Flow, Edge, start_name, end_rule, function_nodes, flow_of}
+use Rattle.csub_semantics.specs.Acts.{Store, Outcome, leaves, gives, pushes, pops, ends, act}
+use Rattle.csub_semantics.specs.Runs.{Frame, Standing, Turn, goes, stops, lost, cross, put_result, come_back, come_back_to, pop, follow, turn_at, turn_of, turn, Moment, running, ended, nowhere, after_turn, go_on, after, results_at}
 use Rattle.csub_core.specs.Valid.{IsValid}
 use Rattle.program_laws.specs.Outcomes.{IsOfTest, Fits}
 use Rattle.program_laws.specs.Lost.{NeverLost, HasResults}

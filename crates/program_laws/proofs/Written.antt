@@ -7,19 +7,19 @@ use Rattle.csub_text.specs.declared.operator.StepOp.{StepOp}
 use Rattle.csub_types.specs.declared.kind.IntKind.TheVariants.{Int}
 use Rattle.csub_types.specs.declared.trap.Trap.{Trap as TrapKind}
 use Rattle.csub_types.specs.declared.trap.Trap.TheVariants.{Depth, Flood}
-use Rattle.csub_core.specs.declared.label.EndRule.{EndRule}
-use Rattle.csub_core.specs.declared.label.EndRule.TheVariants.{Nothing, Value, Main, Start}
-use Rattle.csub_core.specs.declared.status.Status.TheVariants.{Trap, Turns}
-use Rattle.csub_core.specs.Types.{Name, MemberTree}
-use Rattle.csub_core.specs.Trees.{NamedPlace, NamedExpr, NamedArg, constant, reading, variable, object, temporary, unary_operation, conversion, stepping, operation, conjunction, disjunction, choice, assignment, update, input_byte, output_byte, value_argument}
-use Rattle.csub_core.specs.Labels.{LabelTree, enters, exits, evaluates, initialises, branches, returns, calls, one_value, PointLabel}
-use Rattle.csub_core.specs.Points.{PointTree, ExitTree, next}
-use Rattle.csub_core.specs.Flows.{Flow, Edge}
-use Rattle.csub_core.specs.Memory.{Answer, value, trapped, then_do, given, found, get_byte, put_byte, low_byte, most_output}
-use Rattle.csub_core.specs.Evaluation.{computed, fetch, step_by, step_value, locate, store, step, eval}
-use Rattle.csub_core.specs.Cells.{Spot, named, entered}
-use Rattle.csub_core.specs.Acts.{Store, Outcome, leaves, gives, pushes, pops, ends, after_value, argument_content, argument_contents, most_frames, act_exit, act}
-use Rattle.csub_core.specs.Runs.{Frame, Turn, goes, stops, lost, cross, put_result, come_back, come_back_to, pop, follow, turn_at, turn_of, turn, Moment, running, ended, nowhere, after_turn, go_on, after, results_at, Results}
+use Rattle.csub_semantics.specs.declared.label.EndRule.{EndRule}
+use Rattle.csub_semantics.specs.declared.label.EndRule.TheVariants.{Nothing, Value, Main, Start}
+use Rattle.csub_semantics.specs.declared.status.Status.TheVariants.{Trap, Turns}
+use Rattle.csub_semantics.specs.Types.{Name, MemberTree}
+use Rattle.csub_semantics.specs.Trees.{NamedPlace, NamedExpr, NamedArg, constant, reading, variable, object, temporary, unary_operation, conversion, stepping, operation, conjunction, disjunction, choice, assignment, update, input_byte, output_byte, value_argument}
+use Rattle.csub_semantics.specs.Labels.{LabelTree, enters, exits, evaluates, initialises, branches, returns, calls, one_value, PointLabel}
+use Rattle.csub_semantics.specs.Points.{PointTree, ExitTree, next}
+use Rattle.csub_semantics.specs.Flows.{Flow, Edge}
+use Rattle.csub_semantics.specs.Memory.{Answer, value, trapped, then_do, given, found, get_byte, put_byte, low_byte, most_output}
+use Rattle.csub_semantics.specs.Evaluation.{computed, fetch, step_by, step_value, locate, store, step, eval}
+use Rattle.csub_semantics.specs.Cells.{Spot, named, entered}
+use Rattle.csub_semantics.specs.Acts.{Store, Outcome, leaves, gives, pushes, pops, ends, after_value, argument_content, argument_contents, most_frames, act_exit, act}
+use Rattle.csub_semantics.specs.Runs.{Frame, Turn, goes, stops, lost, cross, put_result, come_back, come_back_to, pop, follow, turn_at, turn_of, turn, Moment, running, ended, nowhere, after_turn, go_on, after, results_at, Results}
 use Rattle.program_laws.specs.Bounds.{IsExitStatus, IsBounded, RunsAreBounded}
 
 -- what was written is no more than a run may write, and bytes

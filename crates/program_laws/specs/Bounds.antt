@@ -1,10 +1,10 @@
 -- What bounds the results of a run.
 use Rattle.std.specs.Prelude.{ℕ, ◌≡◌, ◌≤◌, ◌<◌, List, length, All, Some}
-use Rattle.csub_core.specs.declared.status.Status.{Status}
-use Rattle.csub_core.specs.declared.status.Status.TheVariants.{Exit, Trap, Turns}
-use Rattle.csub_core.specs.Memory.{most_output}
-use Rattle.csub_core.specs.Flows.{Flow}
-use Rattle.csub_core.specs.Runs.{Results, run_of}
+use Rattle.csub_semantics.specs.declared.status.Status.{Status}
+use Rattle.csub_semantics.specs.declared.status.Status.TheVariants.{Exit, Trap, Turns}
+use Rattle.csub_semantics.specs.Memory.{most_output}
+use Rattle.csub_semantics.specs.Flows.{Flow}
+use Rattle.csub_semantics.specs.Runs.{Results, run_of}
 
 -- the status of a run that exits is a byte
 abbrev pub IsExitStatus : Status → Type 0

@@ -2,11 +2,11 @@
 use Rattle.std.specs.Prelude.{◌≡◌, ℤ, List, [], Some, All, IsTrue}
 use Rattle.std.specs.List.{list_any}
 use Rattle.std.specs.Ordering.{int_eq}
-use Rattle.csub_core.specs.declared.label.EndRule.{EndRule}
-use Rattle.csub_core.specs.Types.{Name}
-use Rattle.csub_core.specs.Labels.{enters, exits, calls, CallTree, PointLabel}
-use Rattle.csub_core.specs.Points.{PointTree, entry, exit, on_case, on_default}
-use Rattle.csub_core.specs.Flows.{Flow, start_name}
+use Rattle.csub_semantics.specs.declared.label.EndRule.{EndRule}
+use Rattle.csub_semantics.specs.Types.{Name}
+use Rattle.csub_semantics.specs.Labels.{enters, exits, calls, CallTree, PointLabel}
+use Rattle.csub_semantics.specs.Points.{PointTree, entry, exit, on_case, on_default}
+use Rattle.csub_semantics.specs.Flows.{Flow, start_name}
 
 -- the label of every function's entry
 abbrev pub entry_label : PointLabel

@@ -1,8 +1,8 @@
 -- No run of a valid program is lost.
 use Rattle.std.specs.Prelude.{ℕ, ◌≢◌, List, IsSome}
-use Rattle.csub_core.specs.Syntax.{ProgramTree}
-use Rattle.csub_core.specs.Flows.{flow_of}
-use Rattle.csub_core.specs.Runs.{after, nowhere, run_of}
+use Rattle.csub_semantics.specs.Syntax.{ProgramTree}
+use Rattle.csub_semantics.specs.Flows.{flow_of}
+use Rattle.csub_semantics.specs.Runs.{after, nowhere, run_of}
 
 -- at every moment a run stands at a point with a label and a way out for what its act asks for, or it has ended
 abbrev pub NeverLost : ProgramTree → Type 0

@@ -1,10 +1,10 @@
 -- Edges have numbers.
 use Rattle.std.specs.Prelude.{ℕ, ◌≡◌, Some}
-use Rattle.csub_core.specs.Types.{Name}
-use Rattle.csub_core.specs.Points.{PointTree, ExitTree}
-use Rattle.csub_core.specs.Syntax.{ProgramTree}
-use Rattle.csub_core.specs.Flows.{flow_of}
-use Rattle.csub_core.specs.Numbers.{edge_at}
+use Rattle.csub_semantics.specs.Types.{Name}
+use Rattle.csub_semantics.specs.Points.{PointTree, ExitTree}
+use Rattle.csub_semantics.specs.Syntax.{ProgramTree}
+use Rattle.csub_semantics.specs.Flows.{flow_of}
+use Rattle.csub_semantics.specs.Numbers.{edge_at}
 
 -- each way out along which a point of the program leads on is an edge of its list
 abbrev pub EdgesHaveNumbers : ProgramTree → Type 0

@@ -1,11 +1,11 @@
 -- Which outcomes the act of a label may have. Beside these, an act may end the run.
 use Rattle.std.specs.Prelude.{◌≡◌, ◌≢◌, ◌⊎◌}
-use Rattle.csub_core.specs.declared.label.EndRule.{EndRule}
-use Rattle.csub_core.specs.declared.label.EndRule.TheVariants.{Start}
-use Rattle.csub_core.specs.Types.{Name}
-use Rattle.csub_core.specs.Labels.{LabelTree, enters, exits, evaluates, initialises, branches, returns, calls}
-use Rattle.csub_core.specs.Points.{ExitTree, next, on_true, on_false}
-use Rattle.csub_core.specs.Acts.{Outcome, leaves, pushes, pops, ends}
+use Rattle.csub_semantics.specs.declared.label.EndRule.{EndRule}
+use Rattle.csub_semantics.specs.declared.label.EndRule.TheVariants.{Start}
+use Rattle.csub_semantics.specs.Types.{Name}
+use Rattle.csub_semantics.specs.Labels.{LabelTree, enters, exits, evaluates, initialises, branches, returns, calls}
+use Rattle.csub_semantics.specs.Points.{ExitTree, next, on_true, on_false}
+use Rattle.csub_semantics.specs.Acts.{Outcome, leaves, pushes, pops, ends}
 
 -- the run ends
 abbrev pub Ends : Outcome → Type 0

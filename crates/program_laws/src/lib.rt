@@ -7,10 +7,10 @@
 #![tactic(auto)]
 
 ghost use Rattle.std.specs.Prelude.{ℕ, ℤ, Option};
-ghost use Rattle.csub_core.specs.Labels.{LabelTree, PointLabel};
-ghost use Rattle.csub_core.specs.Syntax.{ProgramTree};
-ghost use Rattle.csub_core.specs.Flows.{Flow, flow_of};
-ghost use Rattle.csub_core.specs.Acts.{Store, act};
+ghost use Rattle.csub_semantics.specs.Labels.{LabelTree, PointLabel};
+ghost use Rattle.csub_semantics.specs.Syntax.{ProgramTree};
+ghost use Rattle.csub_semantics.specs.Flows.{Flow, flow_of};
+ghost use Rattle.csub_semantics.specs.Acts.{Store, act};
 ghost use Rattle.csub_core.specs.Valid.{IsValid};
 ghost use Rattle.program_laws.specs.Outcomes.{Fits};
 ghost use Rattle.program_laws.specs.Flows.{IsFlow};

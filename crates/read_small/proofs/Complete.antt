@@ -2,7 +2,7 @@
 use Rattle.std.proofs.Common.{◌≡◌, ℕ, zero, suc, ◌<◌, List, [], ◌∷◌, ◌++◌, length, Option, Some, None, false, refl, subst, arith, append_assoc}
 use Rattle.std.specs.Prelude.{map}
 use Rattle.std.specs.List.{flat_map}
-use Rattle.csub_core.specs.Syntax.{StmtTree}
+use Rattle.csub_semantics.specs.Syntax.{StmtTree}
 use Rattle.read_small.specs.declared.token.Fixed.{Fixed}
 use Rattle.read_small.specs.declared.token.Fixed.TheVariants.{Int, Main, Void, If, Else, Getchar, Putchar, Return, Open, Close, OpenBrace, CloseBrace, Semicolon, Equal}
 use Rattle.read_small.specs.declared.token.Token.{Token}

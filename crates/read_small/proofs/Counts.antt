@@ -2,8 +2,8 @@
 use Rattle.std.proofs.Common.{◌≡◌, ℕ, ◌+◌, ◌*◌, ◌≤◌, List, [], ◌∷◌, ◌++◌, length, Option, Some, None, sym, subst, arith, length-append}
 use Rattle.std.specs.Prelude.{map}
 use Rattle.std.specs.List.{flat_map}
-use Rattle.csub_core.specs.Syntax.{StmtTree, stmts_of}
-use Rattle.csub_core.specs.Successors.{Node, Around, leaving, enter_list, nodes, nodes_list, nodes_else}
+use Rattle.csub_semantics.specs.Syntax.{StmtTree, stmts_of}
+use Rattle.csub_semantics.specs.Successors.{Node, Around, leaving, enter_list, nodes, nodes_list, nodes_else}
 use Rattle.read_small.specs.declared.plain.Plain.{Plain}
 use Rattle.read_small.specs.declared.plain.Plain.TheVariants.{Writes, Gives}
 use Rattle.read_small.specs.declared.token.Fixed.TheVariants.{CloseBrace}

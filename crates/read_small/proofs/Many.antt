@@ -1,6 +1,6 @@
 -- The loop over the lines up to a closing brace: those read so far stand in front of those still to come.
 use Rattle.std.proofs.Common.{◌≡◌, ℕ, zero, suc, ◌<◌, List, [], ◌∷◌, ◌++◌, length, Some, None, true, false, refl, sym, ap, ◌∙◌, arith, append_assoc}
-use Rattle.csub_core.specs.Syntax.{StmtTree}
+use Rattle.csub_semantics.specs.Syntax.{StmtTree}
 use Rattle.read_small.specs.declared.token.Token.{Token}
 use Rattle.read_small.specs.declared.token.Fixed.TheVariants.{CloseBrace}
 use Rattle.read_small.specs.Descent.{Answer, ◌>>=◌, begins, rest, many_at}

@@ -1,6 +1,6 @@
 -- A small source means one program, and the descent over its tokens reads that one.
 use Rattle.std.proofs.Common.{◌≡◌, ◌≤◌, ℕ, List, length, Some, None, sym, subst, ◌∙◌}
-use Rattle.csub_core.specs.Syntax.{ProgramTree}
+use Rattle.csub_semantics.specs.Syntax.{ProgramTree}
 use Rattle.read_small.specs.declared.token.Token.{Token}
 use Rattle.read_small.specs.Cuts.{IsCut}
 use Rattle.read_small.specs.Lines.{program_words}

@@ -2,7 +2,7 @@
 use Rattle.std.proofs.Common.{◌≡◌, ℕ, zero, suc, List, [], ◌∷◌, ◌++◌, length, Option, Some, None, refl, sym, ap, subst, ◌∙◌, inl, inr, append_assoc}
 use Rattle.std.specs.Prelude.{map}
 use Rattle.std.specs.List.{flat_map}
-use Rattle.csub_core.specs.Syntax.{StmtTree, ElseTree, block, conditional, no_else, else_stmt, stmts_of, ProgramTree}
+use Rattle.csub_semantics.specs.Syntax.{StmtTree, ElseTree, block, conditional, no_else, else_stmt, stmts_of, ProgramTree}
 use Rattle.read_small.specs.declared.token.Fixed.TheVariants.{Int, Main, Void, If, Else, Getchar, Putchar, Return, Open, Close, OpenBrace, CloseBrace, Semicolon, Equal}
 use Rattle.read_small.specs.declared.token.Token.{Token}
 use Rattle.read_small.specs.declared.plain.Plain.{Plain}

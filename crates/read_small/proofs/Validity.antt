@@ -9,13 +9,13 @@ use Rattle.std.proofs.lemmas.Int.{ints}
 use Rattle.csub_text.specs.declared.span.Span.{Span}
 use Rattle.csub_types.specs.declared.kind.IntKind.TheVariants.{Int}
 use Rattle.csub_types.specs.Kinds.{IsOf}
-use Rattle.csub_core.specs.Types.{Name}
-use Rattle.csub_core.specs.Syntax.{PartTree, StmtTree, stmts_of, FunctionTree, ProgramTree}
-use Rattle.csub_core.specs.Points.{PointTree}
-use Rattle.csub_core.specs.Points as points
-use Rattle.csub_core.specs.Labels.{exits}
-use Rattle.csub_core.specs.Successors.{Node, nodes_list}
-use Rattle.csub_core.specs.Flows.{to_exit, end_rule, function_nodes, PlacedNode, placed, point_list, edges_from, edge_list}
+use Rattle.csub_semantics.specs.Types.{Name}
+use Rattle.csub_semantics.specs.Syntax.{PartTree, StmtTree, stmts_of, FunctionTree, ProgramTree}
+use Rattle.csub_semantics.specs.Points.{PointTree}
+use Rattle.csub_semantics.specs.Points as points
+use Rattle.csub_semantics.specs.Labels.{exits}
+use Rattle.csub_semantics.specs.Successors.{Node, nodes_list}
+use Rattle.csub_semantics.specs.Flows.{to_exit, end_rule, function_nodes, PlacedNode, placed, point_list, edges_from, edge_list}
 use Rattle.csub_core.specs.Valid.{IsPart, no_loop, IsStmt, AreStmts, IsElse, objects_of, AreOther, frame_cells, IsValid}
 use Rattle.csub_core.specs.declared.valid.role.Role.TheVariants.{Whole}
 use Rattle.read_small.specs.declared.plain.Plain.{Plain}

@@ -1,6 +1,6 @@
 -- The descent over tokens is exact.
 use Rattle.std.proofs.Common.{◌≡◌, ◌<◌, List, length, Some}
-use Rattle.csub_core.specs.Syntax.{StmtTree}
+use Rattle.csub_semantics.specs.Syntax.{StmtTree}
 use Rattle.read_small.specs.declared.token.Token.{Token}
 use Rattle.read_small.specs.Descent.{stmt_at, line_at}
 use Rattle.read_small.proofs.Complete.{plains_begin, lines_begin}

@@ -1,8 +1,8 @@
 -- The descent over tokens as a function of their list. It is not what a small source is (that is Small): the functions of
 -- the code are proved to give it, and proofs/ ties it to Lines and Meaning.
 use Rattle.std.specs.Prelude.{ℕ, zero, suc, ◌≡◌, List, [], ◌∷◌, length, Option, Some, None, Bool, false, ◌==◌, if◌then◌else◌}
-use Rattle.csub_core.specs.Syntax.{StmtTree, block, conditional, ElseTree, no_else, else_stmt, stmts_of, ProgramTree, stmt_tree}
-use Rattle.csub_core.specs.declared.function.RStmt.{RStmt}
+use Rattle.csub_semantics.specs.Syntax.{StmtTree, block, conditional, ElseTree, no_else, else_stmt, stmts_of, ProgramTree, stmt_tree}
+use Rattle.csub_semantics.specs.declared.function.RStmt.{RStmt}
 use Rattle.read_small.specs.declared.token.Fixed.{Fixed}
 use Rattle.read_small.specs.declared.token.Fixed.TheVariants.{Int, Main, Void, If, Else, Getchar, Putchar, Return, Open, Close, OpenBrace, CloseBrace, Semicolon, Equal}
 use Rattle.read_small.specs.declared.token.Kind.{Kind}

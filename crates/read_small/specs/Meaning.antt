@@ -3,10 +3,10 @@ use Rattle.std.specs.Prelude.{ℕ, ◌+◌, pos, List, [], ◌∷◌, length, ma
 use Rattle.csub_text.specs.declared.span.Span.{Span}
 use Rattle.csub_text.specs.declared.operator.BinOp.TheVariants.{Eq}
 use Rattle.csub_types.specs.declared.kind.IntKind.TheVariants.{Int}
-use Rattle.csub_core.specs.Trees.{NamedExpr, constant, operation, input_byte, output_byte}
-use Rattle.csub_core.specs.Labels.{LabelTree, evaluates, branches, returns, calls}
-use Rattle.csub_core.specs.Syntax.{PartTree, StmtTree, parts, block, conditional, ElseTree, no_else, else_stmt, stmts_of, FunctionTree, ProgramTree}
-use Rattle.csub_core.specs.Flows.{start_name, main_name}
+use Rattle.csub_semantics.specs.Trees.{NamedExpr, constant, operation, input_byte, output_byte}
+use Rattle.csub_semantics.specs.Labels.{LabelTree, evaluates, branches, returns, calls}
+use Rattle.csub_semantics.specs.Syntax.{PartTree, StmtTree, parts, block, conditional, ElseTree, no_else, else_stmt, stmts_of, FunctionTree, ProgramTree}
+use Rattle.csub_semantics.specs.Flows.{start_name, main_name}
 use Rattle.read_small.specs.declared.token.Fixed.{Fixed}
 use Rattle.read_small.specs.declared.token.Fixed.TheVariants as fixed
 use Rattle.read_small.specs.declared.plain.Plain.{Plain}

@@ -1,6 +1,6 @@
 -- Small sources.
 use Rattle.std.specs.Prelude.{ℕ, ◌≤◌, ◌≡◌, List, length}
-use Rattle.csub_core.specs.Syntax.{ProgramTree}
+use Rattle.csub_semantics.specs.Syntax.{ProgramTree}
 use Rattle.read_small.specs.declared.token.Token.{Token}
 use Rattle.read_small.specs.Cuts.{IsCut}
 use Rattle.read_small.specs.Lines.{Line, program_words, AreTokens}

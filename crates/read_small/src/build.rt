@@ -1,14 +1,12 @@
 //! The parts of the program that a small source means.
 ghost use Rattle.std.specs.Prelude.{◌≡◌, ◌+◌, ◌≤◌, List, [], ◌∷◌, map, IfOk, IfSome};
-ghost use Rattle.csub_core.specs.Labels.{label_tree};
-ghost use Rattle.csub_core.specs.Syntax.{parts, conditional, stmts_of, block, part_tree, stmt_tree, function_tree};
+ghost use Rattle.csub_semantics.specs.Labels.{label_tree};
+ghost use Rattle.csub_semantics.specs.Syntax.{parts, conditional, stmts_of, block, part_tree, stmt_tree, function_tree};
 ghost use Rattle.read_small.specs.Meaning.{own_part, plain_stmt, test_part, start_function, main_function, program_at};
 ghost use Rattle.read_small.specs.Descent.{else_view};
 
 use crate::plain::Plain;
-use csub_core::{
-    Answer, BinOp, CallLabel, Function, IntKind, Label, RCall, RExpr, RPart, RStmt, Span, Text,
-};
+use csub_semantics::{Answer, BinOp, CallLabel, Function, IntKind, Label, RCall, RExpr, RPart, RStmt, Span, Text};
 use std::alloc::{AllocError, Global};
 
 /// The place of a token of so many bytes.

@@ -1,12 +1,12 @@
 //! The descent over the tokens of a small source.
 ghost use Rattle.std.specs.Prelude.{◌≡◌, suc, length, map, IfOk};
-ghost use Rattle.csub_core.specs.Syntax.{stmt_tree, function_tree};
+ghost use Rattle.csub_semantics.specs.Syntax.{stmt_tree, function_tree};
 ghost use Rattle.read_small.specs.Descent.{Reads, else_view, begins, rest, place, expect, number_at, writes_at, gives_at, plain_at, stmt_at, many_at, braced_at, else_at, test_at, if_at, line_at, head_at, program_from};
 
 use crate::build::{conditional, plain_statement, program};
 use crate::plain::Plain;
 use crate::token::{Fixed, Kind, Token};
-use csub_core::{Function, RStmt};
+use csub_semantics::{Function, RStmt};
 use std::alloc::{AllocError, Global};
 
 /// Whether the first token is this one.

@@ -1,6 +1,6 @@
 //! The public call.
 ghost use Rattle.std.specs.Prelude.{map, IfOk, IfSome, IfNone};
-ghost use Rattle.csub_core.specs.Syntax.{function_tree, ProgramTree};
+ghost use Rattle.csub_semantics.specs.Syntax.{function_tree, ProgramTree};
 ghost use Rattle.read_small.specs.Small.{IsSmall};
 
 use crate::descent::functions;

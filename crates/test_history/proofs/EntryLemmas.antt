@@ -4,8 +4,8 @@ use Rattle.std.specs.Fmt.{decimal}
 use Rattle.std.proofs.lemmas.Fmt.{decimal_injective}
 use Rattle.std.specs.List.{Contains}
 use Rattle.hex.specs.Hex.{IsBytes}
-use Rattle.csub_core.specs.Memory.{most_output}
-use Rattle.csub_core.specs.declared.status.Status.{Status}
+use Rattle.csub_semantics.specs.Memory.{most_output}
+use Rattle.csub_semantics.specs.declared.status.Status.{Status}
 use Rattle.line_text.specs.Bytes.{bytes_or_dash}
 use Rattle.line_text.specs.Lines.{text_of_lines}
 use Rattle.line_text.specs.Words.{line_of_words}

@@ -5,8 +5,8 @@ use Rattle.std.specs.List.{All}
 use Rattle.std.proofs.lemmas.Bool.{and_parts}
 use Rattle.std.proofs.lemmas.List.Elements.{All-nil, All-cons, All-head, All-tail, All-append, All-map, All-weaker}
 use Rattle.hex.specs.Hex.{encode_lower}
-use Rattle.csub_core.specs.declared.status.Status.{Status}
-use Rattle.csub_core.specs.declared.status.Status.TheVariants as status
+use Rattle.csub_semantics.specs.declared.status.Status.{Status}
+use Rattle.csub_semantics.specs.declared.status.Status.TheVariants as status
 use Rattle.csub_types.specs.declared.trap.Trap.{Trap}
 use Rattle.csub_types.specs.declared.trap.Trap.TheVariants.{Overflow, Divide, Shift, Bounds, Unset, Flood, Depth, Missing}
 use Rattle.line_text.specs.Bytes.{bytes_or_dash}

@@ -6,8 +6,8 @@ use Rattle.std.proofs.lemmas.Fmt.{decimal_injective, decimal_nonempty}
 use Rattle.std.proofs.lemmas.List.{append_cancel_left}
 use Rattle.std.proofs.lemmas.List.Elements.{All-nil, All-cons, All-head, All-tail, All-append}
 use Rattle.hex.specs.Hex.{encode_lower, IsBytes}
-use Rattle.csub_core.specs.declared.status.Status.{Status}
-use Rattle.csub_core.specs.declared.status.Status.TheVariants as status
+use Rattle.csub_semantics.specs.declared.status.Status.{Status}
+use Rattle.csub_semantics.specs.declared.status.Status.TheVariants as status
 use Rattle.csub_types.specs.declared.trap.Trap.{Trap}
 use Rattle.csub_types.specs.declared.trap.Trap.TheVariants.{Overflow, Divide, Shift, Bounds, Unset, Flood, Depth, Missing}
 use Rattle.line_text.specs.Bytes.{bytes_or_dash}

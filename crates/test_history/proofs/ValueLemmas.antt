@@ -3,8 +3,8 @@ use Rattle.std.proofs.Common.{◌≡◌, ◌≢◌, ℕ, Bool, true, List, ◌�
 use Rattle.std.proofs.lemmas.List.{append_cancel_left}
 use Rattle.line_text.specs.Lines.{TextLine, lines_of, line_with}
 use Rattle.line_text.specs.Words.{line_of_words}
-use Rattle.csub_core.specs.declared.status.Status.{Status}
-use Rattle.csub_core.specs.declared.status.Status.TheVariants as status
+use Rattle.csub_semantics.specs.declared.status.Status.{Status}
+use Rattle.csub_semantics.specs.declared.status.Status.TheVariants as status
 use Rattle.test_history.specs.HistoryTexts.{value_line, status_words}
 use Rattle.test_history.specs.Rules.{HasLine}
 

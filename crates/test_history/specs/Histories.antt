@@ -1,10 +1,10 @@
 -- What a history is made of, and the limits of its parts.
 use Rattle.std.specs.Prelude.{◌≡◌, ◌≢◌, ◌≤◌, ◌<◌, ⊤, ℕ, Bool, List, length, map, All, AllPairs}
 use Rattle.hex.specs.Hex.{IsBytes}
-use Rattle.csub_core.specs.Memory.{most_output}
+use Rattle.csub_semantics.specs.Memory.{most_output}
 use Rattle.csub_core.specs.Valid.{most_edges}
-use Rattle.csub_core.specs.declared.status.Status.{Status}
-use Rattle.csub_core.specs.declared.status.Status.TheVariants.{Exit, Trap, Turns}
+use Rattle.csub_semantics.specs.declared.status.Status.{Status}
+use Rattle.csub_semantics.specs.declared.status.Status.TheVariants.{Exit, Trap, Turns}
 use Rattle.test_suite.specs.Suites.{most_tests}
 use Rattle.test_suite.specs.Tests.{TestParts, IsWithin}
 

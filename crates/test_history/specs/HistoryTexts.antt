@@ -9,8 +9,8 @@ use Rattle.line_text.specs.Lines.{text_of_lines}
 use Rattle.line_text.specs.Words.{line_of_words}
 use Rattle.csub_types.specs.declared.trap.Trap.{Trap}
 use Rattle.csub_types.specs.declared.trap.Trap.TheVariants.{Overflow, Divide, Shift, Bounds, Unset, Flood, Depth, Missing}
-use Rattle.csub_core.specs.declared.status.Status.{Status}
-use Rattle.csub_core.specs.declared.status.Status.TheVariants as status
+use Rattle.csub_semantics.specs.declared.status.Status.{Status}
+use Rattle.csub_semantics.specs.declared.status.Status.TheVariants as status
 use Rattle.edge_trace.specs.Rows.{has}
 use Rattle.test_history.specs.Histories.{EntryParts, HistoryParts}
 

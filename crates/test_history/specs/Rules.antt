@@ -2,9 +2,9 @@
 use Rattle.std.specs.Prelude.{◌≡◌, ◌≤◌, ◌<◌, ◌+◌, ◌-◌, ◌*◌, ℕ, List, ◌∷◌, length, codes, true, Option, Some, None, slice_get, All, AllPairs}
 use Rattle.std.specs.Fmt.{decimal}
 use Rattle.hex.specs.Hex.{encode_lower, IsBytes}
-use Rattle.csub_core.specs.Memory.{most_output}
+use Rattle.csub_semantics.specs.Memory.{most_output}
 use Rattle.csub_core.specs.Valid.{most_edges}
-use Rattle.csub_core.specs.declared.status.Status.{Status}
+use Rattle.csub_semantics.specs.declared.status.Status.{Status}
 use Rattle.line_text.specs.Bytes.{bytes_or_dash}
 use Rattle.line_text.specs.Lines.{TextLine, lines_of, line_with}
 use Rattle.line_text.specs.Words.{line_of_words}

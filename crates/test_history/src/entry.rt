@@ -1,7 +1,7 @@
 //! What the run of one test gave.
 ghost use Rattle.std.specs.Prelude.{◌≡◌};
 
-use csub_core::Status;
+use csub_semantics::Status;
 use edge_trace::EdgeRow;
 use std::marker::Model;
 use test_suite::Test;

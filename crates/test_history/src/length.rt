@@ -13,7 +13,7 @@ ghost use Rattle.test_history.specs.HistoryTexts.{history_text, entry_lines, sta
 use crate::entry::Entry;
 use crate::history::History;
 use crate::lines::name_of_trap;
-use csub_core::Status;
+use csub_semantics::Status;
 use edge_trace::EdgeRow;
 use itoa::Buffer;
 

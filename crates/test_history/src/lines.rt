@@ -6,7 +6,7 @@ ghost use Rattle.line_text.specs.Bytes.{bytes_or_dash};
 ghost use Rattle.line_text.specs.Words.{line_of_words};
 ghost use Rattle.test_history.specs.HistoryTexts.{trap_name, status_words, crossed_numbers, words_or_dash, value_line};
 
-use csub_core::{Status, Trap};
+use csub_semantics::{Status, Trap};
 use edge_trace::EdgeRow;
 use line_text::{push_bytes_or_dash, push_decimal, push_hex};
 use std::alloc::AllocError;

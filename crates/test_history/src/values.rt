@@ -2,7 +2,7 @@
 ghost use Rattle.std.specs.Prelude.{◌≡◌, ◌≤◌, ◌<◌, ◌++◌, ◌∷◌, ℕ, List, length, codes, IfOk, IfSome, MatchOption};
 ghost use Rattle.std.specs.Fmt.{decimal};
 ghost use Rattle.hex.specs.Hex.{encode_lower, IsBytes};
-ghost use Rattle.csub_core.specs.declared.status.Status.{Status};
+ghost use Rattle.csub_semantics.specs.declared.status.Status.{Status};
 ghost use Rattle.line_text.specs.Bytes.{bytes_or_dash};
 ghost use Rattle.line_text.specs.Words.{line_of_words};
 ghost use Rattle.test_suite.specs.Tests.{IsTestName};
@@ -10,7 +10,7 @@ ghost use Rattle.test_history.specs.Histories.{IsDigest, IsByteStatus};
 ghost use Rattle.test_history.specs.HistoryTexts.{value_line, status_words, trap_name};
 ghost use Rattle.test_history.specs.Rules.{HasLine, HasNumber, HasBytes, HasDigest, HasName};
 
-use csub_core::{Status, Trap};
+use csub_semantics::{Status, Trap};
 use line_text::{cut_line, read_bytes_or_dash, read_decimal, read_digest};
 use std::alloc::{AllocError, Global};
 use test_suite::is_test_name;

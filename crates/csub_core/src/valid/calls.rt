@@ -1,18 +1,15 @@
 //! Whether calls fit the functions that they call.
 ghost use Rattle.std.specs.Prelude.{◌≡◌, ◌↔◌, ◌<◌, ◌≤◌, ◌^◌, [], map, All, IsTrue, IfSome};
 ghost use Rattle.std.specs.Option.{option_map};
-ghost use Rattle.csub_core.specs.Types.{type_tree, member_tree};
-ghost use Rattle.csub_core.specs.Trees.{arg_tree};
-ghost use Rattle.csub_core.specs.Labels.{call_tree};
-ghost use Rattle.csub_core.specs.Syntax.{part_tree, function_tree};
-ghost use Rattle.csub_core.specs.Flows.{function_of, name_eq};
+ghost use Rattle.csub_semantics.specs.Types.{type_tree, member_tree};
+ghost use Rattle.csub_semantics.specs.Trees.{arg_tree};
+ghost use Rattle.csub_semantics.specs.Labels.{call_tree};
+ghost use Rattle.csub_semantics.specs.Syntax.{part_tree, function_tree};
+ghost use Rattle.csub_semantics.specs.Flows.{function_of, name_eq};
 ghost use Rattle.csub_core.specs.Valid.{scope_of, IsDefinedAs, AreArgs, IsCall, temp_of};
 ghost use Rattle.csub_core.specs.Checks.{scope_at, IsValue, AreCalls};
 
-use crate::expression::RArg;
-use crate::function::{Function, RPart};
-use crate::label::CallLabel;
-use crate::types::{CType, Member};
+use csub_semantics::{CType, CallLabel, Function, Member, RArg, RPart};
 use crate::valid::expressions::is_expr;
 use crate::valid::role::Site;
 use csub_types::IntKind;

@@ -3,12 +3,12 @@
 //! A count is taken away from what is left of its limit, and ends at once where too little is left.
 ghost use Rattle.std.specs.Prelude.{◌≡◌, ◌↔◌, ◌≤◌, ◌<◌, ◌+◌, ◌-◌, ◌^◌, map, sum_by, length, IsTrue};
 ghost use Rattle.std.specs.Option.{SomeIff};
-ghost use Rattle.csub_core.specs.Syntax.{part_tree, stmt_tree, function_tree};
-ghost use Rattle.csub_core.specs.Flows.{point_list, edge_list};
+ghost use Rattle.csub_semantics.specs.Syntax.{part_tree, stmt_tree, function_tree};
+ghost use Rattle.csub_semantics.specs.Flows.{point_list, edge_list};
 ghost use Rattle.csub_core.specs.Valid.{most_points, most_edges};
 ghost use Rattle.csub_core.specs.Checks.{count, count_test, count_head, count_function};
 
-use crate::function::{Function, RPart, RStmt};
+use csub_semantics::{Function, RPart, RStmt};
 
 const MOST_POINTS: usize = 10_000;
 

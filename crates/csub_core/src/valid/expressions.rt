@@ -1,18 +1,15 @@
 //! Whether expressions have the kinds that C states, and name what is declared.
 ghost use Rattle.std.specs.Prelude.{◌≡◌, ◌↔◌, IsTrue, map};
 ghost use Rattle.csub_types.specs.Kinds.{IsOf, promote, common};
-ghost use Rattle.csub_core.specs.Trees.{place_tree, expr_tree, variable, temporary};
-ghost use Rattle.csub_core.specs.Syntax.{part_tree};
+ghost use Rattle.csub_semantics.specs.Trees.{place_tree, expr_tree, variable, temporary};
+ghost use Rattle.csub_semantics.specs.Syntax.{part_tree};
 ghost use Rattle.csub_types.specs.Arithmetic.{unary_kind, binary_kind};
 ghost use Rattle.csub_core.specs.Valid.{IsExpr, IsPlace, IsTarget, result_of, stage_result, place_kind, kind_of, operation_kind};
 ghost use Rattle.std.specs.Option.{option_map};
-ghost use Rattle.csub_core.specs.Labels.{label_tree};
+ghost use Rattle.csub_semantics.specs.Labels.{label_tree};
 ghost use Rattle.csub_core.specs.Checks.{scope_at, own_result};
 
-use crate::expression::{Place, RExpr};
-use crate::function::{Function, RPart};
-use crate::label::Label;
-use crate::types::CType;
+use csub_semantics::{CType, Function, Label, Place, RExpr, RPart};
 use crate::valid::objects::is_object;
 use crate::valid::role::Site;
 use csub_text::{BinOp, UnaryOp};

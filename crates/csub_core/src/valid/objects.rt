@@ -2,17 +2,15 @@
 ghost use Rattle.std.specs.Prelude.{◌≡◌, ◌≢◌, ◌↔◌, ◌≤◌, AllPairs, All, IsTrue, Some, length, map};
 ghost use Rattle.std.specs.Option.{option_map};
 ghost use Rattle.std.specs.List.{AllWithin};
-ghost use Rattle.csub_core.specs.declared.types.Member.{Member};
-ghost use Rattle.csub_core.specs.declared.function.LocalVar.{LocalVar};
-ghost use Rattle.csub_core.specs.Types.{type_tree, member_tree};
-ghost use Rattle.csub_core.specs.Trees.{owner_tree};
-ghost use Rattle.csub_core.specs.Syntax.{local_tree, function_tree};
+ghost use Rattle.csub_semantics.specs.declared.types.Member.{Member};
+ghost use Rattle.csub_semantics.specs.declared.function.LocalVar.{LocalVar};
+ghost use Rattle.csub_semantics.specs.Types.{type_tree, member_tree};
+ghost use Rattle.csub_semantics.specs.Trees.{owner_tree};
+ghost use Rattle.csub_semantics.specs.Syntax.{local_tree, function_tree};
 ghost use Rattle.csub_core.specs.Valid.{objects_of, parameter_object, type_in, IsObject, AreOther};
 ghost use Rattle.csub_core.specs.Checks.{AreApart};
 
-use crate::expression::Owner;
-use crate::function::{Function, LocalVar};
-use crate::types::{CType, Member};
+use csub_semantics::{CType, Function, LocalVar, Member, Owner};
 use crate::valid::calls::same_type;
 
 /// Whether an object stands in a function with the type that it is declared with. Its declaration is looked for from the

@@ -1,5 +1,5 @@
 //! What a part is for, where an expression stands, and which jumps may stand where a statement stands.
-use crate::function::{Function, RPart};
+use csub_semantics::{Function, RPart};
 
 /// What a part is for.
 #[derive(Clone, Copy, Debug, PartialEq, Eq)]

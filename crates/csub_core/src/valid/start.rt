@@ -1,13 +1,12 @@
 //! Whether `#start` and `main` are there as they have to be.
 ghost use Rattle.std.specs.Prelude.{◌≡◌, ◌↔◌, [], ◌∷◌, Some, None, IsTrue, map};
 ghost use Rattle.csub_types.specs.declared.kind.IntKind.TheVariants.{Int};
-ghost use Rattle.csub_core.specs.Labels.{calls, call_tree, label_tree};
-ghost use Rattle.csub_core.specs.Syntax.{part_tree, stmt_tree, stmts_of, function_tree};
-ghost use Rattle.csub_core.specs.Flows.{start_name, main_name, function_of};
+ghost use Rattle.csub_semantics.specs.Labels.{calls, call_tree, label_tree};
+ghost use Rattle.csub_semantics.specs.Syntax.{part_tree, stmt_tree, stmts_of, function_tree};
+ghost use Rattle.csub_semantics.specs.Flows.{start_name, main_name, function_of};
 ghost use Rattle.csub_core.specs.Valid.{BeginsWithStart, IsStart, IsStartBody, IsStartPart, IsMain, start_call};
 
-use crate::function::{Function, RPart, RStmt};
-use crate::label::{CallLabel, Label};
+use csub_semantics::{CallLabel, Function, Label, RPart, RStmt};
 use crate::valid::calls::{find_function, is_named, takes_nothing};
 use csub_types::IntKind;
 

@@ -1,18 +1,15 @@
 //! Whether statements have a label only where there is a point of its kind.
 ghost use Rattle.std.specs.Prelude.{◌≡◌, ◌↔◌, ◌<◌, ◌+◌, ◌^◌, All, IsTrue, false, length, map};
 ghost use Rattle.std.specs.Option.{option_map};
-ghost use Rattle.csub_core.specs.Types.{type_tree};
-ghost use Rattle.csub_core.specs.Trees.{owner_tree};
-ghost use Rattle.csub_core.specs.Labels.{answer_tree, init_tree, label_tree};
-ghost use Rattle.csub_core.specs.Syntax.{part_tree, stmt_tree, stmts_of, function_tree};
+ghost use Rattle.csub_semantics.specs.Types.{type_tree};
+ghost use Rattle.csub_semantics.specs.Trees.{owner_tree};
+ghost use Rattle.csub_semantics.specs.Labels.{answer_tree, init_tree, label_tree};
+ghost use Rattle.csub_semantics.specs.Syntax.{part_tree, stmt_tree, stmts_of, function_tree};
 ghost use Rattle.csub_core.specs.declared.valid.role.Role.TheVariants.{Effect};
 ghost use Rattle.csub_core.specs.Valid.{scope_of, declares, IsAnswer, IsInitialised, IsLast, IsPart, IsForHead, IsStmt};
 ghost use Rattle.csub_core.specs.Checks.{scope_at, declared_own, IsEnd};
 
-use crate::expression::Owner;
-use crate::function::{Function, RPart, RStmt};
-use crate::label::{Answer, Label, RInit};
-use crate::types::CType;
+use csub_semantics::{Answer, CType, Function, Label, Owner, RInit, RPart, RStmt};
 use crate::valid::calls::{are_calls, is_call};
 use crate::valid::expressions::is_expr;
 use crate::valid::objects::is_local;

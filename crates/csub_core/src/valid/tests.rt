@@ -1,9 +1,6 @@
 //! Programs that are valid, and programs that break one rule each.
-use crate::expression::{Owner, Place, RArg, RExpr};
-use crate::function::{Function, LocalVar, RCall, RPart, RStmt};
-use crate::label::{Answer, CallLabel, Label, RInit};
+use csub_semantics::{Answer, CType, CallLabel, Function, Label, LocalVar, Member, Owner, Place, RArg, RCall, RExpr, RInit, RPart, RStmt};
 use crate::program::Program;
-use crate::types::{CType, Member};
 use csub_text::{Span, Text, UnaryOp};
 use csub_types::IntKind;
 use std::alloc::{AllocError, Global};

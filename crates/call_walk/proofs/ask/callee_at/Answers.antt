@@ -1,6 +1,6 @@
 use Rattle.std.proofs.Common.{ap, ◌∙◌, Some}
-use Rattle.csub_core.specs.Labels.{label_tree}
-use Rattle.csub_core.specs.Numbers.{site}
+use Rattle.csub_semantics.specs.Labels.{label_tree}
+use Rattle.csub_semantics.specs.Numbers.{site}
 use Rattle.call_walk.proofs.Asked.{bare, no_call, is_callee, old_defines, new_defines}
 use Rattle.call_walk.proofs.ask.callee_at.Goals as goal
 

@@ -1,6 +1,6 @@
 use Rattle.std.proofs.Common.{◌≡◌, Some, option_map, ap, ◌∙◌}
-use Rattle.csub_core.specs.Syntax.{FunctionTree}
-use Rattle.csub_core.specs.Numbers.{name_at}
+use Rattle.csub_semantics.specs.Syntax.{FunctionTree}
+use Rattle.csub_semantics.specs.Numbers.{name_at}
 use Rattle.call_walk.proofs.Numbered.{defined_name}
 use Rattle.call_walk.proofs.ask.callee_named.Goals as goal
 

@@ -1,9 +1,9 @@
 use Rattle.std.proofs.Common.{Some, ◌≡◌, ℕ, ◌+◌, ◌<◌, ◌≤◌, length, sym, ◌∙◌, subst, subst₂, ◌⊎◌, inl, inr, arith}
 use Rattle.std.proofs.lemmas.Bool.{cases_lt}
 use Rattle.std.proofs.lemmas.Option.{slice_get_within}
-use Rattle.csub_core.specs.Syntax.{ProgramTree}
-use Rattle.csub_core.specs.Flows.{edge_list}
-use Rattle.csub_core.specs.Numbers.{site, edge_at}
+use Rattle.csub_semantics.specs.Syntax.{ProgramTree}
+use Rattle.csub_semantics.specs.Flows.{edge_list}
+use Rattle.csub_semantics.specs.Numbers.{site, edge_at}
 use Rattle.flow_graph.specs.Graph.{IsGraphOf}
 use Rattle.call_walk.specs.Walks.{LeavesFrom}
 use Rattle.call_walk.specs.Moments.{Lists}

@@ -1,5 +1,5 @@
 use Rattle.std.proofs.Common.{◌≡◌, ◌<◌, ℕ, length}
-use Rattle.csub_core.specs.Syntax.{ProgramTree}
+use Rattle.csub_semantics.specs.Syntax.{ProgramTree}
 use Rattle.flow_graph.specs.Graph.{IsGraphOf, point_count}
 use Rattle.call_walk.specs.Walks.{LeavesFrom}
 use Rattle.call_walk.specs.Moments.{Lists}

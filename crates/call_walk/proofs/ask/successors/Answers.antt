@@ -1,8 +1,8 @@
 use Rattle.std.proofs.Common.{Some, option_map, sym, ap, ◌∙◌, true≢false}
-use Rattle.csub_core.specs.Labels.{label_tree}
-use Rattle.csub_core.specs.Points.{exit_tree}
-use Rattle.csub_core.specs.Flows.{flow_of}
-use Rattle.csub_core.specs.Numbers.{site}
+use Rattle.csub_semantics.specs.Labels.{label_tree}
+use Rattle.csub_semantics.specs.Points.{exit_tree}
+use Rattle.csub_semantics.specs.Flows.{flow_of}
+use Rattle.csub_semantics.specs.Numbers.{site}
 use Rattle.call_walk.proofs.Numbered.{site_within}
 use Rattle.call_walk.proofs.Asked.{bare, leads_none, leads_some, same_trees}
 use Rattle.call_walk.proofs.ask.successors.Goals as goal

@@ -1,5 +1,5 @@
 use Rattle.std.proofs.Common.{refl, sym, ◌∙◌}
-use Rattle.csub_core.specs.Flows.{flow_of}
+use Rattle.csub_semantics.specs.Flows.{flow_of}
 use Rattle.call_walk.proofs.ReachedClosed.{calls_or_not}
 use Rattle.call_walk.proofs.Marking.{has_place, back_at}
 use Rattle.call_walk.proofs.danger.comes_back.Goals as goal

@@ -1,5 +1,5 @@
 use Rattle.std.proofs.Common.{◌≡◌, ℕ, length, IsTrue, ◌↔◌}
-use Rattle.csub_core.specs.Syntax.{ProgramTree}
+use Rattle.csub_semantics.specs.Syntax.{ProgramTree}
 use Rattle.edge_trace.specs.Rows.{has}
 use Rattle.flow_graph.specs.Graph.{IsGraphOf, edge_count}
 use Rattle.call_walk.specs.Moments.{IsStoppedBefore}

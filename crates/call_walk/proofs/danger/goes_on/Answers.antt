@@ -1,7 +1,7 @@
 use Rattle.std.proofs.Common.{sym, ◌∙◌}
-use Rattle.csub_core.specs.Points.{exit_tree}
-use Rattle.csub_core.specs.Flows.{flow_of}
-use Rattle.csub_core.specs.Numbers.{site}
+use Rattle.csub_semantics.specs.Points.{exit_tree}
+use Rattle.csub_semantics.specs.Flows.{flow_of}
+use Rattle.csub_semantics.specs.Numbers.{site}
 use Rattle.call_walk.proofs.Numbered.{site_within}
 use Rattle.call_walk.proofs.Asked.{leads_none, leads_some}
 use Rattle.call_walk.proofs.Marking.{has_place, goes_at}

@@ -1,5 +1,5 @@
 use Rattle.std.proofs.Common.{◌≡◌, Some, sym, ◌∙◌, subst, true≢false, ◌<◌, length, arith}
-use Rattle.csub_core.specs.Flows.{flow_of}
+use Rattle.csub_semantics.specs.Flows.{flow_of}
 use Rattle.call_walk.specs.Moments.{GoesOn, Stops}
 use Rattle.call_walk.proofs.Numbered.{site_within}
 use Rattle.call_walk.proofs.Asked.{leads_some}

@@ -1,6 +1,6 @@
 use Rattle.std.proofs.Common.{◌≡◌, ◌<◌, ℕ, Some, length}
 use Rattle.std.specs.Prelude.{slice_get}
-use Rattle.csub_core.specs.Syntax.{ProgramTree}
+use Rattle.csub_semantics.specs.Syntax.{ProgramTree}
 use Rattle.flow_graph.specs.Graph.{IsGraphOf, edge_count}
 use Rattle.call_walk.specs.Moments.{Stops, Marks}
 use Rattle.call_walk.proofs.danger.mark_edges.Given as goal

@@ -1,4 +1,4 @@
-use Rattle.csub_core.specs.Points.{exit_tree}
+use Rattle.csub_semantics.specs.Points.{exit_tree}
 use Rattle.call_walk.proofs.Explaining.{moment_more, contained, on_ok, on_ok_3, together_held}
 use Rattle.call_walk.proofs.Naming.{at_named}
 use Rattle.call_walk.proofs.follow.advance.Goals as goal

@@ -1,6 +1,6 @@
 use Rattle.std.proofs.Common.{sym, ◌∙◌, subst}
 use Rattle.std.proofs.lemmas.Option.{same_Some}
-use Rattle.csub_core.specs.Points.{next}
+use Rattle.csub_semantics.specs.Points.{next}
 use Rattle.call_walk.specs.declared.fact.Fact.{Fact}
 use Rattle.call_walk.specs.Moments.{HoldsNext}
 use Rattle.call_walk.proofs.Indexed.{read_at}

@@ -1,7 +1,7 @@
 use Rattle.std.proofs.Common.{◌≡◌, ◌<◌, ℕ, Some}
 use Rattle.std.specs.Prelude.{slice_get}
-use Rattle.csub_core.specs.Points.{next}
-use Rattle.csub_core.specs.Syntax.{ProgramTree}
+use Rattle.csub_semantics.specs.Points.{next}
+use Rattle.csub_semantics.specs.Syntax.{ProgramTree}
 use Rattle.flow_graph.specs.Graph.{IsGraphOf}
 use Rattle.call_walk.specs.declared.fact.Fact.{Fact}
 use Rattle.call_walk.specs.Moments.{IsMoment, Extends, HoldsNext}

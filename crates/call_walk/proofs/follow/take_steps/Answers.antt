@@ -2,9 +2,9 @@ use Rattle.std.proofs.Common.{◌≡◌, ℕ, ◌+◌, ◌<◌, ◌≤◌, get_o
 use Rattle.std.specs.Prelude.{slice_get}
 use Rattle.std.proofs.lemmas.Bool.{cases_lt}
 use Rattle.std.proofs.lemmas.Option.{slice_get_within, slice_get-get_or, get_or_from_slice_get}
-use Rattle.csub_core.specs.Points.{exit_tree}
-use Rattle.csub_core.specs.Syntax.{ProgramTree}
-use Rattle.csub_core.specs.Numbers.{edge_at}
+use Rattle.csub_semantics.specs.Points.{exit_tree}
+use Rattle.csub_semantics.specs.Syntax.{ProgramTree}
+use Rattle.csub_semantics.specs.Numbers.{edge_at}
 use Rattle.flow_graph.specs.Graph.{IsGraphOf}
 use Rattle.call_walk.specs.Walks.{LeavesFrom}
 use Rattle.call_walk.specs.Moments.{HoldsNext}

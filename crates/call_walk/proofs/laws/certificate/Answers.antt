@@ -1,4 +1,4 @@
-use Rattle.csub_core.specs.Flows.{flow_of}
+use Rattle.csub_semantics.specs.Flows.{flow_of}
 use Rattle.program_laws.proofs.Labelled.{is_flow}
 use Rattle.call_walk.specs.Lockstep.{claims, among}
 use Rattle.call_walk.proofs.Together.{in_lockstep, same_runs}

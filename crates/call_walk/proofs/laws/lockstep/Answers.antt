@@ -1,5 +1,5 @@
-use Rattle.csub_core.specs.Flows.{flow_of}
-use Rattle.csub_core.specs.Books.{Reached, Dangerous}
+use Rattle.csub_semantics.specs.Flows.{flow_of}
+use Rattle.csub_semantics.specs.Books.{Reached, Dangerous}
 use Rattle.program_laws.proofs.Labelled.{is_flow}
 use Rattle.call_walk.proofs.ReachedClosed.{reached_closed}
 use Rattle.call_walk.proofs.Together.{in_lockstep, same_runs}

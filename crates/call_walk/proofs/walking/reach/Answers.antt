@@ -1,6 +1,6 @@
 use Rattle.std.proofs.Common.{arith}
-use Rattle.csub_core.specs.Points.{entry}
-use Rattle.csub_core.specs.Flows.{start_name}
+use Rattle.csub_semantics.specs.Points.{entry}
+use Rattle.csub_semantics.specs.Flows.{start_name}
 use Rattle.call_walk.proofs.Indexed.{extends_long}
 use Rattle.call_walk.proofs.Naming.{held_extends}
 use Rattle.call_walk.proofs.Following.{waiting_none, done_none, done_all}

@@ -1,7 +1,7 @@
 use Rattle.std.proofs.Common.{◌≤◌, ◌-◌, ◌^◌, length}
-use Rattle.csub_core.specs.Points.{entry}
-use Rattle.csub_core.specs.Flows.{start_name}
-use Rattle.csub_core.specs.Syntax.{ProgramTree}
+use Rattle.csub_semantics.specs.Points.{entry}
+use Rattle.csub_semantics.specs.Flows.{start_name}
+use Rattle.csub_semantics.specs.Syntax.{ProgramTree}
 use Rattle.flow_graph.specs.Graph.{IsGraphOf}
 use Rattle.call_walk.specs.Moments.{IsMoment, IsHeld, AreWaiting, AreDone}
 use Rattle.call_walk.proofs.walking.reach.Given as goal

@@ -1,7 +1,7 @@
 use Rattle.std.proofs.Common.{◌<◌, sym, ◌∙◌, subst, arith}
-use Rattle.csub_core.specs.Points.{entry}
-use Rattle.csub_core.specs.Flows.{start_name}
-use Rattle.csub_core.specs.Numbers.{site}
+use Rattle.csub_semantics.specs.Points.{entry}
+use Rattle.csub_semantics.specs.Flows.{start_name}
+use Rattle.csub_semantics.specs.Numbers.{site}
 use Rattle.flow_graph.specs.Graph.{point_count}
 use Rattle.call_walk.specs.declared.fact.Why.TheVariants.{Start}
 use Rattle.call_walk.specs.Walks.{IsExplained}

@@ -1,6 +1,6 @@
 use Rattle.std.proofs.Common.{ℕ, ◌<◌, map, get_or}
-use Rattle.csub_core.specs.declared.function.Function.{Function}
-use Rattle.csub_core.specs.Syntax.{function_tree}
+use Rattle.csub_semantics.specs.declared.function.Function.{Function}
+use Rattle.csub_semantics.specs.Syntax.{function_tree}
 use Rattle.csub_core.specs.Checks.{IsFunction}
 use Rattle.csub_core.proofs.valid.are_functions.Given as goal
 

@@ -1,5 +1,5 @@
 use Rattle.std.proofs.Common.{map, refl}
-use Rattle.csub_core.specs.Syntax.{function_tree}
+use Rattle.csub_semantics.specs.Syntax.{function_tree}
 use Rattle.csub_core.specs.Valid.{no_loop}
 use Rattle.csub_core.proofs.ValidStmts.{AreStmts-All}
 use Rattle.csub_core.proofs.valid.is_function.Goals as goal

@@ -1,5 +1,5 @@
 use Rattle.std.proofs.Common.{◌≢◌}
-use Rattle.csub_core.specs.declared.function.Function.{Function}
+use Rattle.csub_semantics.specs.declared.function.Function.{Function}
 use Rattle.csub_core.proofs.ValidLists.{new_from_pairs}
 use Rattle.csub_core.proofs.valid.names_differ.Goals as goal
 

@@ -1,5 +1,5 @@
 use Rattle.std.proofs.Common.{ℕ, ◌<◌, ◌≢◌, get_or}
-use Rattle.csub_core.specs.declared.function.Function.{Function}
+use Rattle.csub_semantics.specs.declared.function.Function.{Function}
 use Rattle.csub_core.proofs.valid.names_differ.Given as goal
 
 abbrev pub invariant-loop-i : goal.invariant-loop-i

@@ -1,7 +1,7 @@
 use Rattle.std.proofs.Common.{◌≡◌, map, drop}
 use Rattle.std.specs.Vec.Iter.{into_iter_items}
-use Rattle.csub_core.specs.Types.{member_tree}
-use Rattle.csub_core.specs.Cells.{entered}
+use Rattle.csub_semantics.specs.Types.{member_tree}
+use Rattle.csub_semantics.specs.Cells.{entered}
 use Rattle.csub_machine.specs.Named.{content_seen, cells_of}
 use Rattle.csub_machine.specs.States.{contents_seen}
 use Rattle.csub_machine.proofs.act.enter.Given as goal

@@ -1,8 +1,8 @@
 use Rattle.std.proofs.Common.{◌≡◌, ◌++◌, map, drop}
-use Rattle.csub_core.specs.Types.{member_tree}
-use Rattle.csub_core.specs.Trees.{arg_tree}
-use Rattle.csub_core.specs.Memory.{then_do, value}
-use Rattle.csub_core.specs.Acts.{argument_contents}
+use Rattle.csub_semantics.specs.Types.{member_tree}
+use Rattle.csub_semantics.specs.Trees.{arg_tree}
+use Rattle.csub_semantics.specs.Memory.{then_do, value}
+use Rattle.csub_semantics.specs.Acts.{argument_contents}
 use Rattle.csub_machine.specs.States.{state_of, OnlyAdds, contents_seen}
 use Rattle.csub_machine.proofs.act.eval_args.Given as goal
 

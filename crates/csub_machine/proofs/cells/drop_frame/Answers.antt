@@ -1,6 +1,6 @@
 use Rattle.std.proofs.Common.{◌≡◌, ◌∙◌, ap, not, rules}
 use Rattle.std.proofs.lemmas.Map.Made.{filter_same_pairs}
-use Rattle.csub_core.specs.Cells.{Cell, Cells, dropped, of_frame}
+use Rattle.csub_semantics.specs.Cells.{Cell, Cells, dropped, of_frame}
 use Rattle.csub_machine.specs.Named.{among, root_seen}
 use Rattle.csub_machine.specs.declared.cells.CellName.{CellName}
 use Rattle.csub_machine.specs.declared.cells.Content.{Content}

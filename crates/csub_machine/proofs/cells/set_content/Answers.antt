@@ -1,7 +1,7 @@
 use Rattle.std.proofs.Common.{◌≡◌, ◌∙◌, ap}
 use Rattle.csub_machine.specs.Named.{among, cell_seen, content_seen}
 use Rattle.csub_machine.proofs.Keys.{insert_is}
-use Rattle.csub_core.specs.Cells.{Cell, Cells, written}
+use Rattle.csub_semantics.specs.Cells.{Cell, Cells, written}
 use Rattle.csub_machine.proofs.cells.set_content.Goals as goal
 
 each : (f g : Cells) → ((c : Cell) → f c ≡ g c) → f ≡ g

@@ -1,5 +1,5 @@
 use Rattle.std.proofs.Common.{refl, ◌+◌}
-use Rattle.csub_core.specs.Flows.{flow_of}
+use Rattle.csub_semantics.specs.Flows.{flow_of}
 use Rattle.csub_machine.specs.Places.{tree_of}
 use Rattle.csub_machine.specs.States.{state_of}
 use Rattle.csub_machine.specs.Moments.{crossed_of}

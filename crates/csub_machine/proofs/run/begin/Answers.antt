@@ -1,5 +1,5 @@
 use Rattle.std.proofs.Common.{refl, sym, ◌∙◌}
-use Rattle.csub_core.specs.Flows.{edge_list}
+use Rattle.csub_semantics.specs.Flows.{edge_list}
 use Rattle.csub_machine.specs.Places.{tree_of}
 use Rattle.csub_machine.proofs.BeginLemmas.{began}
 use Rattle.csub_machine.proofs.RowLemmas.{none_crossed}

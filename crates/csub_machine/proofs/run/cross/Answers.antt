@@ -1,6 +1,6 @@
 use Rattle.std.proofs.Common.{◌∙◌, ap, sym, subst, ℕ, List, Bool, true, Option}
 use Rattle.std.specs.Prelude.{slice_set}
-use Rattle.csub_core.specs.Runs.{crossing}
+use Rattle.csub_semantics.specs.Runs.{crossing}
 use Rattle.csub_machine.specs.Places.{tree_of}
 use Rattle.csub_machine.specs.Crossed.{crossed_row, edge_of}
 use Rattle.csub_machine.specs.Standings.{IsOfProgram}

@@ -1,5 +1,5 @@
 use Rattle.std.proofs.Common.{arith}
-use Rattle.csub_core.specs.Labels.{label_tree}
+use Rattle.csub_semantics.specs.Labels.{label_tree}
 use Rattle.csub_machine.specs.Places.{tree_of}
 use Rattle.csub_machine.proofs.FrameLemmas.{callee_defined, frames_pushed}
 use Rattle.csub_machine.proofs.turn.take_turn.Goals as goal

@@ -1,5 +1,5 @@
 use Rattle.std.proofs.Common.{arith}
-use Rattle.csub_core.specs.Points.{exit_tree}
+use Rattle.csub_semantics.specs.Points.{exit_tree}
 use Rattle.csub_machine.specs.Places.{tree_of, place_of}
 use Rattle.csub_machine.proofs.GraphLemmas.{points_counted, edges_counted, place_is, leads_nowhere, crosses_nothing, leads_to, if_none}
 use Rattle.csub_machine.proofs.ways.step_along.Goals as goal

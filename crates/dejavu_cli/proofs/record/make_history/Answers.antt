@@ -1,6 +1,6 @@
 use Rattle.std.proofs.Common.{map}
-use Rattle.csub_core.specs.Syntax.{function_tree}
-use Rattle.csub_core.specs.Flows.{flow_of}
+use Rattle.csub_semantics.specs.Syntax.{function_tree}
+use Rattle.csub_semantics.specs.Flows.{flow_of}
 use Rattle.dejavu_cli.proofs.RunLemmas.{have_rows, history_within}
 use Rattle.dejavu_cli.proofs.record.make_history.Goals as goal
 

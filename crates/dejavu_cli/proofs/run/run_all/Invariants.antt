@@ -1,6 +1,6 @@
 use Rattle.std.proofs.Common.{map, take}
 use Rattle.std.specs.List.{AllZip}
-use Rattle.csub_core.specs.Syntax.{function_tree}
+use Rattle.csub_semantics.specs.Syntax.{function_tree}
 use Rattle.dejavu_cli.specs.Record.{IsEntry}
 use Rattle.dejavu_cli.proofs.run.run_all.Given as goal
 

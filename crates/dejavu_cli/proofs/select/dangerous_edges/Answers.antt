@@ -1,5 +1,5 @@
 use Rattle.std.proofs.Common.{map}
-use Rattle.csub_core.specs.Syntax.{function_tree}
+use Rattle.csub_semantics.specs.Syntax.{function_tree}
 use Rattle.dejavu_cli.proofs.ChoiceLemmas.{danger_row}
 use Rattle.dejavu_cli.proofs.select.dangerous_edges.Goals as goal
 

@@ -1,6 +1,6 @@
 use Rattle.std.proofs.Common.{map, sym, subst, ◌∙◌}
 use Rattle.dv_outside.specs.Outside.{IsFetched}
-use Rattle.csub_core.specs.Syntax.{function_tree}
+use Rattle.csub_semantics.specs.Syntax.{function_tree}
 use Rattle.dejavu_cli.proofs.AnswerLemmas.{bad_source, bad_suite, answered}
 use Rattle.dejavu_cli.proofs.work.record.Goals as goal
 

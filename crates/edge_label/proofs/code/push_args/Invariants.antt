@@ -1,6 +1,6 @@
 use Rattle.std.proofs.Common.{◌≡◌, ◌++◌, drop, map}
 use Rattle.std.specs.List.{flat_map}
-use Rattle.csub_core.specs.Trees.{arg_tree}
+use Rattle.csub_semantics.specs.Trees.{arg_tree}
 use Rattle.edge_label.specs.Codes.{arg_code, list_code}
 use Rattle.edge_label.proofs.code.push_args.Given as goal
 

@@ -1,5 +1,5 @@
 use Rattle.std.proofs.Common.{◌≡◌, ◌<◌, ◌-◌, sym, map, arith}
-use Rattle.csub_core.specs.Syntax.{part_tree}
+use Rattle.csub_semantics.specs.Syntax.{part_tree}
 use Rattle.flow_graph.specs.Numbers.{count_parts}
 use Rattle.flow_graph.proofs.Rows.{some_parts_enter, no_parts_enter}
 use Rattle.flow_graph.proofs.begin.parts_begin.Goals as goal

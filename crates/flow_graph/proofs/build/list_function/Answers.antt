@@ -1,12 +1,12 @@
 use Rattle.std.proofs.Common.{◌≡◌, ◌∙◌, ◌++◌, ◌∷◌, List, [], ℕ, ◌+◌, ap, map, reverse, arith}
 use Rattle.std.proofs.lemmas.List.{map-append}
-use Rattle.csub_core.specs.declared.function.RStmt.{RStmt}
-use Rattle.csub_core.specs.declared.label.EndRule.{EndRule}
-use Rattle.csub_core.specs.Labels.{enters, exits}
-use Rattle.csub_core.specs.Points.{entry, exit, next}
-use Rattle.csub_core.specs.Syntax.{stmt_tree, stmts_of, function_tree}
-use Rattle.csub_core.specs.Successors.{Way, way}
-use Rattle.csub_core.specs.Flows.{end_rule}
+use Rattle.csub_semantics.specs.declared.function.RStmt.{RStmt}
+use Rattle.csub_semantics.specs.declared.label.EndRule.{EndRule}
+use Rattle.csub_semantics.specs.Labels.{enters, exits}
+use Rattle.csub_semantics.specs.Points.{entry, exit, next}
+use Rattle.csub_semantics.specs.Syntax.{stmt_tree, stmts_of, function_tree}
+use Rattle.csub_semantics.specs.Successors.{Way, way}
+use Rattle.csub_semantics.specs.Flows.{end_rule}
 use Rattle.flow_graph.specs.declared.node.GraphNode.{GraphNode}
 use Rattle.flow_graph.specs.declared.node.GraphWay.{GraphWay}
 use Rattle.flow_graph.specs.Numbers.{Numbered, numbered_node, numbered_way, count_list, enter_list, list_numbered, exit_number, all_to}

@@ -1,5 +1,5 @@
 use Rattle.std.proofs.Common.{◌≡◌, ◌++◌, ◌+◌, drop, length, map}
-use Rattle.csub_core.specs.Syntax.{function_tree}
+use Rattle.csub_semantics.specs.Syntax.{function_tree}
 use Rattle.flow_graph.specs.Numbers.{count_program, numbered_point, numbered_function, program_numbered, functions_numbered}
 use Rattle.flow_graph.proofs.build.list_points.Given as goal
 

@@ -1,5 +1,5 @@
 use Rattle.std.proofs.Common.{rules}
-use Rattle.csub_core.specs.declared.function.RStmt.{the_lemmas}
+use Rattle.csub_semantics.specs.declared.function.RStmt.{the_lemmas}
 use Rattle.flow_graph.proofs.Rows.{row_trees-list}
 use Rattle.flow_graph.proofs.count.+count.Goals as goal
 

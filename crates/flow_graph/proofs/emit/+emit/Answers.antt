@@ -1,8 +1,8 @@
 use Rattle.std.proofs.Common.{rules, arith, ◌≡◌, ◌+◌, ◌-◌, ◌<◌, ◌∙◌, ap, map, length}
-use Rattle.csub_core.specs.declared.function.RStmt.{the_lemmas}
+use Rattle.csub_semantics.specs.declared.function.RStmt.{the_lemmas}
 use denote.Param.Weighed.{at_most}
-use Rattle.csub_core.proofs.function.RStmt.TheLaws.{the_size}
-use Rattle.csub_core.specs.Syntax.{part_tree, stmt_tree}
+use Rattle.csub_semantics.proofs.function.RStmt.TheLaws.{the_size}
+use Rattle.csub_semantics.specs.Syntax.{part_tree, stmt_tree}
 use Rattle.flow_graph.specs.Numbers.{around, count_parts, count_head, enter_part, enter_parts}
 use Rattle.flow_graph.proofs.Emitted.{for_emitted}
 use Rattle.flow_graph.proofs.Rows.{row_trees-list, room_back}

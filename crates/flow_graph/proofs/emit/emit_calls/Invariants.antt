@@ -1,5 +1,5 @@
 use Rattle.std.proofs.Common.{◌≡◌, ◌+◌, ◌++◌, map, reverse, length, drop}
-use Rattle.csub_core.specs.Syntax.{call_stage}
+use Rattle.csub_semantics.specs.Syntax.{call_stage}
 use Rattle.flow_graph.specs.Numbers.{numbered_way, numbered_node, part_numbered, ways_before}
 use Rattle.flow_graph.proofs.emit.emit_calls.Given as goal
 

@@ -1,9 +1,9 @@
 use Rattle.std.proofs.Common.{◌≡◌, ◌+◌, ◌-◌, ◌<◌, ◌++◌, ◌∙◌, ◌∷◌, [], ap, map, length, reverse, arith}
 use Rattle.std.specs.Option.{option_map}
-use Rattle.csub_core.specs.Labels.{label_tree}
-use Rattle.csub_core.specs.Syntax.{part_tree}
-use Rattle.csub_core.specs.Points.{next}
-use Rattle.csub_core.specs.Successors.{way}
+use Rattle.csub_semantics.specs.Labels.{label_tree}
+use Rattle.csub_semantics.specs.Syntax.{part_tree}
+use Rattle.csub_semantics.specs.Points.{next}
+use Rattle.csub_semantics.specs.Successors.{way}
 use Rattle.flow_graph.specs.Numbers.{around, numbered_node, part_numbered, past_label}
 use Rattle.flow_graph.proofs.Rows.{part_room}
 use Rattle.flow_graph.proofs.Emitted.{parts_emitted}

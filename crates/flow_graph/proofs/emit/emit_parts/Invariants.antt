@@ -1,5 +1,5 @@
 use Rattle.std.proofs.Common.{◌≡◌, ◌+◌, ◌++◌, map, reverse, drop}
-use Rattle.csub_core.specs.Syntax.{part_tree}
+use Rattle.csub_semantics.specs.Syntax.{part_tree}
 use Rattle.flow_graph.specs.Numbers.{around, numbered_node, enter_parts, parts_numbered}
 use Rattle.flow_graph.proofs.Rows.{parts_from}
 use Rattle.flow_graph.proofs.emit.emit_parts.Given as goal

@@ -1,9 +1,9 @@
 use Rattle.std.proofs.Common.{◌≡◌, ◌+◌, ◌-◌, ◌++◌, ◌∙◌, ◌∷◌, [], ap, sym, map, length, reverse}
 use Rattle.std.proofs.lemmas.List.{map-append}
 use Rattle.std.specs.Option.{option_map}
-use Rattle.csub_core.specs.Labels.{LabelTree, label_tree}
-use Rattle.csub_core.specs.Points.{PointTree, at}
-use Rattle.csub_core.specs.Syntax.{Stage, call_stage, own_stage}
+use Rattle.csub_semantics.specs.Labels.{LabelTree, label_tree}
+use Rattle.csub_semantics.specs.Points.{PointTree, at}
+use Rattle.csub_semantics.specs.Syntax.{Stage, call_stage, own_stage}
 use Rattle.flow_graph.specs.Numbers.{numbered_node, numbered_way, part_numbered}
 use Rattle.flow_graph.proofs.Emitted.{stages_emitted, call_count}
 use Rattle.flow_graph.proofs.emit.emit_stages.Goals as goal

@@ -1,5 +1,5 @@
 use Rattle.std.proofs.Common.{◌∙◌, sym}
-use Rattle.csub_core.specs.Points.{exit_tree, exit_eq}
+use Rattle.csub_semantics.specs.Points.{exit_tree, exit_eq}
 use Rattle.flow_graph.proofs.Lists.{find_here}
 use Rattle.flow_graph.proofs.search.find_way.Goals as goal
 

@@ -1,6 +1,6 @@
 use Rattle.std.proofs.Common.{◌≡◌, drop}
 use Rattle.std.specs.List.{find}
-use Rattle.csub_core.specs.Points.{exit_tree, exit_eq}
+use Rattle.csub_semantics.specs.Points.{exit_tree, exit_eq}
 use Rattle.flow_graph.proofs.search.find_way.Given as goal
 
 abbrev pub invariant-loop-i : goal.invariant-loop-i

@@ -1,5 +1,5 @@
 use Rattle.std.proofs.Common.{rules}
-use Rattle.csub_core.specs.declared.function.RStmt.{the_lemmas}
+use Rattle.csub_semantics.specs.declared.function.RStmt.{the_lemmas}
 use Rattle.read_small.specs.Descent.{braced_at}
 use Rattle.read_small.proofs.Blocks.{row_trees-stmts_of}
 use Rattle.read_small.proofs.descent.braced.Goals as goal

@@ -1,5 +1,5 @@
 use Rattle.std.proofs.Common.{◌≡◌, map, Some, None, sym}
-use Rattle.csub_core.specs.Syntax.{stmt_tree}
+use Rattle.csub_semantics.specs.Syntax.{stmt_tree}
 use Rattle.std.proofs.lemmas.List.{map_push}
 use Rattle.read_small.specs.Descent.{line_at}
 use Rattle.read_small.proofs.Many.{goes, fails, ends}

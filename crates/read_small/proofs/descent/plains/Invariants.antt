@@ -1,6 +1,6 @@
 use Rattle.std.proofs.Common.{◌≡◌, ℕ, suc, ◌<◌, length}
 use Rattle.std.specs.Prelude.{map}
-use Rattle.csub_core.specs.Syntax.{stmt_tree}
+use Rattle.csub_semantics.specs.Syntax.{stmt_tree}
 use Rattle.read_small.specs.Descent.{many_at, stmt_at}
 use Rattle.read_small.proofs.Many.{with_front}
 use Rattle.read_small.proofs.descent.plains.Given as goal

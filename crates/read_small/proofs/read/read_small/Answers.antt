@@ -1,7 +1,7 @@
 use Rattle.std.proofs.Common.{◌≡◌, ℕ, List, Option, Some, None, map, IfSome, IfNone, sym, ap, ◌∙◌, subst}
 use Rattle.std.specs.Option.{IsSome}
-use Rattle.csub_core.specs.declared.function.Function.{Function}
-use Rattle.csub_core.specs.Syntax.{function_tree, ProgramTree}
+use Rattle.csub_semantics.specs.declared.function.Function.{Function}
+use Rattle.csub_semantics.specs.Syntax.{function_tree, ProgramTree}
 use Rattle.read_small.specs.Small.{IsSmall}
 use Rattle.read_small.specs.Cuts.{IsCut}
 use Rattle.read_small.specs.Descent.{program_from}

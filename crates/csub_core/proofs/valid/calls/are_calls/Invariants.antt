@@ -1,7 +1,7 @@
 use Rattle.std.proofs.Common.{ℕ, ◌+◌, ◌<◌, map, slice_index_or}
-use Rattle.csub_core.specs.declared.function.RCall.{RCall}
-use Rattle.csub_core.specs.Labels.{call_tree}
-use Rattle.csub_core.specs.Syntax.{part_tree, function_tree}
+use Rattle.csub_semantics.specs.declared.function.RCall.{RCall}
+use Rattle.csub_semantics.specs.Labels.{call_tree}
+use Rattle.csub_semantics.specs.Syntax.{part_tree, function_tree}
 use Rattle.csub_core.specs.Valid.{scope_of, IsCall}
 use Rattle.csub_core.proofs.valid.calls.are_calls.Given as goal
 

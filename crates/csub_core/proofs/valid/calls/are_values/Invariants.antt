@@ -1,6 +1,6 @@
 use Rattle.std.proofs.Common.{ℕ, ◌<◌, get_or}
-use Rattle.csub_core.specs.declared.expression.RArg.{RArg}
-use Rattle.csub_core.specs.Trees.{arg_tree}
+use Rattle.csub_semantics.specs.declared.expression.RArg.{RArg}
+use Rattle.csub_semantics.specs.Trees.{arg_tree}
 use Rattle.csub_core.specs.Checks.{scope_at, IsValue}
 use Rattle.csub_core.proofs.valid.calls.are_values.Given as goal
 

@@ -1,6 +1,6 @@
 use Rattle.std.proofs.Common.{◌≡◌, map, drop}
-use Rattle.csub_core.specs.Syntax.{function_tree}
-use Rattle.csub_core.specs.Flows.{function_of}
+use Rattle.csub_semantics.specs.Syntax.{function_tree}
+use Rattle.csub_semantics.specs.Flows.{function_of}
 use Rattle.csub_core.proofs.valid.calls.find_function.Given as goal
 
 -- none of the functions so far has the name

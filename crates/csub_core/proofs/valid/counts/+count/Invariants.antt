@@ -1,5 +1,5 @@
 use Rattle.std.proofs.Common.{◌≡◌, ◌+◌, sum_by, take}
-use Rattle.csub_core.specs.Syntax.{stmt_tree}
+use Rattle.csub_semantics.specs.Syntax.{stmt_tree}
 use Rattle.csub_core.specs.Checks.{count}
 use Rattle.csub_core.proofs.valid.counts.+count.Given as goal
 

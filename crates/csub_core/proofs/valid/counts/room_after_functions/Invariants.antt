@@ -1,5 +1,5 @@
 use Rattle.std.proofs.Common.{◌≡◌, ◌+◌, sum_by, take}
-use Rattle.csub_core.specs.Syntax.{function_tree}
+use Rattle.csub_semantics.specs.Syntax.{function_tree}
 use Rattle.csub_core.specs.Checks.{count_function}
 use Rattle.csub_core.proofs.valid.counts.room_after_functions.Given as goal
 

@@ -1,5 +1,5 @@
 use Rattle.std.proofs.Common.{◌≡◌, ◌+◌, sum_by, take, length}
-use Rattle.csub_core.specs.Syntax.{part_tree}
+use Rattle.csub_semantics.specs.Syntax.{part_tree}
 use Rattle.csub_core.proofs.valid.counts.room_after_parts.Given as goal
 
 abbrev pub invariant-loop-part : goal.invariant-loop-part

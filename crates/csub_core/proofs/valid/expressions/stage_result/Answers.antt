@@ -1,7 +1,7 @@
 use Rattle.std.proofs.Common.{◌≡◌, ◌<◌, ◌∙◌, suc, length, arith, ap, sym}
 use Rattle.std.specs.Option.{option_map}
-use Rattle.csub_core.specs.declared.function.RCall.{RCall}
-use Rattle.csub_core.specs.Labels.{label_tree}
+use Rattle.csub_semantics.specs.declared.function.RCall.{RCall}
+use Rattle.csub_semantics.specs.Labels.{label_tree}
 use Rattle.csub_core.proofs.ValidResults.{call_result, own_stage_result, past_result}
 use Rattle.csub_core.proofs.valid.expressions.stage_result.Goals as goal
 

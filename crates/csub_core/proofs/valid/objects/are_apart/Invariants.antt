@@ -1,6 +1,6 @@
 use Rattle.std.proofs.Common.{ℕ, ◌<◌, ◌≡◌, ◌≢◌, get_or, All}
-use Rattle.csub_core.specs.declared.types.Member.{Member}
-use Rattle.csub_core.specs.declared.function.LocalVar.{LocalVar}
+use Rattle.csub_semantics.specs.declared.types.Member.{Member}
+use Rattle.csub_semantics.specs.declared.function.LocalVar.{LocalVar}
 use Rattle.csub_core.proofs.valid.objects.are_apart.Given as goal
 
 abbrev pub invariant-loop-local : goal.invariant-loop-local

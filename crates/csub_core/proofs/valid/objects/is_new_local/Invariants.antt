@@ -1,6 +1,6 @@
 use Rattle.std.proofs.Common.{◌≡◌, ◌≢◌}
 use Rattle.std.specs.List.{AllWithin}
-use Rattle.csub_core.specs.declared.function.LocalVar.{LocalVar}
+use Rattle.csub_semantics.specs.declared.function.LocalVar.{LocalVar}
 use Rattle.csub_core.proofs.valid.objects.is_new_local.Given as goal
 
 abbrev pub invariant-loop-i : goal.invariant-loop-i

@@ -1,5 +1,5 @@
 use Rattle.std.proofs.Common.{◌≡◌, map, drop}
-use Rattle.csub_core.specs.Syntax.{local_tree}
+use Rattle.csub_semantics.specs.Syntax.{local_tree}
 use Rattle.csub_core.specs.Valid.{type_in}
 use Rattle.csub_core.proofs.valid.objects.local_type.Given as goal
 

@@ -1,5 +1,5 @@
 use Rattle.std.proofs.Common.{ap}
-use Rattle.csub_core.specs.Syntax.{local_tree}
+use Rattle.csub_semantics.specs.Syntax.{local_tree}
 use Rattle.csub_core.specs.Valid.{AreOther}
 use Rattle.csub_core.proofs.ValidLists.{new_from_pairs}
 use Rattle.csub_core.proofs.valid.objects.locals_differ.Goals as goal

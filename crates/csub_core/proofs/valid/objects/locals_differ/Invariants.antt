@@ -1,6 +1,6 @@
 use Rattle.std.proofs.Common.{ℕ, ◌<◌, get_or}
-use Rattle.csub_core.specs.declared.function.LocalVar.{LocalVar}
-use Rattle.csub_core.specs.Syntax.{local_tree}
+use Rattle.csub_semantics.specs.declared.function.LocalVar.{LocalVar}
+use Rattle.csub_semantics.specs.Syntax.{local_tree}
 use Rattle.csub_core.specs.Valid.{AreOther}
 use Rattle.csub_core.proofs.valid.objects.locals_differ.Given as goal
 

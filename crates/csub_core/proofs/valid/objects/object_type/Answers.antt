@@ -1,5 +1,5 @@
 use Rattle.std.proofs.Common.{◌∙◌, map}
-use Rattle.csub_core.specs.Syntax.{local_tree}
+use Rattle.csub_semantics.specs.Syntax.{local_tree}
 use Rattle.csub_core.proofs.ValidObjects.{found_first, found_later}
 use Rattle.csub_core.proofs.valid.objects.object_type.Goals as goal
 

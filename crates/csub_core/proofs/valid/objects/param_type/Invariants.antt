@@ -1,5 +1,5 @@
 use Rattle.std.proofs.Common.{◌≡◌, map, drop}
-use Rattle.csub_core.specs.Types.{member_tree}
+use Rattle.csub_semantics.specs.Types.{member_tree}
 use Rattle.csub_core.specs.Valid.{parameter_object, type_in}
 use Rattle.csub_core.proofs.valid.objects.param_type.Given as goal
 

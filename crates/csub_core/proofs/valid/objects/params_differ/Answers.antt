@@ -1,5 +1,5 @@
 use Rattle.std.proofs.Common.{◌≢◌}
-use Rattle.csub_core.specs.declared.types.Member.{Member}
+use Rattle.csub_semantics.specs.declared.types.Member.{Member}
 use Rattle.csub_core.proofs.ValidLists.{new_from_pairs}
 use Rattle.csub_core.proofs.valid.objects.params_differ.Goals as goal
 

@@ -1,5 +1,5 @@
 use Rattle.std.proofs.Common.{ℕ, ◌<◌, ◌≢◌, get_or}
-use Rattle.csub_core.specs.declared.types.Member.{Member}
+use Rattle.csub_semantics.specs.declared.types.Member.{Member}
 use Rattle.csub_core.proofs.valid.objects.params_differ.Given as goal
 
 abbrev pub invariant-loop-i : goal.invariant-loop-i

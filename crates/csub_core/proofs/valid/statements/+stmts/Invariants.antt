@@ -1,6 +1,6 @@
 use Rattle.std.proofs.Common.{ℕ, ◌<◌, map, get_or}
-use Rattle.csub_core.specs.declared.function.RStmt.{RStmt}
-use Rattle.csub_core.specs.Syntax.{stmt_tree, function_tree}
+use Rattle.csub_semantics.specs.declared.function.RStmt.{RStmt}
+use Rattle.csub_semantics.specs.Syntax.{stmt_tree, function_tree}
 use Rattle.csub_core.specs.Valid.{IsStmt}
 use Rattle.csub_core.proofs.valid.statements.+stmts.Given as goal
 

@@ -1,5 +1,5 @@
 use Rattle.std.proofs.Common.{map}
-use Rattle.csub_core.specs.Syntax.{function_tree}
+use Rattle.csub_semantics.specs.Syntax.{function_tree}
 use Rattle.csub_core.proofs.ValidStmts.{effects_of_map}
 use Rattle.csub_core.proofs.valid.statements.are_effects.Goals as goal
 

@@ -1,6 +1,6 @@
 use Rattle.std.proofs.Common.{ℕ, ◌<◌, map, get_or}
-use Rattle.csub_core.specs.declared.function.RPart.{RPart}
-use Rattle.csub_core.specs.Syntax.{part_tree, function_tree}
+use Rattle.csub_semantics.specs.declared.function.RPart.{RPart}
+use Rattle.csub_semantics.specs.Syntax.{part_tree, function_tree}
 use Rattle.csub_core.specs.Valid.{IsPart}
 use Rattle.csub_core.proofs.valid.statements.are_parts.Given as goal
 

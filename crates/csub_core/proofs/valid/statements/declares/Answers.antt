@@ -1,6 +1,6 @@
 use Rattle.std.proofs.Common.{◌∙◌}
 use Rattle.std.specs.Option.{option_map}
-use Rattle.csub_core.specs.Labels.{label_tree}
+use Rattle.csub_semantics.specs.Labels.{label_tree}
 use Rattle.csub_core.proofs.ValidStmts.{declares_own}
 use Rattle.csub_core.proofs.valid.statements.declares.Goals as goal
 

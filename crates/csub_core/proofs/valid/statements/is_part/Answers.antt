@@ -1,7 +1,7 @@
 use Rattle.std.proofs.Common.{map}
 use Rattle.std.specs.Option.{option_map}
-use Rattle.csub_core.specs.Labels.{label_tree}
-use Rattle.csub_core.specs.Syntax.{part_tree, function_tree}
+use Rattle.csub_semantics.specs.Labels.{label_tree}
+use Rattle.csub_semantics.specs.Syntax.{part_tree, function_tree}
 use Rattle.csub_core.specs.Valid.{scope_of}
 use Rattle.csub_core.proofs.ValidParts.{AreStages-split}
 use Rattle.csub_core.proofs.valid.statements.is_part.Goals as goal

@@ -1,5 +1,5 @@
 use Rattle.std.proofs.Common.{◌≡◌, rules}
-use Rattle.csub_core.specs.Labels.{label_tree}
+use Rattle.csub_semantics.specs.Labels.{label_tree}
 use Rattle.edge_label.specs.Codes.{point_code}
 use Rattle.edge_label.specs.Numbers.{bare}
 use Rattle.edge_label.proofs.BookLemmas.{IsInterned, interned, keeps, grows}

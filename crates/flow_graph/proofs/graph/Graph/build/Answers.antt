@@ -1,6 +1,6 @@
 use Rattle.std.proofs.Common.{◌∙◌, ap, map, length, arith}
 use Rattle.std.specs.List.{sum_by}
-use Rattle.csub_core.specs.Syntax.{function_tree}
+use Rattle.csub_semantics.specs.Syntax.{function_tree}
 use Rattle.flow_graph.specs.Numbers.{count_program, program_numbered, functions_numbered}
 use Rattle.flow_graph.specs.Graph.{way_count, firsts_of, sources_of}
 use Rattle.flow_graph.proofs.Whole.{is_graph, is_closed, program_points}

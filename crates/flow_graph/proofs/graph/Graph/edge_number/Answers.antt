@@ -1,9 +1,9 @@
 use Rattle.std.proofs.Common.{◌≡◌, ◌∙◌, ◌<◌, ◌+◌, ap, sym, subst, refl, None, length, rules, arith}
 use Rattle.std.specs.Vec.{vec_len}
 use Rattle.std.specs.List.{slice_get, find}
-use Rattle.csub_core.specs.Points.{exit_tree, exit_eq}
-use Rattle.csub_core.specs.Flows.{flow_of, Edge}
-use Rattle.csub_core.specs.Numbers.{site}
+use Rattle.csub_semantics.specs.Points.{exit_tree, exit_eq}
+use Rattle.csub_semantics.specs.Flows.{flow_of, Edge}
+use Rattle.csub_semantics.specs.Numbers.{site}
 use Rattle.flow_graph.specs.Graph.{point_count, edge_count, way_count}
 use Rattle.flow_graph.proofs.EdgePlaces.{firsts-length}
 use Rattle.flow_graph.proofs.Looked.{read_point, read_first, first_within, follow_looked, number_looked, some_at, none_made}

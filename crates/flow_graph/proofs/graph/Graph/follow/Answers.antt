@@ -1,7 +1,7 @@
 use Rattle.std.proofs.Common.{◌∙◌, ap, sym, None, Some, get_or}
 use Rattle.std.specs.List.{find}
 use Rattle.std.proofs.lemmas.Option.{slice_get-get_or}
-use Rattle.csub_core.specs.Points.{exit_tree, exit_eq}
+use Rattle.csub_semantics.specs.Points.{exit_tree, exit_eq}
 use Rattle.flow_graph.proofs.Looked.{read_point, follow_looked}
 use Rattle.flow_graph.proofs.graph.Graph.follow.Goals as goal
 

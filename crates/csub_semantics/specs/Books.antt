@@ -1,10 +1,10 @@
 -- Walking two programs together: books of facts, reached pairs and dangerous edges (Rothermel and Harrold, ACM TOSEM
 -- 6(2), 1997), and claims that are closed.
 use Rattle.std.specs.Prelude.{ℕ, ◌≡◌, ◌⊎◌, List, Some, slice_get, take}
-use Rattle.csub_core.specs.Types.{Name}
-use Rattle.csub_core.specs.Labels.{CallTree, calls, PointLabel}
-use Rattle.csub_core.specs.Points.{PointTree, entry, exit, ExitTree, next}
-use Rattle.csub_core.specs.Flows.{Flow, Edge, start_name}
+use Rattle.csub_semantics.specs.Types.{Name}
+use Rattle.csub_semantics.specs.Labels.{CallTree, calls, PointLabel}
+use Rattle.csub_semantics.specs.Points.{PointTree, entry, exit, ExitTree, next}
+use Rattle.csub_semantics.specs.Flows.{Flow, Edge, start_name}
 
 -- a fact: a point of a function in the old program and a point of the function of that name in the new one
 pub record Fact : Type 0 where

@@ -2,14 +2,14 @@
 use Rattle.std.specs.Prelude.{ℕ, zero, suc, ◌+◌, ℤ, List, [], ◌∷◌, Option, Some, None, length, if◌then◌else◌}
 use Rattle.std.specs.List.{list_any}
 use Rattle.std.specs.Ordering.{int_eq}
-use Rattle.csub_core.specs.declared.status.Status.{Status}
-use Rattle.csub_core.specs.declared.status.Status.TheVariants.{Turns}
-use Rattle.csub_core.specs.Types.{Name}
-use Rattle.csub_core.specs.Labels.{LabelTree, enters, exits, evaluates, initialises, branches, returns, calls, PointLabel}
-use Rattle.csub_core.specs.Points.{PointTree, entry, ExitTree, next, on_case, on_default}
-use Rattle.csub_core.specs.Flows.{Flow, Edge, start_name}
-use Rattle.csub_core.specs.Cells.{Cells, Inner, Root, global_root, local_root, temp_root, Content, number, written}
-use Rattle.csub_core.specs.Acts.{Store, Outcome, leaves, gives, pushes, pops, ends, act}
+use Rattle.csub_semantics.specs.declared.status.Status.{Status}
+use Rattle.csub_semantics.specs.declared.status.Status.TheVariants.{Turns}
+use Rattle.csub_semantics.specs.Types.{Name}
+use Rattle.csub_semantics.specs.Labels.{LabelTree, enters, exits, evaluates, initialises, branches, returns, calls, PointLabel}
+use Rattle.csub_semantics.specs.Points.{PointTree, entry, ExitTree, next, on_case, on_default}
+use Rattle.csub_semantics.specs.Flows.{Flow, Edge, start_name}
+use Rattle.csub_semantics.specs.Cells.{Cells, Inner, Root, global_root, local_root, temp_root, Content, number, written}
+use Rattle.csub_semantics.specs.Acts.{Store, Outcome, leaves, gives, pushes, pops, ends, act}
 
 -- a frame: its function, its point, and what the function returned, if it did
 pub record Frame : Type 0 where

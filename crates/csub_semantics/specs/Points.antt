@@ -2,10 +2,10 @@
 use Rattle.std.specs.Prelude.{ℕ, ℤ, List, Bool, true, false, ◌&&◌, nat_eq}
 use Rattle.std.specs.Ordering.{int_eq}
 use Rattle.std.specs.Cmp.Lexicographic.{pointwise}
-use Rattle.csub_core.specs.declared.point.Point.{Point}
-use Rattle.csub_core.specs.declared.point.Point.TheVariants.{Entry, Exit, At}
-use Rattle.csub_core.specs.declared.label.ExitLabel.{ExitLabel}
-use Rattle.csub_core.specs.declared.label.ExitLabel.TheVariants.{Next, True, False, Case, Default}
+use Rattle.csub_semantics.specs.declared.point.Point.{Point}
+use Rattle.csub_semantics.specs.declared.point.Point.TheVariants.{Entry, Exit, At}
+use Rattle.csub_semantics.specs.declared.label.ExitLabel.{ExitLabel}
+use Rattle.csub_semantics.specs.declared.label.ExitLabel.TheVariants.{Next, True, False, Case, Default}
 
 -- a point: a function's entry, its exit, or a stage of a part of the statement at a path in its body
 pub data PointTree : Type 0 where

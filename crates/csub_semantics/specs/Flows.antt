@@ -5,13 +5,13 @@ use Rattle.std.specs.List.{flat_map}
 use Rattle.std.specs.Cmp.Lexicographic.{pointwise}
 use Rattle.std.specs.Prelude.{nat_eq}
 use Rattle.csub_types.specs.declared.kind.IntKind.{IntKind}
-use Rattle.csub_core.specs.declared.label.EndRule.{EndRule}
-use Rattle.csub_core.specs.declared.label.EndRule.TheVariants.{Nothing, Value, Main, Start}
-use Rattle.csub_core.specs.Types.{Name}
-use Rattle.csub_core.specs.Labels.{enters, exits, PointLabel}
-use Rattle.csub_core.specs.Syntax.{FunctionTree, ProgramTree}
-use Rattle.csub_core.specs.Points.{PointTree, entry, exit, at, point_eq, ExitTree, next, exit_eq, on_default}
-use Rattle.csub_core.specs.Successors.{Way, Node, Around, way, enter_list, nodes_list}
+use Rattle.csub_semantics.specs.declared.label.EndRule.{EndRule}
+use Rattle.csub_semantics.specs.declared.label.EndRule.TheVariants.{Nothing, Value, Main, Start}
+use Rattle.csub_semantics.specs.Types.{Name}
+use Rattle.csub_semantics.specs.Labels.{enters, exits, PointLabel}
+use Rattle.csub_semantics.specs.Syntax.{FunctionTree, ProgramTree}
+use Rattle.csub_semantics.specs.Points.{PointTree, entry, exit, at, point_eq, ExitTree, next, exit_eq, on_default}
+use Rattle.csub_semantics.specs.Successors.{Way, Node, Around, way, enter_list, nodes_list}
 
 abbrev pub name_eq : Name → Name → Bool
 name_eq a b = pointwise nat_eq a b

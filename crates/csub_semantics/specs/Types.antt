@@ -1,9 +1,9 @@
 -- Types of objects as values: what a type of the program stands for, without the places of its parts in memory.
 use Rattle.std.specs.Prelude.{ℕ, List}
 use Rattle.csub_types.specs.declared.kind.IntKind.{IntKind}
-use Rattle.csub_core.specs.declared.types.Member.{Member}
-use Rattle.csub_core.specs.declared.types.CType.{CType}
-use Rattle.csub_core.specs.declared.types.CType.TheVariants.{Num}
+use Rattle.csub_semantics.specs.declared.types.Member.{Member}
+use Rattle.csub_semantics.specs.declared.types.CType.{CType}
+use Rattle.csub_semantics.specs.declared.types.CType.TheVariants.{Num}
 
 -- a name, as its bytes
 abbrev pub Name : Type 0

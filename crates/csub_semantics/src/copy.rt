@@ -1,8 +1,8 @@
 //! Copies of labels.
 ghost use Rattle.std.specs.Prelude.{◌≡◌, IfOk, map};
-ghost use Rattle.csub_core.specs.Types.{member_tree, type_tree};
-ghost use Rattle.csub_core.specs.Trees.{owner_tree, place_tree, expr_tree, arg_tree};
-ghost use Rattle.csub_core.specs.Labels.{answer_tree, call_tree, init_tree, label_tree};
+ghost use Rattle.csub_semantics.specs.Types.{member_tree, type_tree};
+ghost use Rattle.csub_semantics.specs.Trees.{owner_tree, place_tree, expr_tree, arg_tree};
+ghost use Rattle.csub_semantics.specs.Labels.{answer_tree, call_tree, init_tree, label_tree};
 
 use crate::expression::{Owner, Place, RArg, RExpr};
 use crate::label::{Answer, CallLabel, Label, RInit};

@@ -1,9 +1,9 @@
 -- The memory of named cells.
 use Rattle.std.specs.Prelude.{ℕ, ℤ, List, [], ◌∷◌, ◌++◌, Bool, true, false, ◌&&◌, Option, Some, None, nat_eq, if◌then◌else◌}
-use Rattle.csub_core.specs.Types.{Name, TypeTree, number_type, number_kind, MemberTree}
-use Rattle.csub_core.specs.Trees.{global_owner, local_owner, Variable, object, temporary}
-use Rattle.csub_core.specs.Flows.{name_eq}
-use Rattle.csub_core.specs.Memory.{Memory}
+use Rattle.csub_semantics.specs.Types.{Name, TypeTree, number_type, number_kind, MemberTree}
+use Rattle.csub_semantics.specs.Trees.{global_owner, local_owner, Variable, object, temporary}
+use Rattle.csub_semantics.specs.Flows.{name_eq}
+use Rattle.csub_semantics.specs.Memory.{Memory}
 
 -- whose cells: a global's, or an object's or a temporary's of the frame at a height (the lowest frame has height 0)
 pub data Root : Type 0 where

@@ -5,17 +5,17 @@ use Rattle.std.specs.Ordering.{int_eq}
 use Rattle.csub_types.specs.declared.kind.IntKind.TheVariants.{Int}
 use Rattle.csub_types.specs.declared.trap.Trap.TheVariants.{Depth, Missing}
 use Rattle.csub_types.specs.Kinds.{convert}
-use Rattle.csub_core.specs.declared.label.EndRule.{EndRule}
-use Rattle.csub_core.specs.declared.label.EndRule.TheVariants.{Nothing, Value, Main, Start}
-use Rattle.csub_core.specs.declared.status.Status.{Status}
-use Rattle.csub_core.specs.declared.status.Status.TheVariants.{Exit, Trap}
-use Rattle.csub_core.specs.Types.{Name, TypeTree, number_kind, MemberTree}
-use Rattle.csub_core.specs.Trees.{NamedArg, value_argument, reading, assignment, variable, object, temporary, OwnerTree}
-use Rattle.csub_core.specs.Labels.{LabelTree, enters, exits, evaluates, initialises, branches, returns, calls, AnswerTree, CallTree, InitTree, one_value}
-use Rattle.csub_core.specs.Points.{ExitTree, next, on_true, on_false}
-use Rattle.csub_core.specs.Memory.{State, Answer, value, trapped, then_do, low_byte}
-use Rattle.csub_core.specs.Evaluation.{eval}
-use Rattle.csub_core.specs.Cells.{Cells, Content, number, named, dropped, entered}
+use Rattle.csub_semantics.specs.declared.label.EndRule.{EndRule}
+use Rattle.csub_semantics.specs.declared.label.EndRule.TheVariants.{Nothing, Value, Main, Start}
+use Rattle.csub_semantics.specs.declared.status.Status.{Status}
+use Rattle.csub_semantics.specs.declared.status.Status.TheVariants.{Exit, Trap}
+use Rattle.csub_semantics.specs.Types.{Name, TypeTree, number_kind, MemberTree}
+use Rattle.csub_semantics.specs.Trees.{NamedArg, value_argument, reading, assignment, variable, object, temporary, OwnerTree}
+use Rattle.csub_semantics.specs.Labels.{LabelTree, enters, exits, evaluates, initialises, branches, returns, calls, AnswerTree, CallTree, InitTree, one_value}
+use Rattle.csub_semantics.specs.Points.{ExitTree, next, on_true, on_false}
+use Rattle.csub_semantics.specs.Memory.{State, Answer, value, trapped, then_do, low_byte}
+use Rattle.csub_semantics.specs.Evaluation.{eval}
+use Rattle.csub_semantics.specs.Cells.{Cells, Content, number, named, dropped, entered}
 
 -- input left, output so far and named cells
 abbrev pub Store : Type 0

@@ -2,8 +2,8 @@
 use Rattle.std.proofs.Common.{◌≡◌, map, refl, ap, rules}
 use Rattle.std.specs.declared.vec.Vec.{Vec}
 use Rattle.std.specs.declared.alloc.Global.{Global}
-use Rattle.csub_core.specs.declared.function.RStmt.{RStmt, Block, Row_of-RStmt, end_of-RStmt, more_of-RStmt, items-the_row-RStmt, the_lemmas}
-use Rattle.csub_core.specs.Syntax.{block, more_stmts, stmt_tree, row_trees, stmts_of}
+use Rattle.csub_semantics.specs.declared.function.RStmt.{RStmt, Block, Row_of-RStmt, end_of-RStmt, more_of-RStmt, items-the_row-RStmt, the_lemmas}
+use Rattle.csub_semantics.specs.Syntax.{block, more_stmts, stmt_tree, row_trees, stmts_of}
 
 pub row_trees-list : {m : _} (row : Row_of-RStmt m) → row_trees row ≡ stmts_of (map stmt_tree (items-the_row-RStmt m row))
 row_trees-list end_of-RStmt = refl

@@ -6,14 +6,14 @@ use Rattle.csub_text.specs.declared.operator.BinOp.{BinOp}
 use Rattle.csub_text.specs.declared.operator.UnaryOp.{UnaryOp}
 use Rattle.csub_text.specs.declared.operator.StepOp.{StepOp}
 use Rattle.csub_types.specs.declared.kind.IntKind.{IntKind}
-use Rattle.csub_core.specs.Types.{Name, TypeTree, type_tree}
-use Rattle.csub_core.specs.declared.expression.Owner.{Owner}
-use Rattle.csub_core.specs.declared.expression.Owner.TheVariants.{Global, Local}
-use Rattle.csub_core.specs.declared.expression.Place.{Place}
-use Rattle.csub_core.specs.declared.expression.Place.TheVariants.{Var}
-use Rattle.csub_core.specs.declared.expression.RArg.{RArg}
-use Rattle.csub_core.specs.declared.expression.RArg.TheVariants.{Value}
-use Rattle.csub_core.specs.declared.expression.RExpr.{RExpr, Const, Read, Temp, Unary', Cast', Step, Binary', And', Or', Choose', Assign', Update', Getchar, Putchar'}
+use Rattle.csub_semantics.specs.Types.{Name, TypeTree, type_tree}
+use Rattle.csub_semantics.specs.declared.expression.Owner.{Owner}
+use Rattle.csub_semantics.specs.declared.expression.Owner.TheVariants.{Global, Local}
+use Rattle.csub_semantics.specs.declared.expression.Place.{Place}
+use Rattle.csub_semantics.specs.declared.expression.Place.TheVariants.{Var}
+use Rattle.csub_semantics.specs.declared.expression.RArg.{RArg}
+use Rattle.csub_semantics.specs.declared.expression.RArg.TheVariants.{Value}
+use Rattle.csub_semantics.specs.declared.expression.RExpr.{RExpr, Const, Read, Temp, Unary', Cast', Step, Binary', And', Or', Choose', Assign', Update', Getchar, Putchar'}
 
 -- a place that holds a number (an lvalue, C11 6.3.2.1)
 pub data PlaceTree (V I M : Type 0) : Type 0 where

@@ -2,10 +2,10 @@
 use Rattle.std.specs.Prelude.{ℕ, ◌≡◌, List, Option, Some, slice_get}
 use Rattle.std.specs.Option.{option_map}
 use Rattle.std.specs.List.{Contains}
-use Rattle.csub_core.specs.Types.{Name}
-use Rattle.csub_core.specs.Syntax.{FunctionTree, ProgramTree}
-use Rattle.csub_core.specs.Points.{PointTree}
-use Rattle.csub_core.specs.Flows.{PlacedNode, point_list, Edge, edge_list}
+use Rattle.csub_semantics.specs.Types.{Name}
+use Rattle.csub_semantics.specs.Syntax.{FunctionTree, ProgramTree}
+use Rattle.csub_semantics.specs.Points.{PointTree}
+use Rattle.csub_semantics.specs.Flows.{PlacedNode, point_list, Edge, edge_list}
 
 -- a point of a program: the name of its function, and the point there
 pub record Site : Type 0 where

@@ -2,15 +2,15 @@
 use Rattle.std.specs.Prelude.{ℕ, ℤ, List, map, Option}
 use Rattle.std.specs.Option.{option_map}
 use Rattle.csub_types.specs.declared.kind.IntKind.{IntKind}
-use Rattle.csub_core.specs.Types.{Name, TypeTree, type_tree, MemberTree, member_tree}
-use Rattle.csub_core.specs.Trees.{OwnerTree, NamedExpr, NamedArg, owner_tree, expr_tree, arg_tree}
-use Rattle.csub_core.specs.declared.label.EndRule.{EndRule}
-use Rattle.csub_core.specs.declared.label.Answer.{Answer}
-use Rattle.csub_core.specs.declared.label.CallLabel.{CallLabel}
-use Rattle.csub_core.specs.declared.label.RInit.{RInit}
-use Rattle.csub_core.specs.declared.label.RInit.TheVariants.{One}
-use Rattle.csub_core.specs.declared.label.Label.{Label}
-use Rattle.csub_core.specs.declared.label.Label.TheVariants.{Entry, Exit, Eval, Init, Branch, Return, Call}
+use Rattle.csub_semantics.specs.Types.{Name, TypeTree, type_tree, MemberTree, member_tree}
+use Rattle.csub_semantics.specs.Trees.{OwnerTree, NamedExpr, NamedArg, owner_tree, expr_tree, arg_tree}
+use Rattle.csub_semantics.specs.declared.label.EndRule.{EndRule}
+use Rattle.csub_semantics.specs.declared.label.Answer.{Answer}
+use Rattle.csub_semantics.specs.declared.label.CallLabel.{CallLabel}
+use Rattle.csub_semantics.specs.declared.label.RInit.{RInit}
+use Rattle.csub_semantics.specs.declared.label.RInit.TheVariants.{One}
+use Rattle.csub_semantics.specs.declared.label.Label.{Label}
+use Rattle.csub_semantics.specs.declared.label.Label.TheVariants.{Entry, Exit, Eval, Init, Branch, Return, Call}
 
 -- a returned value with the function's result type, to which it is converted (C11 6.8.6.4)
 pub record AnswerTree : Type 0 where

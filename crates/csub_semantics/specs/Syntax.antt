@@ -3,13 +3,13 @@ use Rattle.std.specs.Prelude.{ℕ, List, [], ◌∷◌, ◌++◌, map, Option, S
 use Rattle.std.specs.Option.{option_map}
 use Rattle.csub_text.specs.declared.span.Span.{Span}
 use Rattle.csub_types.specs.declared.kind.IntKind.{IntKind}
-use Rattle.csub_core.specs.Types.{Name, TypeTree, type_tree, MemberTree, member_tree}
-use Rattle.csub_core.specs.Labels.{LabelTree, calls, label_tree, call_tree}
-use Rattle.csub_core.specs.declared.function.RCall.{RCall}
-use Rattle.csub_core.specs.declared.function.RPart.{RPart}
-use Rattle.csub_core.specs.declared.function.RStmt.{RStmt, Parts, Block', If', While', Do', For', Break, Continue, Row_of-RStmt, end_of-RStmt, more_of-RStmt, Held-RStmt-If-2, None', Some'}
-use Rattle.csub_core.specs.declared.function.LocalVar.{LocalVar}
-use Rattle.csub_core.specs.declared.function.Function.{Function}
+use Rattle.csub_semantics.specs.Types.{Name, TypeTree, type_tree, MemberTree, member_tree}
+use Rattle.csub_semantics.specs.Labels.{LabelTree, calls, label_tree, call_tree}
+use Rattle.csub_semantics.specs.declared.function.RCall.{RCall}
+use Rattle.csub_semantics.specs.declared.function.RPart.{RPart}
+use Rattle.csub_semantics.specs.declared.function.RStmt.{RStmt, Parts, Block', If', While', Do', For', Break, Continue, Row_of-RStmt, end_of-RStmt, more_of-RStmt, Held-RStmt-If-2, None', Some'}
+use Rattle.csub_semantics.specs.declared.function.LocalVar.{LocalVar}
+use Rattle.csub_semantics.specs.declared.function.Function.{Function}
 
 -- one stage of a part: a call or the part's own point, with the place in the source that is named for it
 pub record Stage : Type 0 where

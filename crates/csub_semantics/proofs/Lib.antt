@@ -1,0 +1,2 @@
+pub mod StmtRows
+pub mod Threads

@@ -1,0 +1,14 @@
+pub mod Types
+pub mod Trees
+pub mod Labels
+pub mod Syntax
+pub mod Points
+pub mod Successors
+pub mod Flows
+pub mod Numbers
+pub mod Memory
+pub mod Evaluation
+pub mod Cells
+pub mod Acts
+pub mod Runs
+pub mod Books

@@ -1,0 +1,28 @@
+//! What a resolved program is and does: the definitions that every promise is stated with.
+//!
+//! `specs/` says it in this order: types, resolved expressions, labels and statements as values (`Types`, `Trees`,
+//! `Labels`, `Syntax`); points by places in the syntax and where they lead (`Points`, `Successors`, `Flows`);
+//! evaluation over any memory, and over named cells (`Memory`, `Evaluation`, `Cells`); the act of a label (`Acts`);
+//! turns and runs (`Runs`); numbers of functions, points and edges (`Numbers`); the walk of two programs together
+//! (`Books`). Which programs are valid stands in `csub_core`.
+//!
+//! What is promised of the code: the copies of [`copy`] are equal to what they copy.
+#![tactic(auto)]
+
+pub mod copy;
+pub mod expression;
+pub mod function;
+pub mod label;
+pub mod point;
+pub mod status;
+pub mod types;
+
+pub use copy::{copy_call, copy_label};
+pub use csub_text::{BinOp, Span, StepOp, Text, UnaryOp};
+pub use csub_types::{IntKind, Trap};
+pub use expression::{Owner, Piece, Place, RArg, RExpr};
+pub use function::{Function, LocalVar, RCall, RPart, RStmt};
+pub use label::{Answer, CallLabel, EndRule, ExitLabel, Label, RInit};
+pub use point::{Point, PointPath};
+pub use status::Status;
+pub use types::{CType, Member};
