@@ -15,8 +15,6 @@ mod division;
 pub mod kind;
 mod settle;
 mod shift;
-#[cfg(test)]
-mod tests;
 pub mod trap;
 
 pub use arithmetic::{binary, truth, unary};

@@ -1,13 +1,11 @@
 //! Expressions of C with the values that the standard and this language's choices give them.
-use crate::arithmetic::{binary, truth, unary};
-use crate::kind::IntKind::{Char, Int, Unsigned};
-use crate::kind::{IntKind, common, convert, promote};
-use crate::trap::Trap;
 use csub_text::BinOp::{
     Add, BitAnd, BitOr, BitXor, Div, Eq, Ge, Gt, Le, Lt, Mul, Ne, Rem, Shl, Shr, Sub,
 };
 use csub_text::UnaryOp::{Flip, Minus, Not, Plus};
 use csub_text::{BinOp, UnaryOp};
+use csub_types::IntKind::{Char, Int, Unsigned};
+use csub_types::{IntKind, Trap, binary, common, convert, promote, truth, unary};
 
 /// A number and its kind.
 type Operand = (IntKind, i64);
