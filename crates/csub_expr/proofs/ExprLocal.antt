@@ -20,8 +20,8 @@ use Rattle.csub_expr.specs.Looks.{begins, begins_key, rest, head_span, op_at, as
 use Rattle.csub_expr.specs.Answers.{Answer, ◌>>=◌, done, refuse, expect, expect_name}
 use Rattle.csub_expr.specs.ListDescent.{separated, never}
 use Rattle.csub_expr.specs.ExprDescent.{read, joins, is_unary, number_at, paren_at, cast_at, call_at, name_at, word_of, word_at, tail_of, behind_by, behind, open_at, unary_by, unary_at, more_by, more, chain_at, choice_at, cond_at, assign_by, assign_at}
-use Rattle.csub_expr.proofs.Local.{Local, SameAtHead, local_bind, local_done, local_refuse, local_rest, local_at, local_if, local_choice, local_token, local_first, local_expect, local_name, same_begins, same_begins_key, same_begins_number, same_op, same_assignment, same_prefix, same_tail}
-use Rattle.csub_expr.proofs.Series.{local_separated}
+use Rattle.csub_expr.proofs.LawsLocal.{Local, SameAtHead, local_bind, local_done, local_refuse, local_rest, local_at, local_if, local_choice, local_token, local_first, local_expect, local_name, same_begins, same_begins_key, same_begins_number, same_op, same_assignment, same_prefix, same_tail}
+use Rattle.csub_expr.proofs.LawsLists.{local_separated}
 use Rattle.csub_expr.proofs.ExprSound.{shorter}
 
 local_type : (t : TypeName) → Local TypeName (λ ts. done t (rest ts))

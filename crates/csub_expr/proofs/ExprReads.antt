@@ -10,32 +10,17 @@ use Rattle.csub_lex.specs.declared.token.Token.{Token}
 use Rattle.csub_tree.specs.Expressions.{Expr}
 use Rattle.csub_tree.specs.Depth.{expr_depth}
 use Rattle.csub_tree.specs.Tokens.{mark}
-use Rattle.csub_tree.specs.SpellsExpressions.{Rank, assignment, conditional, binary, postfix, primary, Operator, operator_of, assignment_of, postfix_of, loosest}
+use Rattle.csub_tree.specs.SpellsExpressions.{Rank, assignment, conditional, binary, postfix, primary, Operator, operator_of, assignment_of, postfix_of}
 use Rattle.csub_expr.specs.declared.operator.Tail.{Tail}
 use Rattle.csub_expr.specs.declared.operator.Tail.TheVariants as tails
 use Rattle.csub_expr.specs.Looks.{begins, rest, head_span, same_mark, op_at, of_level, assignment_at, tail_at, tail_of}
+use Rattle.csub_expr.specs.Laws.{Ends}
 use Rattle.csub_expr.specs.Answers.{Answer, ◌>>=◌}
 use Rattle.csub_expr.specs.ExprDescent.{read, paren_at, word_at, behind_by, behind, more_by, more}
 
 rest_of : (t : Token) (ts : List Token) → rest (t ∷ ts) ≡ ts
 unfolding rest
 rest_of t ts = refl
-
--- no operator of a level below k comes
-abbrev pub NoOps : ℕ → List Token → Type 0
-NoOps k r = (j : ℕ) → j < k → op_at j r ≡ None
-
--- what comes makes no postfix expression longer
-abbrev pub Shut : List Token → Type 0
-Shut r = (tail_at r ≡ None) × (begins marks.OpenParen r ≡ false)
-
--- what comes doesn't continue the node
-abbrev pub Ends : Rank → List Token → Type 0
-Ends primary r = Shut r
-Ends postfix r = Shut r
-Ends (binary k) r = Shut r × NoOps k r
-Ends conditional r = Shut r × NoOps loosest r × (begins marks.Question r ≡ false)
-Ends assignment r = Shut r × NoOps loosest r × (begins marks.Question r ≡ false) × (assignment_at r ≡ None)
 
 -- marks that end every expression
 pub record Closing (m : Mark) : Type 0 where

@@ -18,15 +18,16 @@ use Rattle.csub_expr.specs.Answers.{Answer, ◌>>=◌, done, refuse, expect}
 use Rattle.csub_expr.specs.ListDescent.{separated}
 use Rattle.csub_expr.specs.ExprDescent.{read}
 use Rattle.csub_expr.specs.InitDescent.{read_init, init_at, listed_at}
-use Rattle.csub_expr.proofs.Runs.{last_token}
-use Rattle.csub_expr.proofs.Answered.{bind_ok, ok_value, ok_rest, chosen}
+use Rattle.csub_expr.proofs.LawsTokens.{last_token}
+use Rattle.csub_expr.proofs.LawsAnswers.{bind_ok, ok_value, ok_rest, chosen}
 use Rattle.csub_expr.proofs.Taken.{begins_is, expect_is}
-use Rattle.csub_expr.proofs.Local.{Local, local_bind, local_done, local_refuse, local_if, local_choice, local_token, local_expect, same_begins}
-use Rattle.csub_expr.proofs.Series.{separated_sound, separated_last, separated_next, separated_trailing, local_separated}
+use Rattle.csub_expr.proofs.LawsLocal.{Local, local_bind, local_done, local_refuse, local_if, local_choice, local_token, local_expect, same_begins}
+use Rattle.csub_expr.proofs.LawsLists.{separated_sound, separated_last, separated_next, separated_trailing, local_separated}
 use Rattle.csub_expr.proofs.Spelled.{depth_pos, nonempty, lead, lead_no_mark}
 use Rattle.csub_expr.proofs.ExprSound.{sound}
 use Rattle.csub_expr.proofs.ExprLocal.{local_read}
-use Rattle.csub_expr.proofs.ExprReads.{Ends, Closing, ends_at}
+use Rattle.csub_expr.specs.Laws.{Ends}
+use Rattle.csub_expr.proofs.ExprReads.{Closing, ends_at}
 use Rattle.csub_expr.proofs.ExprComplete.{complete}
 
 pub init_nonempty : {i : Init} {s : List Token} → SpellsInit i s → 0 < length s

@@ -1,16 +1,16 @@
-pub mod Runs
-pub mod Answered
-pub mod SameWords
-pub mod Taken
-pub mod Local
-pub mod Series
-pub mod Spelled
-pub mod ExprSound
-pub mod ExprLocal
-pub mod ExprReads
-pub mod UnaryComplete
-pub mod ChainComplete
-pub mod ExprComplete
-pub mod Unrolled
-pub mod InitLaws
-pub mod Repeats
+pub mod LawsTokens
+pub mod LawsAnswers
+pub mod LawsLocal
+pub mod LawsLists
+pub mod LawsExpressions
+mod SameWords
+mod Taken
+mod Spelled
+mod ExprSound
+mod ExprLocal
+mod ExprReads
+mod UnaryComplete
+mod ChainComplete
+mod ExprComplete
+mod Unrolled
+mod InitLaws

@@ -13,8 +13,8 @@ use Rattle.csub_tree.specs.SpellsExpressions.{Rank, SpellsExpr, no_assignment, a
 use Rattle.csub_expr.specs.Looks.{begins, begins_key, same_mark, begins_number}
 use Rattle.csub_expr.specs.ExprDescent.{is_unary}
 use Rattle.csub_expr.proofs.SameWords.{same_mark_is}
-use Rattle.csub_expr.proofs.Answered.{not_true}
-use Rattle.csub_expr.proofs.Runs.{nonempty_append}
+use Rattle.csub_expr.proofs.LawsAnswers.{not_true}
+use Rattle.csub_expr.proofs.LawsTokens.{nonempty_append}
 
 pub depth_pos : (e : Expr) → 0 < expr_depth e
 depth_pos (Node k s) = omega arith

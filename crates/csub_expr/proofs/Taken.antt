@@ -22,7 +22,7 @@ use Rattle.csub_expr.specs.declared.operator.Tail.TheVariants as tails
 use Rattle.csub_expr.specs.Looks.{begins, begins_key, rest, head_span, same_mark, same_key, of_mark, of_key, of_level, op_at, assignment_at, prefix_at, tail_at, tail_of}
 use Rattle.csub_expr.specs.Answers.{done, expect, expect_name, name_of}
 use Rattle.csub_expr.specs.ExprDescent.{number_at}
-use Rattle.csub_expr.proofs.Answered.{chosen, ok_rest, ok_value}
+use Rattle.csub_expr.proofs.LawsAnswers.{chosen, ok_rest, ok_value}
 use Rattle.csub_expr.proofs.SameWords.{same_key_is, same_mark_is}
 
 -- the token that answers a question about marks, or about keywords, is one

@@ -1,8 +1,7 @@
 -- The descent at a budget above 0, and its loops, one turn at a time.
-use Rattle.std.proofs.Common.{◌≡◌, ℕ, zero, suc, ◌+◌, ◌-◌, ◌<◌, ◌≤◌, max, List, [], ◌∷◌, ◌++◌, length, Option, Some, None, Ok, Err, Bool, true, false, refl, sym, ap, arith, append_assoc}
+use Rattle.std.proofs.Common.{◌≡◌, ℕ, zero, suc, ◌+◌, ◌-◌, ◌<◌, ◌≤◌, max, List, [], ◌∷◌, ◌++◌, Option, Some, None, Ok, Err, true, refl, arith}
 use Rattle.std.proofs.lemmas.Bool.{le-leb, lt-leb}
 use Rattle.csub_lex.specs.declared.token.Token.{Token}
-use Rattle.csub_lex.specs.declared.token.Mark.TheVariants as marks
 use Rattle.csub_text.specs.declared.operator.BinOp.{BinOp}
 use Rattle.csub_tree.specs.Expressions.{Expr, Assign, exprs_of, span_of}
 use Rattle.csub_tree.specs.Depth.{expr_depth, exprs_depth}
@@ -10,11 +9,9 @@ use Rattle.csub_tree.specs.SpellsExpressions.{Rank, assignment, conditional, bin
 use Rattle.csub_expr.specs.declared.stop.Stop.{Stop}
 use Rattle.csub_expr.specs.declared.stop.Stop.TheVariants as stops
 use Rattle.csub_expr.specs.declared.operator.Tail.{Tail}
-use Rattle.csub_expr.specs.Looks.{begins, rest, head_span, op_at, tail_at, assignment_at}
+use Rattle.csub_expr.specs.Looks.{rest, head_span, op_at, tail_at, assignment_at}
 use Rattle.csub_expr.specs.Answers.{Answer, ◌>>=◌, Fails}
-use Rattle.csub_expr.specs.ListDescent.{separated}
 use Rattle.csub_expr.specs.ExprDescent.{read, joins, is_unary, tail_of, behind_by, behind, more_by, more, chain_at, choice_at, cond_at, assign_by, assign_at}
-use Rattle.csub_expr.proofs.Series.{with_front}
 
 pub fails_bind : {A B : Type 0} (e : Stop) (r : Answer A) (f : _) → Fails e r → Fails {Y = B × List Token} e (r >>= f)
 fails_bind stops.Memory r f h = tt
@@ -87,39 +84,7 @@ behind_full below d (suc f) e ts full = go (tail_at ts)
     go None = refl
     go (Some t) = rw (lt-leb (expr_depth e) d full) refl
 
--- the loop over a list with commas
-module _ {A : Type 0} (item : List Token → Answer A) (stop : List Token → Bool) where
-  pub front_fails : (e : Stop) (f : ℕ) (u : List Token) (xs : List A) → length u < f → Fails e (item u) → Fails e (with_front xs (separated item stop f u))
-  unfolding separated
-  front_fails e zero u xs lt h = elim lt [ ]
-  front_fails stops.Memory (suc f) u xs lt h = tt
-  front_fails (stops.At n) (suc f) u xs lt h = rw h refl
-
-  pub front_goes : (f : ℕ) (u v : List Token) (xs : List A) (x : A) → length u < f → item u ≡ Ok (x, v) → begins marks.Comma v ≡ true → stop (rest v) ≡ false → with_front xs (separated item stop f u) ≡ with_front (xs ++ x ∷ []) (separated item stop (f - 1) (rest v))
-  unfolding separated
-  front_goes zero u v xs x lt e comes on = elim lt [ ]
-  front_goes (suc f) u v xs x lt e comes on =
-      let ef : suc f - 1 ≡ f = omega arith in
-      rw (ef, e, comes, on) (step (separated item stop f (rest v)))
-    where
-      step : (read : Answer (List A)) → with_front xs (read >>= λ ys. Ok (x ∷ ys.0, ys.1)) ≡ with_front (xs ++ x ∷ []) read
-      step (Ok y) = ap (λ (v : List A). Ok (v, y.1)) (sym (append_assoc xs (x ∷ []) y.0))
-      step (Err n) = refl
-
-  pub front_ends : (f : ℕ) (u v : List Token) (xs : List A) (x : A) → length u < f → item u ≡ Ok (x, v) → begins marks.Comma v ≡ false → with_front xs (separated item stop f u) ≡ Ok (xs ++ x ∷ [], v)
-  unfolding separated
-  front_ends zero u v xs x lt e none = elim lt [ ]
-  front_ends (suc f) u v xs x lt e none = rw (e, none) refl
-
-  pub front_trailing : (f : ℕ) (u v : List Token) (xs : List A) (x : A) → length u < f → item u ≡ Ok (x, v) → begins marks.Comma v ≡ true → stop (rest v) ≡ true → with_front xs (separated item stop f u) ≡ Ok (xs ++ x ∷ [], rest v)
-  unfolding separated
-  front_trailing zero u v xs x lt e comes ends = elim lt [ ]
-  front_trailing (suc f) u v xs x lt e comes ends = rw (e, comes, ends) refl
-
-pub front_none : {A : Type 0} (r : Answer (List A)) → r ≡ with_front [] r
-front_none (Ok x) = refl
-front_none (Err n) = refl
-
+-- the depth of one argument more
 pub depth_push : (es : List Expr) (e : Expr) → exprs_depth (exprs_of (es ++ e ∷ [])) ≡ max (exprs_depth (exprs_of es)) (expr_depth e)
 depth_push [] e = omega arith
 depth_push (x ∷ es) e = omega (arith, depth_push es e)

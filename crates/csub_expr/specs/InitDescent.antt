@@ -19,8 +19,12 @@ module _ (below : List Token → Answer Init) (d : ℕ) where
 
   -- a list has an initialiser inside, and that an expression: "{" is refused where there is no depth for both
   unfoldable pub init_at : List Token → Answer Init
-  init_at ts = if begins marks.OpenBrace ts then (if nat_le 2 d then listed_at (head_span ts).start (rest ts) else Err (length ts)) else (read d assignment ts >>= λ e. Ok (One e.0, e.1))
+  init_at ts =
+      if begins marks.OpenBrace ts then (
+      if nat_le 2 d then listed_at (head_span ts).start (rest ts) else Err (length ts)
+      ) else (read d assignment ts >>= λ e. Ok (One e.0, e.1))
 
+-- an initialiser of at most the depth
 unfoldable pub read_init : ℕ → List Token → Answer Init
 read_init zero ts = Err (length ts)
 read_init (suc d) ts = init_at (read_init d) d ts

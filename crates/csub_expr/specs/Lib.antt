@@ -3,3 +3,4 @@ pub mod Answers
 pub mod ListDescent
 pub mod ExprDescent
 pub mod InitDescent
+pub mod Laws

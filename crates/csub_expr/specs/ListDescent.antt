@@ -15,7 +15,9 @@ module _ {A : Type 0} (item : List Token → Answer A) (stop : List Token → Bo
   separated zero ts = Err (length ts)
   separated (suc f) ts = do
     x ← item ts
-    if begins marks.Comma x.1 then (if stop (rest x.1) then Ok (x.0 ∷ [], rest x.1) else (separated f (rest x.1) >>= λ xs. Ok (x.0 ∷ xs.0, xs.1))) else Ok (x.0 ∷ [], x.1)
+    if begins marks.Comma x.1 then (
+        if stop (rest x.1) then Ok (x.0 ∷ [], rest x.1) else (separated f (rest x.1) >>= λ xs. Ok (x.0 ∷ xs.0, xs.1))
+        ) else Ok (x.0 ∷ [], x.1)
 
   -- x*, up to where `stop` holds
   unfoldable pub repeated : ℕ → List Token → Answer (List A)

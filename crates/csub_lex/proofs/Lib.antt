@@ -1,13 +1,13 @@
-pub mod Choices
-pub mod Runs
-pub mod Walks
-pub mod Tail
-pub mod Tables
-pub mod QuotedLaws
-pub mod LineLaws
-pub mod NumberLaws
-pub mod Next
-pub mod Only
-pub mod Gives
-pub mod Loop
-pub mod Spans
+mod Choices
+mod Runs
+mod Walks
+mod Tail
+mod Tables
+mod QuotedLaws
+mod LineLaws
+mod NumberLaws
+mod Next
+mod Only
+mod Gives
+mod Loop
+mod Spans

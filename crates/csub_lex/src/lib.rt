@@ -8,7 +8,7 @@
 
 mod bytes;
 mod cut;
-pub mod error;
+mod error;
 mod key;
 mod line;
 mod mark;

@@ -13,9 +13,8 @@ use Rattle.csub_tree.specs.SpellsExpressions.{SpellsNumber, char, int, unsigned,
 use Rattle.csub_tree.specs.SpellsDeclarations.{SpellsBase, numeric, structure, SpellsLength, bracketed, SpellsSlot, slot, SpellsVar, no_init, with_init, SpellsField, field, SpellsDecl, decl, SpellsParam, param}
 use Rattle.csub_expr.specs.Looks.{begins_key, rest, head_span}
 use Rattle.csub_expr.specs.Answers.{done, expect_name}
-use Rattle.csub_expr.proofs.Answered.{bind_ok, chosen}
-use Rattle.csub_expr.proofs.Taken.{begins_key_is, expect_name_is}
-use Rattle.csub_expr.proofs.Runs.{nonempty_append}
+use Rattle.csub_expr.proofs.LawsAnswers.{bind_ok, chosen}
+use Rattle.csub_expr.proofs.LawsTokens.{begins_key_is, expect_name_is, nonempty_append}
 use Rattle.csub_parse.specs.DeclarationDescent.{from_to, unsigned_at, numeric_at, tag_at, base_at}
 use Rattle.csub_parse.proofs.Takes.{Took, took_done, took_at}
 

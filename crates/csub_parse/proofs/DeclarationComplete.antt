@@ -17,9 +17,8 @@ use Rattle.csub_tree.specs.SpellsDeclarations.{SpellsInit, SpellsLength, bracket
 use Rattle.csub_expr.specs.Looks.{begins, begins_key, rest, head_span}
 use Rattle.csub_expr.specs.Answers.{Answer, ◌>>=◌, done, expect, expect_name}
 use Rattle.csub_expr.specs.ListDescent.{never}
-use Rattle.csub_expr.proofs.Series.{append_nil}
-use Rattle.csub_expr.proofs.Runs.{last_append, last_token}
-use Rattle.csub_expr.proofs.Spelled.{depth_pos, lead, lead_no_mark}
+use Rattle.csub_expr.proofs.LawsTokens.{append_nil, last_append, last_token}
+use Rattle.csub_expr.proofs.LawsExpressions.{depth_pos, lead, lead_no_mark}
 use Rattle.csub_parse.specs.Openings.{begins_name}
 use Rattle.csub_parse.specs.DeclarationDescent.{from_to, base_at, with_value, length_at, no_length, slot_after, value_after, var_after, slot_at, var_at, declare_end, decl_after, decl_behind, decl_from, decl_at, field_behind, field_from, field_at, length_or_none, array_after, param_behind, param_from, param_at, params_at}
 use Rattle.csub_parse.proofs.Given.{Laws, EndsAssignment, stops_bracket}

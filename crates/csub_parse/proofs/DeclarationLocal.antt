@@ -16,8 +16,8 @@ use Rattle.csub_expr.specs.Answers.{Answer, ◌>>=◌, done, refuse, expect, exp
 use Rattle.csub_expr.specs.ListDescent.{separated, repeated, never}
 use Rattle.csub_expr.specs.ExprDescent.{read}
 use Rattle.csub_expr.specs.InitDescent.{read_init}
-use Rattle.csub_expr.proofs.Local.{Local, SameAtHead, local_bind, local_done, local_refuse, local_rest, local_at, local_if, local_token, local_expect, local_name, same_begins, same_begins_key, same_begins_number, same_head_span, same_by}
-use Rattle.csub_expr.proofs.ExprLocal.{local_read}
+use Rattle.csub_expr.proofs.LawsLocal.{Local, SameAtHead, local_bind, local_done, local_refuse, local_rest, local_at, local_if, local_token, local_expect, local_name, same_begins, same_begins_key, same_begins_number, same_head_span, same_by}
+use Rattle.csub_expr.proofs.LawsExpressions.{local_read}
 use Rattle.csub_parse.specs.Openings.{begins_name, begins_base, is_name}
 use Rattle.csub_parse.specs.DeclarationDescent.{from_to, unsigned_at, numeric_at, tag_at, base_at, following, with_value, length_at, no_length, slot_after, value_after, var_after, slot_at, var_at, declare_end, decl_after, decl_behind, decl_from, decl_at, field_behind, field_from, field_at, length_or_none, array_after, param_behind, param_from, param_at, params_at}
 use Rattle.csub_parse.proofs.Given.{Laws}

@@ -15,8 +15,8 @@ use Rattle.csub_tree.specs.SpellsExpressions.{SpellsNumber, char, int, unsigned,
 use Rattle.csub_tree.specs.SpellsDeclarations.{SpellsInit, SpellsInits, one, listed, last_init, next_init, SpellsBase, numeric, structure, SpellsLength, bracketed, SpellsField, field, SpellsDecl, decl, SpellsParam, param}
 use Rattle.csub_expr.specs.Looks.{begins, begins_key, begins_number, rest, head_span}
 use Rattle.csub_expr.specs.Answers.{expect_name}
-use Rattle.csub_expr.proofs.Runs.{first_append}
-use Rattle.csub_expr.proofs.Spelled.{depth_pos}
+use Rattle.csub_expr.proofs.LawsTokens.{first_append}
+use Rattle.csub_expr.proofs.LawsExpressions.{depth_pos}
 use Rattle.csub_parse.specs.Openings.{begins_base}
 use Rattle.csub_parse.specs.DeclarationDescent.{from_to, unsigned_at, numeric_at, tag_at, base_at, var_after, var_at, decl_after, decl_behind}
 use Rattle.csub_parse.proofs.Given.{EndsAssignment, ends_comma, ends_semicolon}

@@ -19,11 +19,9 @@ use Rattle.csub_expr.specs.Answers.{◌>>=◌, done, expect, expect_name}
 use Rattle.csub_expr.specs.ListDescent.{separated, repeated, never}
 use Rattle.csub_expr.specs.ExprDescent.{read}
 use Rattle.csub_expr.specs.InitDescent.{read_init}
-use Rattle.csub_expr.proofs.Answered.{bind_ok, chosen, and_true}
-use Rattle.csub_expr.proofs.Taken.{begins_is, begins_key_is, expect_is, expect_name_is}
-use Rattle.csub_expr.proofs.ExprSound as expressions
-use Rattle.csub_expr.proofs.Series.{append_nil}
-use Rattle.csub_expr.proofs.Runs.{last_append, first_append, last_token}
+use Rattle.csub_expr.proofs.LawsAnswers.{bind_ok, chosen, and_true}
+use Rattle.csub_expr.proofs.LawsTokens.{begins_is, begins_key_is, expect_is, expect_name_is, append_nil, last_append, first_append, last_token}
+use Rattle.csub_expr.proofs.LawsExpressions as expressions
 use Rattle.csub_parse.specs.Openings.{begins_name}
 use Rattle.csub_parse.specs.DeclarationDescent.{from_to, base_at, following, with_value, length_at, no_length, slot_after, value_after, var_after, slot_at, var_at, declare_end, decl_after, decl_behind, decl_from, decl_at, field_behind, field_from, field_at, length_or_none, array_after, param_behind, param_from, param_at, params_at}
 use Rattle.csub_parse.proofs.Given.{Laws}

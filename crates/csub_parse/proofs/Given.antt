@@ -10,24 +10,18 @@ use Rattle.csub_tree.specs.Tokens.{mark}
 use Rattle.csub_tree.specs.SpellsExpressions.{SpellsExpr, assignment, conditional, loosest}
 use Rattle.csub_tree.specs.SpellsDeclarations.{SpellsInit}
 use Rattle.csub_expr.specs.Looks.{begins, op_at, assignment_at, tail_at}
+use Rattle.csub_expr.specs.Laws.{Ends}
 use Rattle.csub_expr.specs.ExprDescent.{read}
 use Rattle.csub_expr.specs.InitDescent.{read_init}
-use Rattle.csub_expr.proofs.Local.{Local}
-use Rattle.csub_expr.proofs.ExprComplete.{complete, complete_conditional}
-use Rattle.csub_expr.proofs.InitLaws as inits
+use Rattle.csub_expr.proofs.LawsLocal.{Local}
+use Rattle.csub_expr.proofs.LawsExpressions.{TookInit, complete, complete_conditional, sound_init, complete_init, local_init}
 
 -- what comes continues no conditional expression, and no assignment
 abbrev pub EndsConditional : List Token → Type 0
-EndsConditional r = ((tail_at r ≡ None) × (begins marks.OpenParen r ≡ false)) × ((j : ℕ) → j < loosest → op_at j r ≡ None) × (begins marks.Question r ≡ false)
+EndsConditional r = Ends conditional r
 
 abbrev pub EndsAssignment : List Token → Type 0
-EndsAssignment r = ((tail_at r ≡ None) × (begins marks.OpenParen r ≡ false)) × ((j : ℕ) → j < loosest → op_at j r ≡ None) × (begins marks.Question r ≡ false) × (assignment_at r ≡ None)
-
-pub record TookInit (d : ℕ) (ts : List Token) (i : Init) (r : List Token) : Type 0 where
-  pub s : List Token
-  pub parts : ts ≡ s ++ r
-  pub spelled : SpellsInit i s
-  pub fits : init_depth i ≤ d
+EndsAssignment r = Ends assignment r
 
 -- the laws of the readers below
 pub record Laws : Type 0 where
@@ -72,9 +66,9 @@ stops_brace a r = ((refl, refl), (λ j lt. refl), refl)
 
 pub laws : Laws
 laws = record {
-  assignment_reads = λ h d fits r ends. complete h d fits r ends;
-  conditional_reads = λ h d fits r ends. complete_conditional h d fits r ends;
-  init_reads = λ h d fits r ends. inits.complete_init h d fits r ends;
-  init_sound = λ d ts i r e. let t = inits.sound_init d ts i r e in record { s = t.s; parts = t.parts; spelled = t.spelled; fits = t.fits };
-  init_local = inits.local_init;
+  assignment_reads = λ h d fits r ends. complete _ _ h d fits r ends;
+  conditional_reads = λ h d fits r ends. complete_conditional _ _ h d fits r ends;
+  init_reads = λ h d fits r ends. complete_init _ _ h d fits r ends;
+  init_sound = sound_init;
+  init_local = local_init;
 }

@@ -1,22 +1,21 @@
-pub mod Given
-pub mod Takes
-pub mod Sequences
-pub mod BaseSound
-pub mod DeclarationSound
-pub mod DeclarationLocal
-pub mod DeclarationOpens
-pub mod DeclarationComplete
-pub mod StatementShapes
-pub mod StatementParts
-pub mod StatementMade
-pub mod StatementSound
-pub mod StatementLocal
-pub mod StatementOpens
-pub mod StatementComplete
-pub mod UnitSound
-pub mod UnitLocal
-pub mod UnitComplete
-pub mod Whole
-pub mod Loops
-pub mod StatementViews
-pub mod Plain
+mod Given
+mod Takes
+mod Sequences
+mod BaseSound
+mod DeclarationSound
+mod DeclarationLocal
+mod DeclarationOpens
+mod DeclarationComplete
+mod StatementShapes
+mod StatementParts
+mod StatementMade
+mod StatementSound
+mod StatementLocal
+mod StatementOpens
+mod StatementComplete
+mod UnitSound
+mod UnitLocal
+mod UnitComplete
+mod Whole
+mod Loops
+mod Plain

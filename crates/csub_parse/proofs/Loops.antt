@@ -7,7 +7,7 @@ use Rattle.csub_expr.specs.declared.stop.Stop.TheVariants as stops
 use Rattle.csub_expr.specs.Looks.{begins, rest}
 use Rattle.csub_expr.specs.Answers.{Answer, ◌>>=◌, Fails}
 use Rattle.csub_expr.specs.ListDescent.{separated, repeated, never}
-use Rattle.csub_expr.proofs.Series.{with_front}
+use Rattle.csub_expr.proofs.LawsLists.{with_front}
 use Rattle.csub_tree.specs.Declarations.{Declare}
 use Rattle.csub_parse.specs.DeclarationDescent.{following, field_at}
 use Rattle.csub_parse.specs.UnitDescent.{fields_after}

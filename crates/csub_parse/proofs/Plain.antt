@@ -11,7 +11,7 @@ use Rattle.csub_expr.specs.declared.stop.Stop.TheVariants as stops
 use Rattle.csub_expr.specs.Looks.{begins, rest}
 use Rattle.csub_expr.specs.Answers.{Answer, Fails, expect}
 use Rattle.csub_expr.specs.ExprDescent.{read}
-use Rattle.csub_expr.proofs.Taken.{begins_is}
+use Rattle.csub_expr.proofs.LawsTokens.{begins_is}
 use Rattle.csub_parse.specs.StatementDescent.{line, stmt_span, bare_name, evaluated_end, label_at, after_at, plain_at}
 
 no_semicolon : (us : List Token) → begins marks.Colon us ≡ true → begins marks.Semicolon us ≡ false

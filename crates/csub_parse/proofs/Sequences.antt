@@ -10,10 +10,10 @@ use Rattle.csub_tree.specs.Depth.{most}
 use Rattle.csub_expr.specs.Looks.{begins, rest, head_span}
 use Rattle.csub_expr.specs.Answers.{Answer, ◌>>=◌, done, refuse}
 use Rattle.csub_expr.specs.ListDescent.{separated, repeated, never}
-use Rattle.csub_expr.proofs.Answered.{bind_ok, ok_value, ok_rest, chosen}
-use Rattle.csub_expr.proofs.Taken.{begins_is}
-use Rattle.csub_expr.proofs.Local.{Local, SameAtHead, local_bind, local_done, local_refuse, local_rest, local_if, same_begins, local_fuel, bind_same}
-use Rattle.csub_expr.proofs.Series.{separated_sound, local_separated, separated_last, separated_trailing, separated_next}
+use Rattle.csub_expr.proofs.LawsAnswers.{bind_ok, ok_value, ok_rest, chosen}
+use Rattle.csub_expr.proofs.LawsTokens.{begins_is}
+use Rattle.csub_expr.proofs.LawsLocal.{Local, SameAtHead, local_bind, local_done, local_refuse, local_rest, local_if, same_begins, local_fuel, bind_same}
+use Rattle.csub_expr.proofs.LawsLists.{separated_sound, local_separated, separated_last, separated_trailing, separated_next}
 use Rattle.csub_parse.specs.DeclarationDescent.{following}
 use Rattle.csub_parse.proofs.Takes.{Took, Sound, Shorter, cut_two, cut_at}
 

@@ -14,15 +14,15 @@ use Rattle.csub_tree.specs.Tokens.{mark, key, id, last, runs}
 use Rattle.csub_tree.specs.Lists.{missing, present}
 use Rattle.csub_tree.specs.SpellsExpressions.{SpellsExpr, assignment, conditional, no_assignment, no_choice, tighter, no_prefix, no_postfix, named}
 use Rattle.csub_tree.specs.SpellsDeclarations.{SpellsDecl}
-use Rattle.csub_tree.specs.SpellsStatements.{ends_open, SpellsMaybe, SpellsFirst, first_declared, first_evaluated, first_empty, SpellsStmt, block, empty, evaluated, labelled, if_alone, if_else, while_loop, do_loop, for_loop, switched, broken_off, continued, gone_to, returned, SpellsLine, declaring, stating, SpellsLines, no_lines, more_lines, SpellsSwitchLine, plain_line, case_line, default_line, SpellsSwitchLines, no_switch_lines, more_switch_lines}
+use Rattle.csub_tree.specs.SpellsStatements.{ends_open, SpellsMaybe, SpellsFirst, first_declared, first_evaluated, first_empty, SpellsStmt, block, empty, evaluated, labelled, if_alone, if_else, while_loop, do_loop, for_loop, switched, broken_off, continued, gone_to, returned, SpellsLine, declaring, stating, SpellsLines, no_lines, more_lines, SpellsSwitchLine, plain_line, case_label, default_label, SpellsSwitchLines, no_switch_lines, more_switch_lines, label_line, placed, SpellsKind}
 use Rattle.csub_parse.specs.declared.opening.Opening.{Opening}
 use Rattle.csub_parse.specs.declared.opening.Opening.TheVariants as openings
 use Rattle.csub_expr.specs.Looks.{begins, begins_key, rest, head_span}
 use Rattle.csub_expr.specs.Answers.{Answer, done, expect, expect_name}
 use Rattle.csub_expr.specs.ListDescent.{repeated}
-use Rattle.csub_expr.proofs.Spelled as spelled
-use Rattle.csub_expr.proofs.Spelled.{Lead, lead, lead_no_key, lead_no_number, lead_no_mark, by_prefix, by_open, by_name, by_number, by_character, by_string}
-use Rattle.csub_expr.proofs.Runs.{first_append, last_token, last_behind, nonempty_append}
+use Rattle.csub_expr.proofs.LawsExpressions as spelled
+use Rattle.csub_expr.proofs.LawsExpressions.{Lead, lead, lead_no_key, lead_no_number, lead_no_mark, by_prefix, by_open, by_name, by_number, by_character, by_string}
+use Rattle.csub_expr.proofs.LawsTokens.{first_append, last_token, last_behind, nonempty_append}
 use Rattle.csub_parse.specs.Openings.{opening_at}
 use Rattle.csub_parse.specs.StatementDescent.{stmt_span, line, bare_name, expect_key, maybe_at, declared_at, evaluated_end, evaluated_at, first_at, line_by, case_at, default_at, switch_line_by, ended_by, test_at, block_at, else_at, if_at, while_at, do_at, for_body, for_parts, for_at, switch_body, switch_at, goto_at, return_at, label_at, after_at, plain_at, inner, outer, empty_at, stmt_by, stmt_at, read_stmt}
 use Rattle.csub_parse.proofs.Given.{Laws, ends_semicolon, ends_paren, ends_colon, stops_colon}
@@ -357,20 +357,23 @@ module _ (laws : Laws) where
 
   mutual
     pub stmt_reads : {x : Stmt} {s : List Token} → SpellsStmt x s → ReadsStmt x s
-    stmt_reads (block {ss = xs} {s = s} a b h) = reads_block xs s a b (lines_read h)
-    stmt_reads (empty a) = reads_empty a
-    stmt_reads (evaluated {e = e} {s = s} a h) = reads_eval e s a h
-    stmt_reads (labelled {x = x} {s = s} n a h) = reads_label n a x s (stmt_reads h) h
-    stmt_reads (if_alone {e = e} {x = x} {s = s} {t = t} a b c h hx) = reads_if e x s t a b c h (stmt_reads hx) hx
-    stmt_reads (if_else {e = e} {x = x} {y = y} {s = s} {t = t} {u = u} a b c l h hx shut hy) = reads_else e x y s t u a b c l h (stmt_reads hx) shut (stmt_reads hy) hy
-    stmt_reads (while_loop {e = e} {x = x} {s = s} {t = t} a b c h hx) = reads_while e x s t a b c h (stmt_reads hx) hx
-    stmt_reads (do_loop {e = e} {x = x} {s = s} {t = t} a b c g f hx h) = reads_do e x s t a b c g f (stmt_reads hx) h
-    stmt_reads (for_loop {p = p} {e = e} {f = f} {x = x} {s = s} {t = t} {u = u} {v = v} a b c g hp he hf hx) = reads_for p e f x s t u v a b c g hp he hf (stmt_reads hx) hx
-    stmt_reads (switched {e = e} {ss = xs} {s = s} {t = t} a b c g f h hs) = reads_switch e xs s t a b c g f h (switch_lines_read hs)
-    stmt_reads (broken_off a b) = reads_break a b
-    stmt_reads (continued a b) = reads_continue a b
-    stmt_reads (gone_to n a b) = reads_goto n a b
-    stmt_reads (returned {e = e} {s = s} a b h) = reads_return e s a b h
+    stmt_reads (placed h) = kind_reads h
+
+    kind_reads : {k : StmtKind} {s : List Token} → SpellsKind k s → ReadsStmt (Line k (runs s)) s
+    kind_reads (block {ss = xs} {s = s} a b h) = reads_block xs s a b (lines_read h)
+    kind_reads (empty a) = reads_empty a
+    kind_reads (evaluated {e = e} {s = s} a h) = reads_eval e s a h
+    kind_reads (labelled {x = x} {s = s} n a h) = reads_label n a x s (stmt_reads h) h
+    kind_reads (if_alone {e = e} {x = x} {s = s} {t = t} a b c h hx) = reads_if e x s t a b c h (stmt_reads hx) hx
+    kind_reads (if_else {e = e} {x = x} {y = y} {s = s} {t = t} {u = u} a b c l h hx shut hy) = reads_else e x y s t u a b c l h (stmt_reads hx) shut (stmt_reads hy) hy
+    kind_reads (while_loop {e = e} {x = x} {s = s} {t = t} a b c h hx) = reads_while e x s t a b c h (stmt_reads hx) hx
+    kind_reads (do_loop {e = e} {x = x} {s = s} {t = t} a b c g f hx h) = reads_do e x s t a b c g f (stmt_reads hx) h
+    kind_reads (for_loop {p = p} {e = e} {f = f} {x = x} {s = s} {t = t} {u = u} {v = v} a b c g hp he hf hx) = reads_for p e f x s t u v a b c g hp he hf (stmt_reads hx) hx
+    kind_reads (switched {e = e} {ss = xs} {s = s} {t = t} a b c g f h hs) = reads_switch e xs s t a b c g f h (switch_lines_read hs)
+    kind_reads (broken_off a b) = reads_break a b
+    kind_reads (continued a b) = reads_continue a b
+    kind_reads (gone_to n a b) = reads_goto n a b
+    kind_reads (returned {e = e} {s = s} a b h) = reads_return e s a b h
 
     pub line_reads : {x : Stmt} {s : List Token} → SpellsLine x s → ReadsLine x s
     line_reads (declaring {d = y} {s = s} h) = reads_declaring y s h
@@ -382,8 +385,8 @@ module _ (laws : Laws) where
 
     switch_line_reads : {x : Stmt} {s : List Token} → SpellsSwitchLine x s → ReadsSwitchLine x s
     switch_line_reads (plain_line {x = x} {s = s} h) = reads_plain_line x s h (line_reads h)
-    switch_line_reads (case_line {e = e} {s = s} a b h) = reads_case e s a b h
-    switch_line_reads (default_line a b) = reads_default a b
+    switch_line_reads (label_line (case_label {e = e} {s = s} a b h)) = reads_case e s a b h
+    switch_line_reads (label_line (default_label a b)) = reads_default a b
 
     switch_lines_read : {xs : Stmts} {s : List Token} → SpellsSwitchLines xs s → ReadsSwitchLines xs s
     switch_lines_read no_switch_lines = λ d fits f lt r close. repeated_ends (switch_line_by (read_stmt d) d) (begins marks.CloseBrace) f r close

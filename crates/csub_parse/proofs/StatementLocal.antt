@@ -18,8 +18,8 @@ use Rattle.csub_expr.specs.Looks.{begins, begins_key, rest, head_span}
 use Rattle.csub_expr.specs.Answers.{Answer, ◌>>=◌, done, refuse, expect, expect_name}
 use Rattle.csub_expr.specs.ListDescent.{repeated}
 use Rattle.csub_expr.specs.ExprDescent.{read}
-use Rattle.csub_expr.proofs.Local.{Local, SameAtHead, local_bind, local_done, local_refuse, local_rest, local_at, local_if, local_choice, local_token, local_expect, local_name, same_begins, same_begins_key, same_by}
-use Rattle.csub_expr.proofs.ExprLocal.{local_read}
+use Rattle.csub_expr.proofs.LawsLocal.{Local, SameAtHead, local_bind, local_done, local_refuse, local_rest, local_at, local_if, local_choice, local_token, local_expect, local_name, same_begins, same_begins_key, same_by}
+use Rattle.csub_expr.proofs.LawsExpressions.{local_read}
 use Rattle.csub_parse.specs.Openings.{begins_base, opening_at, opening_of}
 use Rattle.csub_parse.specs.DeclarationDescent.{decl_at}
 use Rattle.csub_parse.specs.StatementDescent.{stmt_span, line, bare_name, expect_key, maybe_at, declared_at, evaluated_end, evaluated_at, first_at, line_by, case_at, default_at, switch_line_by, ended_by, test_at, block_at, else_at, if_at, while_at, do_at, for_body, for_parts, for_at, switch_body, switch_at, goto_at, return_at, label_at, after_at, plain_at, inner, outer, empty_at, stmt_by, stmt_at, read_stmt, read_line}

@@ -9,9 +9,9 @@ use Rattle.csub_tree.specs.Expressions.{Expr}
 use Rattle.csub_tree.specs.Statements.{Stmt, Perhaps, Line, If, While, Do, For, Label, NoStmt, OneStmt}
 use Rattle.csub_tree.specs.Depth.{if_there, expr_depth, perhaps_depth}
 use Rattle.csub_tree.specs.Tokens.{mark, key, id, last, runs}
-use Rattle.csub_tree.specs.SpellsStatements.{ends_open, SpellsMaybe, SpellsFirst, SpellsStmt, labelled, if_alone, if_else, while_loop, do_loop, for_loop}
+use Rattle.csub_tree.specs.SpellsStatements.{ends_open, SpellsMaybe, SpellsFirst, SpellsStmt, labelled, if_alone, if_else, while_loop, do_loop, for_loop, placed}
 use Rattle.csub_expr.specs.Looks.{begins_key}
-use Rattle.csub_expr.proofs.Runs.{last_behind}
+use Rattle.csub_expr.proofs.LawsTokens.{last_behind}
 use Rattle.csub_parse.specs.StatementDescent.{stmt_span, line}
 use Rattle.csub_parse.proofs.Takes.{Took, cut_two, cut_at, cut_first}
 use Rattle.csub_parse.proofs.StatementShapes.{stmt_some, stmt_spanned, line_runs, end_of}
@@ -25,7 +25,7 @@ make_if d a ts us e x r p t no_else =
     let whole : List Token = key keys.If a ∷ o ∷ (p.s ++ c ∷ t.s) in
     open_as SpellsStmt (suc d) (key keys.If a ∷ ts) (Line (If e x NoStmt) (runs whole)) (line (If e x NoStmt) a.start (stmt_span x).end) r
     (line_runs (If e x NoStmt) a.start (stmt_span x).end whole refl (end_of x t.s (stmt_spanned t.spelled) ∙ sym (last_behind (key keys.If a ∷ o ∷ p.s) c t.s (stmt_some t.spelled))))
-    (record { s = whole; parts = after_test d (key keys.If a) ts us e p t.s r t.parts; spelled = if_alone a p.a p.b p.spelled t.spelled; fits = omega (arith, p.fits, t.fits); tail = λ o. no_else })
+    (record { s = whole; parts = after_test d (key keys.If a) ts us e p t.s r t.parts; spelled = placed (if_alone a p.a p.b p.spelled t.spelled); fits = omega (arith, p.fits, t.fits); tail = λ o. no_else })
 
 pub make_else : (d : ℕ) (a l : Span) (ts us vs : List Token) (e : Expr) (x y : Stmt) (r : List Token) → TookTest d ts e us → TookOpen SpellsStmt d us x (key keys.Else l ∷ vs) → TookOpen SpellsStmt d vs y r
     → TookOpen SpellsStmt (suc d) (key keys.If a ∷ ts) (line (If e x (OneStmt y)) a.start (stmt_span y).end) r
@@ -42,7 +42,7 @@ make_else d a l ts us vs e x y r p t q =
     (record {
       s = whole;
       parts = after_test d (key keys.If a) ts us e p (t.s ++ k ∷ q.s) r (cut_at t.s q.s k us vs r t.parts q.parts);
-      spelled = if_else a p.a p.b l p.spelled t.spelled shut q.spelled;
+      spelled = placed (if_else a p.a p.b l p.spelled t.spelled shut q.spelled);
       fits = omega (arith, p.fits, t.fits, q.fits);
       tail = q.tail;
     })
@@ -59,7 +59,7 @@ make_while d a ts us e x r p t =
     let whole : List Token = key keys.While a ∷ o ∷ (p.s ++ c ∷ t.s) in
     open_as SpellsStmt (suc d) (key keys.While a ∷ ts) (Line (While e x) (runs whole)) (line (While e x) a.start (stmt_span x).end) r
     (line_runs (While e x) a.start (stmt_span x).end whole refl (end_of x t.s (stmt_spanned t.spelled) ∙ sym (last_behind (key keys.While a ∷ o ∷ p.s) c t.s (stmt_some t.spelled))))
-    (record { s = whole; parts = after_test d (key keys.While a) ts us e p t.s r t.parts; spelled = while_loop a p.a p.b p.spelled t.spelled; fits = omega (arith, p.fits, t.fits); tail = t.tail })
+    (record { s = whole; parts = after_test d (key keys.While a) ts us e p t.s r t.parts; spelled = placed (while_loop a p.a p.b p.spelled t.spelled); fits = omega (arith, p.fits, t.fits); tail = t.tail })
 
 pub make_do : (d : ℕ) (a w f : Span) (ts us vs : List Token) (e : Expr) (x : Stmt) (r : List Token) → TookOpen SpellsStmt d ts x (key keys.While w ∷ us) → TookTest d us e vs → vs ≡ mark marks.Semicolon f ∷ r
     → TookOpen SpellsStmt (suc d) (key keys.Do a ∷ ts) (line (Do x e) a.start f.end) r
@@ -74,7 +74,7 @@ make_do d a w f ts us vs e x r t p ends =
     (record {
       s = whole;
       parts = ap (λ (u : List Token). key keys.Do a ∷ u) (cut_two t.s (k ∷ o ∷ (p.s ++ c ∷ m ∷ [])) ts (k ∷ us) r t.parts (after_test d k us vs e p (m ∷ []) r ends));
-      spelled = do_loop a w p.a p.b f t.spelled p.spelled;
+      spelled = placed (do_loop a w p.a p.b f t.spelled p.spelled);
       fits = omega (arith, p.fits, t.fits);
       tail = λ o. absurd cc;
     })
@@ -98,7 +98,7 @@ make_for d a b c g ts u₁ u₂ u₃ u₄ p e f x r opens hp he hf t =
     (record {
       s = whole;
       parts = ap (λ (u : List Token). k ∷ u) (cut_first (hp.s ++ second) o ts u₁ r opens (cut_two hp.s second u₁ u₂ r hp.parts (cut_at he.s third m u₂ u₃ r he.parts (cut_at hf.s t.s n u₃ u₄ r hf.parts t.parts))));
-      spelled = for_loop a b c g hp.spelled he.spelled hf.spelled t.spelled;
+      spelled = placed (for_loop a b c g hp.spelled he.spelled hf.spelled t.spelled);
       fits = omega (arith, hp.fits, he.fits, hf.fits, t.fits);
       tail = t.tail;
     })
@@ -109,4 +109,4 @@ make_label d n c ts x r t =
     let m = mark marks.Colon c in
     open_as SpellsStmt (suc d) (id n ∷ m ∷ ts) (Line (Label n x) (runs (id n ∷ m ∷ t.s))) (line (Label n x) n.span.start (stmt_span x).end) r
     (line_runs (Label n x) n.span.start (stmt_span x).end (id n ∷ m ∷ t.s) refl (end_of x t.s (stmt_spanned t.spelled) ∙ sym (last_behind (id n ∷ []) m t.s (stmt_some t.spelled))))
-    (record { s = id n ∷ m ∷ t.s; parts = ap (λ (u : List Token). id n ∷ m ∷ u) t.parts; spelled = labelled n c t.spelled; fits = omega (arith, t.fits); tail = t.tail })
+    (record { s = id n ∷ m ∷ t.s; parts = ap (λ (u : List Token). id n ∷ m ∷ u) t.parts; spelled = placed (labelled n c t.spelled); fits = omega (arith, t.fits); tail = t.tail })

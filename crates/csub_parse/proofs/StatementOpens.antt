@@ -5,14 +5,14 @@ use Rattle.csub_lex.specs.declared.token.Key.TheVariants as keys
 use Rattle.csub_lex.specs.declared.token.Mark.{Mark}
 use Rattle.csub_lex.specs.declared.token.Mark.TheVariants as marks
 use Rattle.csub_lex.specs.declared.token.Token.{Token}
-use Rattle.csub_tree.specs.Statements.{Stmt, Stmts}
+use Rattle.csub_tree.specs.Statements.{Stmt, StmtKind, Stmts}
 use Rattle.csub_tree.specs.Tokens.{mark}
 use Rattle.csub_tree.specs.SpellsExpressions.{Prefix, prefix_of}
-use Rattle.csub_tree.specs.SpellsStatements.{SpellsStmt, block, empty, evaluated, labelled, if_alone, if_else, while_loop, do_loop, for_loop, switched, broken_off, continued, gone_to, returned, SpellsLine, declaring, stating, SpellsLines, no_lines, more_lines, SpellsSwitchLine, plain_line, case_line, default_line, SpellsSwitchLines, no_switch_lines, more_switch_lines}
+use Rattle.csub_tree.specs.SpellsStatements.{SpellsStmt, block, empty, evaluated, labelled, if_alone, if_else, while_loop, do_loop, for_loop, switched, broken_off, continued, gone_to, returned, SpellsLine, declaring, stating, SpellsLines, no_lines, more_lines, SpellsSwitchLine, plain_line, case_label, default_label, SpellsSwitchLines, no_switch_lines, more_switch_lines, label_line, placed, SpellsKind}
 use Rattle.csub_parse.specs.declared.opening.Opening.TheVariants as openings
 use Rattle.csub_expr.specs.Looks.{begins, begins_key, begins_number}
-use Rattle.csub_expr.proofs.Taken.{begins_is}
-use Rattle.csub_expr.proofs.Spelled.{Lead, lead, lead_no_key, lead_no_number, lead_no_mark, by_prefix, by_open, by_name, by_number, by_character, by_string}
+use Rattle.csub_expr.proofs.LawsTokens.{begins_is}
+use Rattle.csub_expr.proofs.LawsExpressions.{Lead, lead, lead_no_key, lead_no_number, lead_no_mark, by_prefix, by_open, by_name, by_number, by_character, by_string}
 use Rattle.csub_parse.specs.Openings.{begins_base, opening_at, opening_of_mark}
 use Rattle.csub_parse.proofs.DeclarationOpens.{decl_opens}
 
@@ -66,24 +66,27 @@ pub record Words (ts : List Token) : Type 0 where
   pub no_case : begins_key keys.Case ts ≡ false
   pub no_default : begins_key keys.Default ts ≡ false
 
-pub stmt_words : {x : Stmt} {s : List Token} → SpellsStmt x s → (r : List Token) → Words (s ++ r)
+kind_words : {k : StmtKind} {s : List Token} → SpellsKind k s → (r : List Token) → Words (s ++ r)
 unfolding begins begins_key begins_base begins_number
-stmt_words (block a b h) r = record { no_base = refl; no_close = refl; no_else = refl; no_case = refl; no_default = refl }
-stmt_words (empty a) r = record { no_base = refl; no_close = refl; no_else = refl; no_case = refl; no_default = refl }
-stmt_words (evaluated {s = s} a h) r =
+kind_words (block a b h) r = record { no_base = refl; no_close = refl; no_else = refl; no_case = refl; no_default = refl }
+kind_words (empty a) r = record { no_base = refl; no_close = refl; no_else = refl; no_case = refl; no_default = refl }
+kind_words (evaluated {s = s} a h) r =
     let p = lead_plain (lead h (mark marks.Semicolon a ∷ r)) in
     rw (append_assoc s (mark marks.Semicolon a ∷ []) r) (record { no_base = p.no_base; no_close = p.no_brace; no_else = p.no_key keys.Else; no_case = p.no_key keys.Case; no_default = p.no_key keys.Default })
-stmt_words (labelled n a h) r = record { no_base = refl; no_close = refl; no_else = refl; no_case = refl; no_default = refl }
-stmt_words (if_alone a b c h x) r = record { no_base = refl; no_close = refl; no_else = refl; no_case = refl; no_default = refl }
-stmt_words (if_else a b c d h x o y) r = record { no_base = refl; no_close = refl; no_else = refl; no_case = refl; no_default = refl }
-stmt_words (while_loop a b c h x) r = record { no_base = refl; no_close = refl; no_else = refl; no_case = refl; no_default = refl }
-stmt_words (do_loop a b c d f x h) r = record { no_base = refl; no_close = refl; no_else = refl; no_case = refl; no_default = refl }
-stmt_words (for_loop a b c d p e f x) r = record { no_base = refl; no_close = refl; no_else = refl; no_case = refl; no_default = refl }
-stmt_words (switched a b c d f h x) r = record { no_base = refl; no_close = refl; no_else = refl; no_case = refl; no_default = refl }
-stmt_words (broken_off a b) r = record { no_base = refl; no_close = refl; no_else = refl; no_case = refl; no_default = refl }
-stmt_words (continued a b) r = record { no_base = refl; no_close = refl; no_else = refl; no_case = refl; no_default = refl }
-stmt_words (gone_to n a b) r = record { no_base = refl; no_close = refl; no_else = refl; no_case = refl; no_default = refl }
-stmt_words (returned a b h) r = record { no_base = refl; no_close = refl; no_else = refl; no_case = refl; no_default = refl }
+kind_words (labelled n a h) r = record { no_base = refl; no_close = refl; no_else = refl; no_case = refl; no_default = refl }
+kind_words (if_alone a b c h x) r = record { no_base = refl; no_close = refl; no_else = refl; no_case = refl; no_default = refl }
+kind_words (if_else a b c d h x o y) r = record { no_base = refl; no_close = refl; no_else = refl; no_case = refl; no_default = refl }
+kind_words (while_loop a b c h x) r = record { no_base = refl; no_close = refl; no_else = refl; no_case = refl; no_default = refl }
+kind_words (do_loop a b c d f x h) r = record { no_base = refl; no_close = refl; no_else = refl; no_case = refl; no_default = refl }
+kind_words (for_loop a b c d p e f x) r = record { no_base = refl; no_close = refl; no_else = refl; no_case = refl; no_default = refl }
+kind_words (switched a b c d f h x) r = record { no_base = refl; no_close = refl; no_else = refl; no_case = refl; no_default = refl }
+kind_words (broken_off a b) r = record { no_base = refl; no_close = refl; no_else = refl; no_case = refl; no_default = refl }
+kind_words (continued a b) r = record { no_base = refl; no_close = refl; no_else = refl; no_case = refl; no_default = refl }
+kind_words (gone_to n a b) r = record { no_base = refl; no_close = refl; no_else = refl; no_case = refl; no_default = refl }
+kind_words (returned a b h) r = record { no_base = refl; no_close = refl; no_else = refl; no_case = refl; no_default = refl }
+
+pub stmt_words : {x : Stmt} {s : List Token} → SpellsStmt x s → (r : List Token) → Words (s ++ r)
+stmt_words (placed h) r = kind_words h r
 
 pub line_opens : {x : Stmt} {s : List Token} → SpellsLine x s → (r : List Token) → Opens (s ++ r)
 line_opens (declaring h) r = let b = decl_opens h r in record { no_close = b.no_brace; no_else = b.no_else }
@@ -92,8 +95,8 @@ line_opens (stating h) r = let w = stmt_words h r in record { no_close = w.no_cl
 pub switch_line_opens : {x : Stmt} {s : List Token} → SpellsSwitchLine x s → (r : List Token) → Opens (s ++ r)
 unfolding begins begins_key
 switch_line_opens (plain_line h) r = line_opens h r
-switch_line_opens (case_line a b h) r = record { no_close = refl; no_else = refl }
-switch_line_opens (default_line a b) r = record { no_close = refl; no_else = refl }
+switch_line_opens (label_line (case_label a b h)) r = record { no_close = refl; no_else = refl }
+switch_line_opens (label_line (default_label a b)) r = record { no_close = refl; no_else = refl }
 
 brace_no_else : (r : List Token) → begins marks.CloseBrace r ≡ true → begins_key keys.Else r ≡ false
 unfolding begins_key

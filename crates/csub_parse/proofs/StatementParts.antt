@@ -15,11 +15,9 @@ use Rattle.csub_tree.specs.SpellsStatements.{ends_open, SpellsMaybe}
 use Rattle.csub_expr.specs.Looks.{begins, begins_key}
 use Rattle.csub_expr.specs.Answers.{Answer, ◌>>=◌, done, expect}
 use Rattle.csub_expr.specs.ExprDescent.{read}
-use Rattle.csub_expr.proofs.Answered.{bind_ok, ok_value, ok_rest, chosen}
-use Rattle.csub_expr.proofs.Taken.{expect_is}
-use Rattle.csub_expr.proofs.ExprSound as expressions
-use Rattle.csub_expr.proofs.Spelled as spelled
-use Rattle.csub_expr.proofs.Runs.{first_append, last_token}
+use Rattle.csub_expr.proofs.LawsAnswers.{bind_ok, ok_value, ok_rest, chosen}
+use Rattle.csub_expr.proofs.LawsTokens.{expect_is, first_append, last_token}
+use Rattle.csub_expr.proofs.LawsExpressions as expressions
 use Rattle.csub_parse.specs.StatementDescent.{line, maybe_at, evaluated_end, evaluated_at, ended_by, test_at}
 use Rattle.csub_parse.proofs.Takes.{Sound, took_done}
 use Rattle.csub_parse.proofs.StatementShapes.{line_runs}
@@ -75,7 +73,7 @@ evaluated_end_sound d e ts us t x r h =
     let c = bind_ok (expect marks.Semicolon us) (λ semi. done (line (Eval e) (span_of e).start semi.0.end) semi.1) (x, r) h in
     let m = mark marks.Semicolon c.0.0 in
     let whole : List Token = t.s ++ m ∷ [] in
-    let starts : (span_of e).start ≡ first whole = ap (λ (y : Span). y.start) (spelled.spanned t.spelled) ∙ sym (first_append t.s (m ∷ []) (spelled.nonempty t.spelled)) in
+    let starts : (span_of e).start ≡ first whole = ap (λ (y : Span). y.start) (expressions.spanned t.spelled) ∙ sym (first_append t.s (m ∷ []) (expressions.nonempty t.spelled)) in
     record {
       e = e;
       s = t.s;

@@ -17,46 +17,36 @@ use Rattle.csub_tree.specs.Tokens.{mark, key, id, first, last, runs}
 use Rattle.csub_tree.specs.Lists.{Each, no_more, one_more}
 use Rattle.csub_tree.specs.SpellsExpressions.{SpellsExpr, no_assignment, assigned, no_choice, choice, tighter, operated, prefixed, cast, no_prefix, no_postfix, indexed, member, stepped, named, called, number, character, string, enclosed, Plain, Both, Either, Signed, Counted}
 use Rattle.csub_tree.specs.SpellsDeclarations.{SpellsDecl, decl}
-use Rattle.csub_tree.specs.SpellsStatements.{SpellsStmt, block, empty, evaluated, labelled, if_alone, if_else, while_loop, do_loop, for_loop, switched, broken_off, continued, gone_to, returned, SpellsLine, declaring, stating, SpellsLines, no_lines, more_lines, SpellsSwitchLine, plain_line, case_line, default_line, SpellsSwitchLines, no_switch_lines, more_switch_lines}
+use Rattle.csub_tree.specs.SpellsStatements.{SpellsStmt, block, empty, evaluated, labelled, if_alone, if_else, while_loop, do_loop, for_loop, switched, broken_off, continued, gone_to, returned, SpellsLine, declaring, stating, SpellsLines, no_lines, more_lines, SpellsSwitchLine, plain_line, case_label, default_label, SpellsSwitchLines, no_switch_lines, more_switch_lines, label_line, placed, SpellsKind}
 use Rattle.csub_parse.specs.declared.opening.Opening.{Opening}
 use Rattle.csub_parse.specs.declared.opening.Opening.TheVariants as openings
 use Rattle.csub_expr.specs.Looks.{rest, head_span}
-use Rattle.csub_expr.proofs.Runs.{nonempty_append}
+use Rattle.csub_expr.proofs.LawsTokens.{nonempty_append}
 use Rattle.csub_parse.specs.Openings.{opening_at, opening_of, opening_of_mark, opening_of_key}
 use Rattle.csub_parse.specs.StatementDescent.{stmt_span, line, bare_name}
 use Rattle.csub_parse.proofs.BaseSound.{decl_some, span_from}
 
+kind_some : {k : StmtKind} {s : List Token} → SpellsKind k s → 0 < length s
+kind_some (block a b h) = omega arith
+kind_some (empty a) = omega arith
+kind_some (evaluated {s = s} a h) = nonempty_append s _ []
+kind_some (labelled n a h) = omega arith
+kind_some (if_alone a b c h x) = omega arith
+kind_some (if_else a b c d h x o y) = omega arith
+kind_some (while_loop a b c h x) = omega arith
+kind_some (do_loop a b c d f x h) = omega arith
+kind_some (for_loop a b c d p e f x) = omega arith
+kind_some (switched a b c d f h x) = omega arith
+kind_some (broken_off a b) = omega arith
+kind_some (continued a b) = omega arith
+kind_some (gone_to n a b) = omega arith
+kind_some (returned a b h) = omega arith
+
 pub stmt_some : {x : Stmt} {s : List Token} → SpellsStmt x s → 0 < length s
-stmt_some (block a b h) = omega arith
-stmt_some (empty a) = omega arith
-stmt_some (evaluated {s = s} a h) = nonempty_append s _ []
-stmt_some (labelled n a h) = omega arith
-stmt_some (if_alone a b c h x) = omega arith
-stmt_some (if_else a b c d h x o y) = omega arith
-stmt_some (while_loop a b c h x) = omega arith
-stmt_some (do_loop a b c d f x h) = omega arith
-stmt_some (for_loop a b c d p e f x) = omega arith
-stmt_some (switched a b c d f h x) = omega arith
-stmt_some (broken_off a b) = omega arith
-stmt_some (continued a b) = omega arith
-stmt_some (gone_to n a b) = omega arith
-stmt_some (returned a b h) = omega arith
+stmt_some (placed h) = kind_some h
 
 pub stmt_spanned : {x : Stmt} {s : List Token} → SpellsStmt x s → stmt_span x ≡ runs s
-stmt_spanned (block a b h) = refl
-stmt_spanned (empty a) = refl
-stmt_spanned (evaluated a h) = refl
-stmt_spanned (labelled n a h) = refl
-stmt_spanned (if_alone a b c h x) = refl
-stmt_spanned (if_else a b c d h x o y) = refl
-stmt_spanned (while_loop a b c h x) = refl
-stmt_spanned (do_loop a b c d f x h) = refl
-stmt_spanned (for_loop a b c d p e f x) = refl
-stmt_spanned (switched a b c d f h x) = refl
-stmt_spanned (broken_off a b) = refl
-stmt_spanned (continued a b) = refl
-stmt_spanned (gone_to n a b) = refl
-stmt_spanned (returned a b h) = refl
+stmt_spanned (placed h) = refl
 
 pub decl_spanned : {x : Declare} {s : List Token} → SpellsDecl x s → x.span ≡ runs s
 decl_spanned (decl a b h) = refl
@@ -67,8 +57,8 @@ line_some (stating h) = stmt_some h
 
 pub switch_line_some : {x : Stmt} {s : List Token} → SpellsSwitchLine x s → 0 < length s
 switch_line_some (plain_line h) = line_some h
-switch_line_some (case_line a b h) = omega arith
-switch_line_some (default_line a b) = omega arith
+switch_line_some (label_line (case_label a b h)) = omega arith
+switch_line_some (label_line (default_label a b)) = omega arith
 
 -- a statement from the first token of a list to its last
 pub line_runs : (k : StmtKind) (i j : ℕ) (ts : List Token) → i ≡ first ts → j ≡ last ts → line k i j ≡ Line k (runs ts)

@@ -13,17 +13,16 @@ use Rattle.csub_tree.specs.Depth.{if_there, expr_depth, stmt_depth, perhaps_dept
 use Rattle.csub_tree.specs.Tokens.{mark, key, id, runs}
 use Rattle.csub_tree.specs.SpellsExpressions.{assignment, conditional}
 use Rattle.csub_tree.specs.SpellsDeclarations.{SpellsDecl}
-use Rattle.csub_tree.specs.SpellsStatements.{ends_open, SpellsMaybe, SpellsFirst, first_declared, first_evaluated, first_empty, SpellsStmt, block, empty, evaluated, switched, broken_off, continued, gone_to, returned, SpellsLine, declaring, stating, SpellsSwitchLine, plain_line, case_line, default_line}
+use Rattle.csub_tree.specs.SpellsStatements.{ends_open, SpellsMaybe, SpellsFirst, first_declared, first_evaluated, first_empty, SpellsStmt, block, empty, evaluated, switched, broken_off, continued, gone_to, returned, SpellsLine, declaring, stating, SpellsSwitchLine, plain_line, case_label, default_label, label_line, placed}
 use Rattle.csub_parse.specs.declared.opening.Opening.{Opening}
 use Rattle.csub_parse.specs.declared.opening.Opening.TheVariants as openings
 use Rattle.csub_expr.specs.Looks.{begins, begins_key, rest, head_span}
 use Rattle.csub_expr.specs.Answers.{Answer, ◌>>=◌, done, expect, expect_name}
 use Rattle.csub_expr.specs.ListDescent.{repeated}
 use Rattle.csub_expr.specs.ExprDescent.{read}
-use Rattle.csub_expr.proofs.Answered.{bind_ok, ok_value, ok_rest, chosen}
-use Rattle.csub_expr.proofs.Taken.{begins_is, begins_key_is, expect_is, expect_name_is}
-use Rattle.csub_expr.proofs.ExprSound as expressions
-use Rattle.csub_expr.proofs.Runs.{last_token, last_behind}
+use Rattle.csub_expr.proofs.LawsAnswers.{bind_ok, ok_value, ok_rest, chosen}
+use Rattle.csub_expr.proofs.LawsTokens.{begins_is, begins_key_is, expect_is, expect_name_is, last_token, last_behind}
+use Rattle.csub_expr.proofs.LawsExpressions as expressions
 use Rattle.csub_parse.specs.Openings.{begins_base, opening_at}
 use Rattle.csub_parse.specs.DeclarationDescent.{decl_at}
 use Rattle.csub_parse.specs.StatementDescent.{stmt_span, line, bare_name, expect_key, maybe_at, declared_at, evaluated_end, evaluated_at, first_at, line_by, case_at, default_at, switch_line_by, ended_by, test_at, block_at, else_at, if_at, while_at, do_at, for_body, for_parts, for_at, switch_body, switch_at, goto_at, return_at, label_at, after_at, plain_at, inner, outer, empty_at, stmt_by, stmt_at, read_stmt, read_line}
@@ -79,7 +78,7 @@ module _ (laws : Laws) where
       (record {
         s = whole;
         parts = ap (λ (u : List Token). key keys.Case a ∷ u) (cut_at t.s [] m ts c.0.1 c.0.1 (t.parts ∙ ap (λ (u : List Token). t.s ++ u) (expect_is marks.Colon i.0.1 c.0.0 c.0.1 c.1)) refl);
-        spelled = case_line a c.0.0 t.spelled;
+        spelled = label_line (case_label a c.0.0 t.spelled);
         fits = omega (arith, t.fits);
         tail = λ o. absurd cc;
       })) c.2
@@ -92,7 +91,7 @@ module _ (laws : Laws) where
       (record {
         s = key keys.Default a ∷ mark marks.Colon c.0.0 ∷ [];
         parts = ap (λ (u : List Token). key keys.Default a ∷ u) (expect_is marks.Colon ts c.0.0 c.0.1 c.1);
-        spelled = default_line a c.0.0;
+        spelled = label_line (default_label a c.0.0);
         fits = omega arith;
         tail = λ o. absurd cc;
       }) c.2
@@ -157,7 +156,7 @@ module _ (laws : Laws) where
         (record {
           s = o ∷ (t.s ++ m ∷ []);
           parts = ap (λ (u : List Token). o ∷ u) (cut_at t.s [] m ts c.0.1 c.0.1 (t.parts ∙ ap (λ (u : List Token). t.s ++ u) (expect_is marks.CloseBrace i.0.1 c.0.0 c.0.1 c.1)) refl);
-          spelled = block a c.0.0 (lines_of t.spelled);
+          spelled = placed (block a c.0.0 (lines_of t.spelled));
           fits = omega (arith, t.fits, stmts_most i.0.0);
           tail = λ o. absurd cc;
         })) c.2
@@ -233,7 +232,7 @@ module _ (laws : Laws) where
         (record {
           s = whole;
           parts = after_test d (key keys.Switch a) ts us e p (l ∷ (t.s ++ m ∷ [])) c.0.1 (cut_first (t.s ++ m ∷ []) l us vs c.0.1 opens (cut_at t.s [] m vs c.0.1 c.0.1 (t.parts ∙ ap (λ (u : List Token). t.s ++ u) (expect_is marks.CloseBrace i.0.1 c.0.0 c.0.1 c.1)) refl));
-          spelled = switched a p.a p.b b c.0.0 p.spelled (switch_lines_of t.spelled);
+          spelled = placed (switched a p.a p.b b c.0.0 p.spelled (switch_lines_of t.spelled));
           fits = omega (arith, p.fits, t.fits, stmts_most i.0.0);
           tail = λ o. absurd cc;
         })) c.2
@@ -248,12 +247,12 @@ module _ (laws : Laws) where
     break_sound : (a : Span) (ts : List Token) (x : Stmt) (r : List Token) → ended_by Break a.start ts ≡ Ok (x, r) → TookOpen SpellsStmt (suc d) (key keys.Break a ∷ ts) x r
     break_sound a ts x r h =
         let f = ended_is Break a.start ts x r h in
-        open_as SpellsStmt (suc d) (key keys.Break a ∷ ts) (line Break a.start f.a.end) x r (sym f.same) (record { s = key keys.Break a ∷ mark marks.Semicolon f.a ∷ []; parts = ap (λ (u : List Token). key keys.Break a ∷ u) f.parts; spelled = broken_off a f.a; fits = omega arith; tail = λ o. absurd cc })
+        open_as SpellsStmt (suc d) (key keys.Break a ∷ ts) (line Break a.start f.a.end) x r (sym f.same) (record { s = key keys.Break a ∷ mark marks.Semicolon f.a ∷ []; parts = ap (λ (u : List Token). key keys.Break a ∷ u) f.parts; spelled = placed (broken_off a f.a); fits = omega arith; tail = λ o. absurd cc })
 
     continue_sound : (a : Span) (ts : List Token) (x : Stmt) (r : List Token) → ended_by Continue a.start ts ≡ Ok (x, r) → TookOpen SpellsStmt (suc d) (key keys.Continue a ∷ ts) x r
     continue_sound a ts x r h =
         let f = ended_is Continue a.start ts x r h in
-        open_as SpellsStmt (suc d) (key keys.Continue a ∷ ts) (line Continue a.start f.a.end) x r (sym f.same) (record { s = key keys.Continue a ∷ mark marks.Semicolon f.a ∷ []; parts = ap (λ (u : List Token). key keys.Continue a ∷ u) f.parts; spelled = continued a f.a; fits = omega arith; tail = λ o. absurd cc })
+        open_as SpellsStmt (suc d) (key keys.Continue a ∷ ts) (line Continue a.start f.a.end) x r (sym f.same) (record { s = key keys.Continue a ∷ mark marks.Semicolon f.a ∷ []; parts = ap (λ (u : List Token). key keys.Continue a ∷ u) f.parts; spelled = placed (continued a f.a); fits = omega arith; tail = λ o. absurd cc })
 
     goto_sound : (a : Span) (ts : List Token) (x : Stmt) (r : List Token) → goto_at below d a.start ts ≡ Ok (x, r) → TookOpen SpellsStmt (suc d) (key keys.Goto a ∷ ts) x r
     unfolding goto_at
@@ -261,7 +260,7 @@ module _ (laws : Laws) where
         let n = bind_ok (expect_name ts) (λ n. ended_by (Goto n.0) a.start n.1) (x, r) h in
         let f = ended_is (Goto n.0.0) a.start n.0.1 x r n.2 in
         open_as SpellsStmt (suc d) (key keys.Goto a ∷ ts) (line (Goto n.0.0) a.start f.a.end) x r (sym f.same)
-        (record { s = key keys.Goto a ∷ id n.0.0 ∷ mark marks.Semicolon f.a ∷ []; parts = ap (λ (u : List Token). key keys.Goto a ∷ u) (expect_name_is ts n.0.0 n.0.1 n.1 ∙ ap (λ (u : List Token). id n.0.0 ∷ u) f.parts); spelled = gone_to n.0.0 a f.a; fits = omega arith; tail = λ o. absurd cc })
+        (record { s = key keys.Goto a ∷ id n.0.0 ∷ mark marks.Semicolon f.a ∷ []; parts = ap (λ (u : List Token). key keys.Goto a ∷ u) (expect_name_is ts n.0.0 n.0.1 n.1 ∙ ap (λ (u : List Token). id n.0.0 ∷ u) f.parts); spelled = placed (gone_to n.0.0 a f.a); fits = omega arith; tail = λ o. absurd cc })
 
     return_sound : (a : Span) (ts : List Token) (x : Stmt) (r : List Token) → return_at below d a.start ts ≡ Ok (x, r) → TookOpen SpellsStmt (suc d) (key keys.Return a ∷ ts) x r
     unfolding return_at
@@ -272,13 +271,13 @@ module _ (laws : Laws) where
         let m = mark marks.Semicolon f.a in
         let whole : List Token = key keys.Return a ∷ (t.s ++ m ∷ []) in
         open_as SpellsStmt (suc d) (key keys.Return a ∷ ts) (Line (Return e.0.0) (runs whole)) x r (sym f.same ∙ line_runs (Return e.0.0) a.start f.a.end whole refl (sym (last_token (key keys.Return a ∷ t.s) m)))
-        (record { s = whole; parts = ap (λ (u : List Token). key keys.Return a ∷ u) (cut_at t.s [] m ts r r (t.parts ∙ ap (λ (u : List Token). t.s ++ u) f.parts) refl); spelled = returned a f.a t.spelled; fits = omega (arith, t.fits); tail = λ o. absurd cc })
+        (record { s = whole; parts = ap (λ (u : List Token). key keys.Return a ∷ u) (cut_at t.s [] m ts r r (t.parts ∙ ap (λ (u : List Token). t.s ++ u) f.parts) refl); spelled = placed (returned a f.a t.spelled); fits = omega (arith, t.fits); tail = λ o. absurd cc })
 
     eval_sound : (ts : List Token) (x : Stmt) (r : List Token) → TookEval d ts x r → TookOpen SpellsStmt (suc d) ts x r
     eval_sound ts x r t =
         let m = mark marks.Semicolon t.a in
         open_as SpellsStmt (suc d) ts (Line (Eval t.e) (runs (t.s ++ m ∷ []))) x r (sym t.same)
-        (record { s = t.s ++ m ∷ []; parts = cut_at t.s [] m ts r r t.parts refl; spelled = evaluated t.a t.spelled; fits = omega (arith, t.fits); tail = λ o. absurd cc })
+        (record { s = t.s ++ m ∷ []; parts = cut_at t.s [] m ts r r t.parts refl; spelled = placed (evaluated t.a t.spelled); fits = omega (arith, t.fits); tail = λ o. absurd cc })
 
     label_sound : (n : Name) (a c : Span) (ts : List Token) → a ≡ n.span → (x : Stmt) (r : List Token) → label_at below d n a.start ts ≡ Ok (x, r) → TookOpen SpellsStmt (suc d) (id n ∷ mark marks.Colon c ∷ ts) x r
     unfolding label_at
@@ -307,7 +306,7 @@ module _ (laws : Laws) where
         after_sound (bare_name i.0.0) i.0.0 ts i.0.1 refl (expressions.sound d assignment ts i.0.0 i.0.1 i.1) x r i.2
 
     empty_sound : (a : Span) (ts us : List Token) → ts ≡ mark marks.Semicolon a ∷ us → (x : Stmt) (r : List Token) → done (Line Empty a) us ≡ Ok (x, r) → TookOpen SpellsStmt (suc d) ts x r
-    empty_sound a ts us is x r h = open_done SpellsStmt (suc d) ts x (Line Empty a) r us (record { s = mark marks.Semicolon a ∷ []; parts = is; spelled = empty a; fits = omega arith; tail = λ o. absurd cc }) h
+    empty_sound a ts us is x r h = open_done SpellsStmt (suc d) ts x (Line Empty a) r us (record { s = mark marks.Semicolon a ∷ []; parts = is; spelled = placed (empty a); fits = omega arith; tail = λ o. absurd cc }) h
 
     inner_is : (p : ℕ → List Token → Answer Stmt) (ts : List Token) (x : Stmt) (r : List Token) → inner below d p ts ≡ Ok (x, r) → p (head_span ts).start (rest ts) ≡ Ok (x, r)
     unfolding inner

@@ -6,8 +6,8 @@ use Rattle.csub_lex.specs.declared.token.Token.{Token}
 use Rattle.csub_tree.specs.Tokens.{key}
 use Rattle.csub_expr.specs.Looks.{begins_key, rest, head_span}
 use Rattle.csub_expr.specs.Answers.{Answer, done}
-use Rattle.csub_expr.proofs.Answered.{ok_value, ok_rest, chosen}
-use Rattle.csub_expr.proofs.Taken.{begins_key_is}
+use Rattle.csub_expr.proofs.LawsAnswers.{ok_value, ok_rest, chosen}
+use Rattle.csub_expr.proofs.LawsTokens.{begins_key_is}
 use Rattle.csub_parse.specs.StatementDescent.{expect_key}
 
 pub record Took (A : Type 0) (R : A → List Token → Type 0) (deep : A → ℕ) (d : ℕ) (ts : List Token) (x : A) (r : List Token) : Type 0 where

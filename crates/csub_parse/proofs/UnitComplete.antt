@@ -22,8 +22,8 @@ use Rattle.csub_tree.specs.Spells.{SpellsConstant, counted, valued, SpellsItem, 
 use Rattle.csub_expr.specs.Looks.{begins, begins_key, rest, head_span}
 use Rattle.csub_expr.specs.Answers.{done, expect, expect_name}
 use Rattle.csub_expr.specs.ListDescent.{separated, repeated}
-use Rattle.csub_expr.proofs.Spelled.{depth_pos}
-use Rattle.csub_expr.proofs.Runs.{last_token, last_behind, nonempty_append}
+use Rattle.csub_expr.proofs.LawsExpressions.{depth_pos}
+use Rattle.csub_expr.proofs.LawsTokens.{last_token, last_behind, nonempty_append}
 use Rattle.csub_parse.specs.Openings.{begins_name, at_end}
 use Rattle.csub_parse.specs.DeclarationDescent.{from_to, decl_after, field_at}
 use Rattle.csub_parse.specs.StatementDescent.{read_line}

@@ -16,9 +16,9 @@ use Rattle.csub_expr.specs.Looks.{begins, begins_key, rest}
 use Rattle.csub_expr.specs.Answers.{◌>>=◌, done, expect, expect_name}
 use Rattle.csub_expr.specs.ListDescent.{separated, repeated}
 use Rattle.csub_expr.specs.ExprDescent.{read}
-use Rattle.csub_expr.proofs.Local.{Local, SameAtHead, local_bind, local_done, local_refuse, local_rest, local_if, local_expect, local_name, same_begins, same_begins_key}
-use Rattle.csub_expr.proofs.Series.{local_separated}
-use Rattle.csub_expr.proofs.ExprLocal.{local_read}
+use Rattle.csub_expr.proofs.LawsLocal.{Local, SameAtHead, local_bind, local_done, local_refuse, local_rest, local_if, local_expect, local_name, same_begins, same_begins_key}
+use Rattle.csub_expr.proofs.LawsLists.{local_separated}
+use Rattle.csub_expr.proofs.LawsExpressions.{local_read}
 use Rattle.csub_parse.specs.Openings.{begins_name, at_end}
 use Rattle.csub_parse.specs.DeclarationDescent.{from_to, numeric_at, decl_after, decl_behind, field_at, params_at}
 use Rattle.csub_parse.specs.StatementDescent.{read_line}

@@ -23,10 +23,9 @@ use Rattle.csub_expr.specs.Looks.{begins, begins_key, rest, head_span}
 use Rattle.csub_expr.specs.Answers.{Answer, ◌>>=◌, done, expect, expect_name}
 use Rattle.csub_expr.specs.ListDescent.{separated, repeated}
 use Rattle.csub_expr.specs.ExprDescent.{read}
-use Rattle.csub_expr.proofs.Answered.{bind_ok, ok_value, ok_rest, chosen, and_true}
-use Rattle.csub_expr.proofs.Taken.{begins_is, begins_key_is, expect_is, expect_name_is}
-use Rattle.csub_expr.proofs.ExprSound as expressions
-use Rattle.csub_expr.proofs.Runs.{first_append, last_token, nonempty_append}
+use Rattle.csub_expr.proofs.LawsAnswers.{bind_ok, ok_value, ok_rest, chosen, and_true}
+use Rattle.csub_expr.proofs.LawsTokens.{begins_is, begins_key_is, expect_is, expect_name_is, first_append, last_token, nonempty_append}
+use Rattle.csub_expr.proofs.LawsExpressions as expressions
 use Rattle.csub_parse.specs.Openings.{begins_name, at_end}
 use Rattle.csub_parse.specs.DeclarationDescent.{from_to, numeric_at, decl_after, decl_behind, field_at, params_at}
 use Rattle.csub_parse.specs.StatementDescent.{read_line}

@@ -3,8 +3,8 @@ use Rattle.std.proofs.Common.{◌≡◌, ℕ, suc, ◌+◌, ◌-◌, ◌<◌, �
 use Rattle.std.proofs.Math.Seq.{take-append-add}
 use Rattle.csub_lex.specs.declared.token.Token.{Token}
 use Rattle.csub_tree.specs.Units.{Source}
-use Rattle.csub_expr.proofs.Answered.{ok_value}
-use Rattle.csub_expr.proofs.Local.{head}
+use Rattle.csub_expr.proofs.LawsAnswers.{ok_value}
+use Rattle.csub_expr.specs.Laws.{head}
 use Rattle.csub_parse.specs.Syntax.{Within, NoneBegins, NoneSpells}
 use Rattle.csub_parse.specs.UnitDescent.{read_unit}
 use Rattle.csub_parse.proofs.Given.{Laws}

@@ -21,8 +21,13 @@ use Rattle.csub_parse.specs.StatementDescent.{read_line}
 module _ (d : ℕ) where
   -- const, behind its name
   unfoldable pub constant_after : Name → List Token → Answer Constant
-  constant_after n ts = if begins marks.Equal ts && nat_le 1 d then (read d conditional (rest ts) >>= λ e. Ok (record { name = n; value = Some e.0 }, e.1)) else Ok (record { name = n; value = None }, ts)
+  constant_after n ts =
+      if begins marks.Equal ts && nat_le 1 d then (
+      read d conditional (rest ts) >>= λ e.
+      Ok (record { name = n; value = Some e.0 }, e.1)
+      ) else Ok (record { name = n; value = None }, ts)
 
+  -- const
   unfoldable pub constant_at : List Token → Answer Constant
   constant_at ts = do
     n ← expect_name ts
@@ -37,6 +42,7 @@ module _ (d : ℕ) where
     semi ← expect marks.Semicolon close.1
     Ok (Enum n cs.0, semi.1)
 
+  -- behind "enum"
   unfoldable pub enum_at : List Token → Answer Item
   enum_at ts = if begins_name ts then (expect_name ts >>= λ n. enum_behind (Some n.0) n.1) else enum_behind None ts
 
@@ -55,11 +61,13 @@ module _ (d : ℕ) where
     semi ← expect marks.Semicolon close.1
     Ok (Struct n xs.0, semi.1)
 
+  -- the declaration whose base was read
   unfoldable pub object_behind : TypeName → ℕ → List Token → Answer Item
   object_behind b start ts = do
     x ← decl_behind d b start ts
     Ok (Object x.0, x.1)
 
+  -- the declaration whose base and first name were read
   unfoldable pub object_after : TypeName → ℕ → Name → List Token → Answer Item
   object_after b start n ts = do
     x ← decl_after d b start n ts
@@ -69,6 +77,7 @@ module _ (d : ℕ) where
   unfoldable pub tagged_at : ℕ → Name → List Token → Answer Item
   tagged_at start n ts = if begins marks.OpenBrace ts then members_at n (rest ts) else object_behind (types.Struct n) start ts
 
+  -- behind "struct"
   unfoldable pub struct_at : ℕ → List Token → Answer Item
   struct_at start ts = do
     n ← expect_name ts
@@ -83,7 +92,11 @@ module _ (d : ℕ) where
 
   -- a head was read
   unfoldable pub head_after : Head → ℕ → List Token → Answer Item
-  head_after h start ts = if begins marks.Semicolon ts then Ok (Prototype h, rest ts) else (expect marks.OpenBrace ts >>= λ open_mark. body_at h start open_mark.1)
+  head_after h start ts =
+      if begins marks.Semicolon ts then Ok (Prototype h, rest ts) else (
+      expect marks.OpenBrace ts >>= λ open_mark.
+      body_at h start open_mark.1
+      )
 
   -- the result, the name and "(" were read
   unfoldable pub function_at : TypeName → ℕ → Name → List Token → Answer Item
@@ -103,22 +116,30 @@ module _ (d : ℕ) where
   unfoldable pub numbered_after : TypeName → ℕ → Name → List Token → Answer Item
   numbered_after b start n ts = if begins marks.OpenParen ts then function_at b start n (rest ts) else object_after b start n ts
 
+  -- an item that begins with a number type
   unfoldable pub numbered_at : ℕ → List Token → Answer Item
   numbered_at start ts = do
     b ← numeric_at ts
     n ← expect_name b.1
     numbered_after b.0.0 start n.0 n.1
 
+  -- item, which begins at start
   unfoldable pub item_from : ℕ → List Token → Answer Item
-  item_from start ts = if begins_key keys.Struct ts then struct_at start (rest ts) else (if begins_key keys.Enum ts then enum_at (rest ts) else (if begins_key keys.Void ts then void_at start (rest ts) else numbered_at start ts))
+  item_from start ts =
+      if begins_key keys.Struct ts then struct_at start (rest ts) else (
+      if begins_key keys.Enum ts then enum_at (rest ts) else (
+      if begins_key keys.Void ts then void_at start (rest ts) else numbered_at start ts))
 
+  -- item
   unfoldable pub item_at : List Token → Answer Item
   item_at ts = item_from (head_span ts).start ts
 
+-- an item of at most this depth
 unfoldable pub read_item : ℕ → List Token → Answer Item
 read_item zero ts = Err (length ts)
 read_item (suc d) ts = item_at d ts
 
+-- a unit of at most this depth
 unfoldable pub read_unit : ℕ → List Token → Answer Source
 read_unit zero ts = Err (length ts)
 read_unit (suc d) ts = repeated (read_item d) at_end (suc (length ts)) ts >>= λ is. Ok (record { items = is.0 }, is.1)

@@ -12,11 +12,12 @@ ghost use Rattle.csub_parse.specs.StatementDescent.{bare_name, read_stmt, read_l
 
 use crate::base::begins_base;
 use crate::node::{
-    block_node, do_node, else_node, for_node, if_node, label_node, switch_node, while_node,
+    block_node, boxed, do_node, else_node, for_node, if_node, label_node, switch_node, while_node,
 };
 use crate::opening::{Opening, opening_at};
 use crate::statement::{
-    case, declared, default, ended, evaluated, evaluated_end, expect_key, give, jump, maybe, test,
+    case, declared, default, evaluated, evaluated_end, expect_key, give, go_on, jump, leave, maybe,
+    test,
 };
 use csub_expr::expression::assign;
 use csub_expr::look::{begins, begins_key, expect, head_span, skip};
@@ -47,21 +48,7 @@ fn bare_name(e: Expr) -> Option<Name>
 {
     match e.kind {
         ExprKind::Name(name) => Some(name),
-        ExprKind::Number(..) => None,
-        ExprKind::Char(_) => None,
-        ExprKind::Text(_) => None,
-        ExprKind::Paren(_) => None,
-        ExprKind::Unary(..) => None,
-        ExprKind::Cast(..) => None,
-        ExprKind::Step(..) => None,
-        ExprKind::Binary(..) => None,
-        ExprKind::And(..) => None,
-        ExprKind::Or(..) => None,
-        ExprKind::Choose(..) => None,
-        ExprKind::Assign(..) => None,
-        ExprKind::Call(..) => None,
-        ExprKind::Index(..) => None,
-        ExprKind::Member(..) => None,
+        _ => None,
     }
 }
 
@@ -83,6 +70,16 @@ fn first(alloc: Global, tokens: &[Token], budget: u32) -> Result<(Option<Stmt>, 
     }
     let (x, rest) = evaluated(alloc, tokens, budget - 1)?;
     Ok((Some(x), rest))
+}
+
+// A statement inside another.
+#[cycle(stmt)]
+fn inside(alloc: Global, tokens: &[Token], budget: u32) -> Result<(Box<Stmt>, &[Token]), Stop>
+    requires { budget ≤ 256 }
+    ensures { Gives (λ x. (stmt_tree x.0.value, x.1.now)) result (read_stmt budget tokens.now) }
+{
+    let (x, rest) = stmt(alloc, tokens, budget)?;
+    Ok((boxed(alloc, x)?, rest))
 }
 
 /// A line of a block (C11 6.8.2): a declaration or a statement, and the tokens behind it.
@@ -184,12 +181,12 @@ fn choice(alloc: Global, tokens: &[Token], budget: u32) -> Result<(Stmt, &[Token
     }
     let start = head_span(tokens).start;
     let (e, rest) = test(alloc, skip(tokens), budget)?;
-    let (x, rest) = stmt(alloc, rest, budget)?;
+    let (x, rest) = inside(alloc, rest, budget)?;
     if begins_key(rest, Key::Else) {
-        let (y, rest) = stmt(alloc, skip(rest), budget)?;
-        return Ok((else_node(alloc, start, e, x, y)?, rest));
+        let (y, rest) = inside(alloc, skip(rest), budget)?;
+        return Ok((else_node(start, e, x, y), rest));
     }
-    Ok((if_node(alloc, start, e, x)?, rest))
+    Ok((if_node(start, e, x), rest))
 }
 
 // `while` (C11 6.8.5.1).
@@ -204,8 +201,8 @@ fn while_loop(alloc: Global, tokens: &[Token], budget: u32) -> Result<(Stmt, &[T
     }
     let start = head_span(tokens).start;
     let (e, rest) = test(alloc, skip(tokens), budget)?;
-    let (x, rest) = stmt(alloc, rest, budget)?;
-    Ok((while_node(alloc, start, e, x)?, rest))
+    let (x, rest) = inside(alloc, rest, budget)?;
+    Ok((while_node(start, e, x), rest))
 }
 
 // `do` (C11 6.8.5.2).
@@ -219,11 +216,11 @@ fn do_loop(alloc: Global, tokens: &[Token], budget: u32) -> Result<(Stmt, &[Toke
         return Err(Stop::At(tokens.len()));
     }
     let start = head_span(tokens).start;
-    let (x, rest) = stmt(alloc, skip(tokens), budget)?;
+    let (x, rest) = inside(alloc, skip(tokens), budget)?;
     let (_, rest) = expect_key(rest, Key::While)?;
     let (e, rest) = test(alloc, rest, budget)?;
     let (semicolon, rest) = expect(rest, Mark::Semicolon)?;
-    Ok((do_node(alloc, start, x, e, semicolon.end)?, rest))
+    Ok((do_node(start, x, e, semicolon.end), rest))
 }
 
 // `for` (C11 6.8.5.3).
@@ -243,7 +240,7 @@ fn for_loop(alloc: Global, tokens: &[Token], budget: u32) -> Result<(Stmt, &[Tok
     let (_, rest) = expect(rest, Mark::Semicolon)?;
     let (f, rest) = maybe(alloc, rest, Mark::CloseParen, budget)?;
     let (_, rest) = expect(rest, Mark::CloseParen)?;
-    let (x, rest) = stmt(alloc, rest, budget)?;
+    let (x, rest) = inside(alloc, rest, budget)?;
     Ok((for_node(alloc, start, p, e, f, x)?, rest))
 }
 
@@ -280,9 +277,8 @@ fn plain(alloc: Global, tokens: &[Token], budget: u32) -> Result<(Stmt, &[Token]
     let Some(name) = bare_name(e) else {
         return Err(Stop::At(rest.len()))
     };
-    let (x, rest) = stmt(alloc, skip(rest), budget)?;
-    let node = label_node(alloc, name, start, x)?;
-    Ok((node, rest))
+    let (x, rest) = inside(alloc, skip(rest), budget)?;
+    Ok((label_node(name, start, x), rest))
 }
 
 /// A statement (C11 6.8) of at most the depth `budget`, and the tokens behind it.
@@ -306,8 +302,8 @@ pub fn stmt(alloc: Global, tokens: &[Token], budget: u32) -> Result<(Stmt, &[Tok
         Opening::Do => do_loop(alloc, tokens, inside),
         Opening::For => for_loop(alloc, tokens, inside),
         Opening::Switch => switch(alloc, tokens, inside),
-        Opening::Break => ended(StmtKind::Break, start, rest),
-        Opening::Continue => ended(StmtKind::Continue, start, rest),
+        Opening::Break => leave(start, rest),
+        Opening::Continue => go_on(start, rest),
         Opening::Goto => jump(start, rest, inside),
         Opening::Return => give(alloc, start, rest, inside),
         Opening::Plain => plain(alloc, tokens, inside),

@@ -27,99 +27,74 @@ pub fn switch_node(start: u32, e: Expr, all: Vec<Stmt>, end: u32) -> Stmt
     Stmt { kind, span }
 }
 
-pub fn if_node(alloc: Global, start: u32, e: Expr, x: Stmt) -> Result<Stmt, Stop>
-    ensures ok { IfOk result (λ s. stmt_tree s ≡ line (If (expr_tree e) (stmt_tree x) NoStmt) start (stmt_span (stmt_tree x)).end) }
+/// The statement in a box.
+pub fn boxed(alloc: Global, x: Stmt) -> Result<Box<Stmt>, Stop>
+    ensures ok { IfOk result (λ b. b.value ≡ x) }
     ensures err { IfErr result (λ e. e ≡ Memory) }
+{
+    Ok(Box::new(alloc, x)?)
+}
+
+pub fn if_node(start: u32, e: Expr, x: Box<Stmt>) -> Stmt
+    ensures { stmt_tree result ≡ line (If (expr_tree e) (stmt_tree x.value) NoStmt) start (stmt_span (stmt_tree x.value)).end }
 {
     let span = Span {
         start,
         end: x.span.end,
     };
-    let kind = StmtKind::If(e, Box::new(alloc, x)?, None);
-    Ok(Stmt { kind, span })
+    let kind = StmtKind::If(e, x, None);
+    Stmt { kind, span }
 }
 
-pub fn else_node(alloc: Global, start: u32, e: Expr, x: Stmt, y: Stmt) -> Result<Stmt, Stop>
-    ensures ok { IfOk result (λ s. stmt_tree s ≡ line (If (expr_tree e) (stmt_tree x) (OneStmt (stmt_tree y))) start (stmt_span (stmt_tree y)).end) }
-    ensures err { IfErr result (λ e. e ≡ Memory) }
+pub fn else_node(start: u32, e: Expr, x: Box<Stmt>, y: Box<Stmt>) -> Stmt
+    ensures { stmt_tree result ≡ line (If (expr_tree e) (stmt_tree x.value) (OneStmt (stmt_tree y.value))) start (stmt_span (stmt_tree y.value)).end }
 {
     let span = Span {
         start,
         end: y.span.end,
     };
-    let kind = StmtKind::If(e, Box::new(alloc, x)?, Some(Box::new(alloc, y)?));
-    Ok(Stmt { kind, span })
+    let kind = StmtKind::If(e, x, Some(y));
+    Stmt { kind, span }
 }
 
-pub fn while_node(alloc: Global, start: u32, e: Expr, x: Stmt) -> Result<Stmt, Stop>
-    ensures ok { IfOk result (λ s. stmt_tree s ≡ line (While (expr_tree e) (stmt_tree x)) start (stmt_span (stmt_tree x)).end) }
-    ensures err { IfErr result (λ e. e ≡ Memory) }
+pub fn while_node(start: u32, e: Expr, x: Box<Stmt>) -> Stmt
+    ensures { stmt_tree result ≡ line (While (expr_tree e) (stmt_tree x.value)) start (stmt_span (stmt_tree x.value)).end }
 {
     let span = Span {
         start,
         end: x.span.end,
     };
-    let kind = StmtKind::While(e, Box::new(alloc, x)?);
-    Ok(Stmt { kind, span })
+    let kind = StmtKind::While(e, x);
+    Stmt { kind, span }
 }
 
-pub fn do_node(alloc: Global, start: u32, x: Stmt, e: Expr, end: u32) -> Result<Stmt, Stop>
-    ensures ok { IfOk result (λ s. stmt_tree s ≡ line (Do (stmt_tree x) (expr_tree e)) start end) }
-    ensures err { IfErr result (λ e. e ≡ Memory) }
+pub fn do_node(start: u32, x: Box<Stmt>, e: Expr, end: u32) -> Stmt
+    ensures { stmt_tree result ≡ line (Do (stmt_tree x.value) (expr_tree e)) start end }
 {
     let span = Span { start, end };
-    let kind = StmtKind::Do(Box::new(alloc, x)?, e);
-    Ok(Stmt { kind, span })
+    let kind = StmtKind::Do(x, e);
+    Stmt { kind, span }
 }
 
-pub fn label_node(alloc: Global, name: Name, start: u32, x: Stmt) -> Result<Stmt, Stop>
-    ensures ok { IfOk result (λ s. stmt_tree s ≡ line (Label name (stmt_tree x)) start (stmt_span (stmt_tree x)).end) }
-    ensures err { IfErr result (λ e. e ≡ Memory) }
+pub fn label_node(name: Name, start: u32, x: Box<Stmt>) -> Stmt
+    ensures { stmt_tree result ≡ line (Label name (stmt_tree x.value)) start (stmt_span (stmt_tree x.value)).end }
 {
     let span = Span {
         start,
         end: x.span.end,
     };
-    let kind = StmtKind::Label(name, Box::new(alloc, x)?);
-    Ok(Stmt { kind, span })
+    let kind = StmtKind::Label(name, x);
+    Stmt { kind, span }
 }
 
-fn unbegun_for_node(
-    alloc: Global,
-    start: u32,
-    e: Option<Expr>,
-    f: Option<Expr>,
-    x: Stmt,
-) -> Result<Stmt, Stop>
-    ensures ok { IfOk result (λ s. stmt_tree s ≡ line (For NoStmt (option_map expr_tree e) (option_map expr_tree f) (stmt_tree x)) start (stmt_span (stmt_tree x)).end) }
+fn perhaps_boxed(alloc: Global, p: Option<Stmt>) -> Result<Option<Box<Stmt>>, Stop>
+    ensures ok { IfOk result (λ b. option_map (λ x. stmt_tree x.value) b ≡ option_map stmt_tree p) }
     ensures err { IfErr result (λ e. e ≡ Memory) }
 {
-    let span = Span {
-        start,
-        end: x.span.end,
-    };
-    let kind = StmtKind::For(None, e, f, Box::new(alloc, x)?);
-    Ok(Stmt { kind, span })
-}
-
-fn begun_for_node(
-    alloc: Global,
-    start: u32,
-    p: Stmt,
-    e: Option<Expr>,
-    f: Option<Expr>,
-    x: Stmt,
-) -> Result<Stmt, Stop>
-    ensures ok { IfOk result (λ s. stmt_tree s ≡ line (For (OneStmt (stmt_tree p)) (option_map expr_tree e) (option_map expr_tree f) (stmt_tree x)) start (stmt_span (stmt_tree x)).end) }
-    ensures err { IfErr result (λ e. e ≡ Memory) }
-{
-    let span = Span {
-        start,
-        end: x.span.end,
-    };
-    let first = Box::new(alloc, p)?;
-    let kind = StmtKind::For(Some(first), e, f, Box::new(alloc, x)?);
-    Ok(Stmt { kind, span })
+    match p {
+        None => Ok(None),
+        Some(p) => Ok(Some(boxed(alloc, p)?)),
+    }
 }
 
 pub fn for_node(
@@ -128,13 +103,16 @@ pub fn for_node(
     p: Option<Stmt>,
     e: Option<Expr>,
     f: Option<Expr>,
-    x: Stmt,
+    x: Box<Stmt>,
 ) -> Result<Stmt, Stop>
-    ensures ok { IfOk result (λ s. stmt_tree s ≡ line (For (perhaps_of (option_map stmt_tree p)) (option_map expr_tree e) (option_map expr_tree f) (stmt_tree x)) start (stmt_span (stmt_tree x)).end) }
+    ensures ok { IfOk result (λ s. stmt_tree s ≡ line (For (perhaps_of (option_map stmt_tree p)) (option_map expr_tree e) (option_map expr_tree f) (stmt_tree x.value)) start (stmt_span (stmt_tree x.value)).end) }
     ensures err { IfErr result (λ e. e ≡ Memory) }
 {
-    match p {
-        None => unbegun_for_node(alloc, start, e, f, x),
-        Some(p) => begun_for_node(alloc, start, p, e, f, x),
-    }
+    let span = Span {
+        start,
+        end: x.span.end,
+    };
+    let p = perhaps_boxed(alloc, p)?;
+    let kind = StmtKind::For(p, e, f, x);
+    Ok(Stmt { kind, span })
 }

@@ -2,7 +2,7 @@
 ghost use Rattle.std.specs.Prelude.{◌≡◌, ℕ, ◌≤◌, Option, Some, None, Ok, Err};
 ghost use Rattle.std.specs.Option.{option_map};
 ghost use Rattle.csub_tree.specs.Expressions.{expr_tree};
-ghost use Rattle.csub_tree.specs.Statements.{stmt_tree, line_tree};
+ghost use Rattle.csub_tree.specs.Statements.{stmt_tree, line_tree, Break, Continue};
 ghost use Rattle.csub_expr.specs.Answers.{Gives};
 ghost use Rattle.csub_parse.specs.StatementDescent.{line, expect_key, maybe_at, declared_at, evaluated_end, evaluated_at, case_at, default_at, ended_by, test_at, goto_at, return_at, read_stmt};
 
@@ -110,13 +110,22 @@ pub fn default(start: u32, tokens: &[Token]) -> Result<(Stmt, &[Token]), Stop>
     Ok((line(StmtKind::Default, start, colon.end), rest))
 }
 
-/// The semicolon behind a statement's other tokens.
+/// `break` whose keyword, which began at `start`, was read (C11 6.8.6.3).
 #[tactic(auto, unfolding(crate::specs::StatementDescent::ended_by))]
-pub fn ended(kind: StmtKind, start: u32, tokens: &[Token]) -> Result<(Stmt, &[Token]), Stop>
-    ensures { Gives (λ x. (stmt_tree x.0, x.1.now)) result (ended_by (line_tree kind) start tokens.now) }
+pub fn leave(start: u32, tokens: &[Token]) -> Result<(Stmt, &[Token]), Stop>
+    ensures { Gives (λ x. (stmt_tree x.0, x.1.now)) result (ended_by Break start tokens.now) }
 {
     let (semicolon, rest) = expect(tokens, Mark::Semicolon)?;
-    Ok((line(kind, start, semicolon.end), rest))
+    Ok((line(StmtKind::Break, start, semicolon.end), rest))
+}
+
+/// `continue` whose keyword, which began at `start`, was read (C11 6.8.6.2).
+#[tactic(auto, unfolding(crate::specs::StatementDescent::ended_by))]
+pub fn go_on(start: u32, tokens: &[Token]) -> Result<(Stmt, &[Token]), Stop>
+    ensures { Gives (λ x. (stmt_tree x.0, x.1.now)) result (ended_by Continue start tokens.now) }
+{
+    let (semicolon, rest) = expect(tokens, Mark::Semicolon)?;
+    Ok((line(StmtKind::Continue, start, semicolon.end), rest))
 }
 
 /// The expression in parentheses that a statement begins with (C11 6.8.4 and 6.8.5).
@@ -132,16 +141,17 @@ pub fn test(alloc: Global, tokens: &[Token], budget: u32) -> Result<(Expr, &[Tok
 }
 
 /// `goto` whose keyword, which began at `start`, was read (C11 6.8.6.1).
-#[tactic(auto, unfolding(crate::specs::StatementDescent::goto_at))]
+#[tactic(auto, unfolding(crate::specs::StatementDescent::goto_at, crate::specs::StatementDescent::ended_by))]
 pub fn jump(start: u32, tokens: &[Token], budget: u32) -> Result<(Stmt, &[Token]), Stop>
     ensures { Gives (λ x. (stmt_tree x.0, x.1.now)) result (goto_at (read_stmt budget) budget start tokens.now) }
 {
     let (name, rest) = expect_name(tokens)?;
-    ended(StmtKind::Goto(name), start, rest)
+    let (semicolon, rest) = expect(rest, Mark::Semicolon)?;
+    Ok((line(StmtKind::Goto(name), start, semicolon.end), rest))
 }
 
 /// `return` whose keyword, which began at `start`, was read (C11 6.8.6.4).
-#[tactic(auto, unfolding(crate::specs::StatementDescent::return_at))]
+#[tactic(auto, unfolding(crate::specs::StatementDescent::return_at, crate::specs::StatementDescent::ended_by))]
 pub fn give(
     alloc: Global,
     start: u32,
@@ -152,5 +162,6 @@ pub fn give(
     ensures { Gives (λ x. (stmt_tree x.0, x.1.now)) result (return_at (read_stmt budget) budget start tokens.now) }
 {
     let (value, rest) = maybe(alloc, tokens, Mark::Semicolon, budget)?;
-    ended(StmtKind::Return(value), start, rest)
+    let (semicolon, rest) = expect(rest, Mark::Semicolon)?;
+    Ok((line(StmtKind::Return(value), start, semicolon.end), rest))
 }

@@ -1,2 +1,2 @@
-pub mod Depths
-pub mod Shapes
+mod Depths
+mod Shapes

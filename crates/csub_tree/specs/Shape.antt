@@ -6,9 +6,11 @@ use Rattle.csub_text.specs.declared.span.Span.{Span}
 use Rattle.csub_tree.specs.declared.name.Name.{Name}
 use Rattle.csub_tree.specs.declared.name.TypeName.{TypeName}
 use Rattle.csub_tree.specs.declared.name.TypeName.TheVariants as types
-use Rattle.csub_tree.specs.Expressions.{Expr, Kind, Exprs, Node, Number, Char, Text, Named, Paren, Unary, Cast, Step, Binary, And, Or, Choose, Assign, Call, Index, Member, NoExprs, MoreExprs}
+use Rattle.csub_tree.specs.Expressions.{Expr, Kind, Exprs, Node, Number, Char, Text, Named, Paren, Unary, Cast, Step, Binary, And, Or}
+use Rattle.csub_tree.specs.Expressions.{Choose, Assign, Call, Index, Member, NoExprs, MoreExprs}
 use Rattle.csub_tree.specs.Declarations.{Init, Inits, One, Listed, NoInits, MoreInits, Declarator, Declare, Param, Head}
-use Rattle.csub_tree.specs.Statements.{Stmt, StmtKind, Perhaps, Stmts, Line, Declared, Eval, Empty, Block, If, While, Do, For, Switch, Case, Default, Break, Continue, Goto, Label, Return, NoStmt, OneStmt, NoStmts, MoreStmts}
+use Rattle.csub_tree.specs.Statements.{Stmt, StmtKind, Perhaps, Stmts, Line, Declared, Eval, Empty, Block, If, While, Do, For, Switch}
+use Rattle.csub_tree.specs.Statements.{Case, Default, Break, Continue, Goto, Label, Return, NoStmt, OneStmt, NoStmts, MoreStmts}
 use Rattle.csub_tree.specs.Units.{Constant, Item, Struct, Enum, Object, Prototype, Function, Source}
 
 abbrev pub nowhere : Span
@@ -66,7 +68,8 @@ abbrev pub declare_shape : Declare → Declare
 declare_shape d = record { base = type_shape d.base; vars = map declarator_shape d.vars; span = nowhere }
 
 abbrev pub param_shape : Param → Param
-param_shape p = record { base = type_shape p.base; name = option_map name_shape p.name; array = p.array; length = option_map expr_shape p.length; span = nowhere }
+param_shape p =
+    record { base = type_shape p.base; name = option_map name_shape p.name; array = p.array; length = option_map expr_shape p.length; span = nowhere }
 
 abbrev pub head_shape : Head → Head
 head_shape h = record { result = type_shape h.result; name = name_shape h.name; params = map param_shape h.params }

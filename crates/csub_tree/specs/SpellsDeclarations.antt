@@ -13,17 +13,22 @@ use Rattle.csub_tree.specs.Tokens.{mark, key, id, runs}
 use Rattle.csub_tree.specs.Lists.{Each, Separated, Optional, Trailing}
 use Rattle.csub_tree.specs.SpellsExpressions.{SpellsExpr, SpellsNumber, assignment, conditional}
 
+-- "{" some tokens "}"
+abbrev pub braced : Span → List Token → Span → List Token
+braced a s b = mark marks.OpenBrace a ∷ (s ++ mark marks.CloseBrace b ∷ [])
+
 mutual
   -- init = assign | "{" init ("," init)* [","] "}" (6.7.9)
   pub data SpellsInit : Init → List Token → Type 0 where
     one : {e : Expr} {s : List Token} → SpellsExpr assignment e s → SpellsInit (One e) s
     listed : {is : Inits} {s t : List Token} (a b : Span) → SpellsInits is s → Trailing t
-        → SpellsInit (Listed is (runs (mark marks.OpenBrace a ∷ (s ++ t ++ mark marks.CloseBrace b ∷ [])))) (mark marks.OpenBrace a ∷ (s ++ t ++ mark marks.CloseBrace b ∷ []))
+        → SpellsInit (Listed is (runs (braced a (s ++ t) b))) (braced a (s ++ t) b)
 
   -- init ("," init)*
   pub data SpellsInits : Inits → List Token → Type 0 where
     last_init : {i : Init} {s : List Token} → SpellsInit i s → SpellsInits (MoreInits i NoInits) s
-    next_init : {i : Init} {is : Inits} {s t : List Token} (a : Span) → SpellsInit i s → SpellsInits is t → SpellsInits (MoreInits i is) (s ++ mark marks.Comma a ∷ t)
+    next_init : {i : Init} {is : Inits} {s t : List Token} (a : Span) → SpellsInit i s → SpellsInits is t
+        → SpellsInits (MoreInits i is) (s ++ mark marks.Comma a ∷ t)
 
 -- base = number | "struct" ID (6.7.2)
 pub data SpellsBase : TypeName → List Token → Type 0 where
@@ -32,7 +37,8 @@ pub data SpellsBase : TypeName → List Token → Type 0 where
 
 -- "[" cond "]"
 pub data SpellsLength : Expr → List Token → Type 0 where
-  bracketed : {e : Expr} {s : List Token} (a b : Span) → SpellsExpr conditional e s → SpellsLength e (mark marks.OpenBracket a ∷ (s ++ mark marks.CloseBracket b ∷ []))
+  bracketed : {e : Expr} {s : List Token} (a b : Span) → SpellsExpr conditional e s
+      → SpellsLength e (mark marks.OpenBracket a ∷ (s ++ mark marks.CloseBracket b ∷ []))
 
 -- slot = ID ("[" cond "]")* (6.7.6): the declarator without an initialiser
 pub data SpellsSlot : Declarator → List Token → Type 0 where
@@ -41,7 +47,8 @@ pub data SpellsSlot : Declarator → List Token → Type 0 where
 -- var = slot ["=" init] (6.7.9)
 pub data SpellsVar : Declarator → List Token → Type 0 where
   no_init : {d : Declarator} {s : List Token} → SpellsSlot d s → SpellsVar d s
-  with_init : {i : Init} {n : Name} {es : List Expr} {s t : List Token} (a : Span) → SpellsSlot (record { name = n; dims = es; init = None }) s → SpellsInit i t
+  with_init : {i : Init} {n : Name} {es : List Expr} {s t : List Token} (a : Span)
+      → SpellsSlot (record { name = n; dims = es; init = None }) s → SpellsInit i t
       → SpellsVar (record { name = n; dims = es; init = Some i }) (s ++ mark marks.Equal a ∷ t)
 
 -- field = base slot ("," slot)* ";" (6.7.2.1)
@@ -57,7 +64,8 @@ pub data SpellsDecl : Declare → List Token → Type 0 where
 -- ["[" [cond] "]"] of a parameter: whether there are brackets, and the length in them
 pub data SpellsBrackets : Bool → Option Expr → List Token → Type 0 where
   no_brackets : SpellsBrackets false None []
-  brackets : {e : Option Expr} {s : List Token} (a b : Span) → Optional Expr (SpellsExpr conditional) e s → SpellsBrackets true e (mark marks.OpenBracket a ∷ (s ++ mark marks.CloseBracket b ∷ []))
+  brackets : {e : Option Expr} {s : List Token} (a b : Span) → Optional Expr (SpellsExpr conditional) e s
+      → SpellsBrackets true e (mark marks.OpenBracket a ∷ (s ++ mark marks.CloseBracket b ∷ []))
 
 -- ID
 pub data SpellsName : Name → List Token → Type 0 where
@@ -65,7 +73,8 @@ pub data SpellsName : Name → List Token → Type 0 where
 
 -- param = base [ID] ["[" [cond] "]"] (6.7.6.3)
 pub data SpellsParam : Param → List Token → Type 0 where
-  param : {b : TypeName} {n : Option Name} {array : Bool} {e : Option Expr} {s t u : List Token} → SpellsBase b s → Optional Name SpellsName n t → SpellsBrackets array e u
+  param : {b : TypeName} {n : Option Name} {array : Bool} {e : Option Expr} {s t u : List Token} → SpellsBase b s
+      → Optional Name SpellsName n t → SpellsBrackets array e u
       → SpellsParam (record { base = b; name = n; array = array; length = e; span = runs (s ++ t ++ u) }) (s ++ t ++ u)
 
 -- ["void" | param ("," param)*]: an empty list means no parameters, as `void` does

@@ -15,7 +15,8 @@ use Rattle.csub_lex.specs.declared.token.TokenKind.TheVariants as kinds
 use Rattle.csub_tree.specs.declared.name.Name.{Name}
 use Rattle.csub_tree.specs.declared.name.TypeName.{TypeName}
 use Rattle.csub_tree.specs.declared.name.TypeName.TheVariants as types
-use Rattle.csub_tree.specs.Expressions.{Expr, Kind, Exprs, Node, Number, Char, Text, Named, Paren, Unary, Cast, Step, Binary, And, Or, Choose, Assign, Call, Index, Member, NoExprs, MoreExprs}
+use Rattle.csub_tree.specs.Expressions.{Expr, Kind, Exprs, Node, Number, Char, Text, Named, Paren, Unary, Cast, Step, Binary, And, Or}
+use Rattle.csub_tree.specs.Expressions.{Choose, Assign, Call, Index, Member, NoExprs, MoreExprs}
 use Rattle.csub_tree.specs.Tokens.{mark, key, id, runs}
 
 -- what a production of expressions is named: `binary 0` is a unary expression, and `binary (suc k)` a chain of the
@@ -135,16 +136,20 @@ mutual
   pub data SpellsExpr : Rank → Expr → List Token → Type 0 where
     -- assign = cond | unary ("=" | "+=" | ..) assign (6.5.16)
     no_assignment : {e : Expr} {s : List Token} → SpellsExpr conditional e s → SpellsExpr assignment e s
-    assigned : {o : Option BinOp} {l r : Expr} {s t : List Token} (m : Mark) (a : Span) → assignment_of m ≡ Some o → SpellsExpr (binary 0) l s → SpellsExpr assignment r t
+    assigned : {o : Option BinOp} {l r : Expr} {s t : List Token} (m : Mark) (a : Span) → assignment_of m ≡ Some o
+        → SpellsExpr (binary 0) l s → SpellsExpr assignment r t
         → SpellsExpr assignment (Node (Assign o l r) (runs (s ++ mark m a ∷ t))) (s ++ mark m a ∷ t)
     -- cond = or ["?" assign ":" cond] (6.5.15)
     no_choice : {e : Expr} {s : List Token} → SpellsExpr (binary loosest) e s → SpellsExpr conditional e s
-    choice : {e x y : Expr} {s t u : List Token} (a b : Span) → SpellsExpr (binary loosest) e s → SpellsExpr assignment x t → SpellsExpr conditional y u
-        → SpellsExpr conditional (Node (Choose e x y) (runs (s ++ mark marks.Question a ∷ (t ++ mark marks.Colon b ∷ u)))) (s ++ mark marks.Question a ∷ (t ++ mark marks.Colon b ∷ u))
+    choice : {e x y : Expr} {s t u : List Token} (a b : Span) → SpellsExpr (binary loosest) e s → SpellsExpr assignment x t
+        → SpellsExpr conditional y u
+        → SpellsExpr conditional (Node (Choose e x y) (runs (s ++ mark marks.Question a ∷ (t ++ mark marks.Colon b ∷ u))))
+        (s ++ mark marks.Question a ∷ (t ++ mark marks.Colon b ∷ u))
     -- the binary levels, left-associative (6.5.5 to 6.5.14): an operand of a tighter level, or one of this level with an
     -- operator and an operand of a tighter one
     tighter : {k : ℕ} {e : Expr} {s : List Token} → SpellsExpr (binary k) e s → SpellsExpr (binary (suc k)) e s
-    operated : {k : ℕ} {o : Operator} {l r : Expr} {s t : List Token} (m : Mark) (a : Span) → operator_of m ≡ Some o → level_of o ≡ k → SpellsExpr (binary (suc k)) l s → SpellsExpr (binary k) r t
+    operated : {k : ℕ} {o : Operator} {l r : Expr} {s t : List Token} (m : Mark) (a : Span) → operator_of m ≡ Some o → level_of o ≡ k
+        → SpellsExpr (binary (suc k)) l s → SpellsExpr (binary k) r t
         → SpellsExpr (binary (suc k)) (Node (joined o l r) (runs (s ++ mark m a ∷ t))) (s ++ mark m a ∷ t)
     -- unary = ("+" | "-" | "!" | "~" | "++" | "--") unary (6.5.3). C allows only a unary expression behind `++`; `++(int)x`
     -- is spelled here too, and refused by the rule that a number place stands there (6.5.3.1)
@@ -152,13 +157,15 @@ mutual
         → SpellsExpr (binary 0) (Node (applied o e) (runs (mark m a ∷ s))) (mark m a ∷ s)
     -- | "(" number ")" unary (6.5.4)
     cast : {n : TypeName} {e : Expr} {s t : List Token} (a b : Span) → SpellsNumber n s → SpellsExpr (binary 0) e t
-        → SpellsExpr (binary 0) (Node (Cast n e) (runs (mark marks.OpenParen a ∷ (s ++ mark marks.CloseParen b ∷ t)))) (mark marks.OpenParen a ∷ (s ++ mark marks.CloseParen b ∷ t))
+        → SpellsExpr (binary 0) (Node (Cast n e) (runs (mark marks.OpenParen a ∷ (s ++ mark marks.CloseParen b ∷ t))))
+        (mark marks.OpenParen a ∷ (s ++ mark marks.CloseParen b ∷ t))
     -- | postfix
     no_prefix : {e : Expr} {s : List Token} → SpellsExpr postfix e s → SpellsExpr (binary 0) e s
     -- postfix = primary ("[" assign "]" | "." ID | "++" | "--")* (6.5.2)
     no_postfix : {e : Expr} {s : List Token} → SpellsExpr primary e s → SpellsExpr postfix e s
     indexed : {e i : Expr} {s t : List Token} (a b : Span) → SpellsExpr postfix e s → SpellsExpr assignment i t
-        → SpellsExpr postfix (Node (Index e i) (runs (s ++ mark marks.OpenBracket a ∷ (t ++ mark marks.CloseBracket b ∷ [])))) (s ++ mark marks.OpenBracket a ∷ (t ++ mark marks.CloseBracket b ∷ []))
+        → SpellsExpr postfix (Node (Index e i) (runs (s ++ mark marks.OpenBracket a ∷ (t ++ mark marks.CloseBracket b ∷ []))))
+        (s ++ mark marks.OpenBracket a ∷ (t ++ mark marks.CloseBracket b ∷ []))
     member : {e : Expr} {s : List Token} (a : Span) (n : Name) → SpellsExpr postfix e s
         → SpellsExpr postfix (Node (Member e n) (runs (s ++ mark marks.Dot a ∷ id n ∷ []))) (s ++ mark marks.Dot a ∷ id n ∷ [])
     stepped : {o : StepOp} {e : Expr} {s : List Token} (m : Mark) (a : Span) → postfix_of m ≡ Some o → SpellsExpr postfix e s
@@ -166,12 +173,14 @@ mutual
     -- primary = ID | ID "(" [assign ("," assign)*] ")" | NUMBER | CHAR | STRING | "(" assign ")" (6.5.1, 6.5.2.2)
     named : (n : Name) → SpellsExpr primary (Node (Named n) n.span) (id n ∷ [])
     called : {es : Exprs} {s : List Token} (n : Name) (a b : Span) → SpellsArgs es s
-        → SpellsExpr primary (Node (Call n es) (runs (id n ∷ mark marks.OpenParen a ∷ (s ++ mark marks.CloseParen b ∷ [])))) (id n ∷ mark marks.OpenParen a ∷ (s ++ mark marks.CloseParen b ∷ []))
+        → SpellsExpr primary (Node (Call n es) (runs (id n ∷ mark marks.OpenParen a ∷ (s ++ mark marks.CloseParen b ∷ []))))
+        (id n ∷ mark marks.OpenParen a ∷ (s ++ mark marks.CloseParen b ∷ []))
     number : (n : ℕ) (u : Bool) (a : Span) → SpellsExpr primary (Node (Number n u) a) (record { kind = kinds.Number n u; span = a } ∷ [])
     character : (b : ℕ) (a : Span) → SpellsExpr primary (Node (Char b) a) (record { kind = kinds.Char b; span = a } ∷ [])
     string : (t : List ℕ) (a : Span) → SpellsExpr primary (Node (Text t) a) (record { kind = kinds.Text t; span = a } ∷ [])
     enclosed : {e : Expr} {s : List Token} (a b : Span) → SpellsExpr assignment e s
-        → SpellsExpr primary (Node (Paren e) (runs (mark marks.OpenParen a ∷ (s ++ mark marks.CloseParen b ∷ [])))) (mark marks.OpenParen a ∷ (s ++ mark marks.CloseParen b ∷ []))
+        → SpellsExpr primary (Node (Paren e) (runs (mark marks.OpenParen a ∷ (s ++ mark marks.CloseParen b ∷ []))))
+        (mark marks.OpenParen a ∷ (s ++ mark marks.CloseParen b ∷ []))
 
   -- [assign ("," assign)*]
   pub data SpellsArgs : Exprs → List Token → Type 0 where
@@ -181,4 +190,5 @@ mutual
   -- assign ("," assign)*
   pub data SpellsSome : Exprs → List Token → Type 0 where
     last_arg : {e : Expr} {s : List Token} → SpellsExpr assignment e s → SpellsSome (MoreExprs e NoExprs) s
-    next_arg : {e : Expr} {es : Exprs} {s t : List Token} (a : Span) → SpellsExpr assignment e s → SpellsSome es t → SpellsSome (MoreExprs e es) (s ++ mark marks.Comma a ∷ t)
+    next_arg : {e : Expr} {es : Exprs} {s t : List Token} (a : Span) → SpellsExpr assignment e s → SpellsSome es t
+        → SpellsSome (MoreExprs e es) (s ++ mark marks.Comma a ∷ t)

@@ -6,10 +6,10 @@
 #![tactic(auto)]
 
 pub mod declaration;
-pub mod deep;
+mod deep;
 pub mod expression;
 pub mod name;
-pub mod shape;
+mod shape;
 pub mod statement;
 pub mod unit;
 

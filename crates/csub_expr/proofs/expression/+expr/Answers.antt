@@ -9,11 +9,12 @@ use Rattle.csub_expr.specs.Looks.{rest, operator_view}
 use Rattle.csub_expr.specs.Answers.{Fails}
 use Rattle.csub_expr.specs.ListDescent.{never}
 use Rattle.csub_expr.specs.ExprDescent.{read}
-use Rattle.csub_expr.proofs.Series.{rest_shorter}
+use Rattle.csub_expr.proofs.LawsTokens.{rest_shorter}
 use Rattle.csub_expr.proofs.Spelled.{depth_pos, joined_depth}
 use Rattle.csub_expr.proofs.ExprSound.{shorter}
 use Rattle.csub_expr.proofs.ExprReads.{more_none, behind_none}
-use Rattle.csub_expr.proofs.Unrolled.{read_looser, fails_looser, some_left, fails_bind, more_on, more_full, behind_on, behind_full, front_fails, front_goes, front_ends, depth_push, assign_full, assign_on}
+use Rattle.csub_expr.proofs.Unrolled.{read_looser, fails_looser, some_left, fails_bind, more_on, more_full, behind_on, behind_full, depth_push, assign_full, assign_on}
+use Rattle.csub_expr.proofs.LawsLists.{front_fails, front_goes, front_ends}
 use Rattle.csub_expr.proofs.expression.+expr.Goals as goal
 use Rattle.csub_expr.proofs.expression.+expr.Goals.{run-in-Some+then-depth-budget, run-in_default, tails-in-Some+then-depth-budget, tails-in_default}
 

@@ -4,7 +4,7 @@ use Rattle.csub_tree.specs.Depth.{expr_depth, exprs_depth}
 use Rattle.csub_tree.specs.SpellsExpressions.{assignment, binary}
 use Rattle.csub_expr.specs.ListDescent.{separated, never}
 use Rattle.csub_expr.specs.ExprDescent.{read, more, behind}
-use Rattle.csub_expr.proofs.Series.{with_front}
+use Rattle.csub_expr.proofs.LawsLists.{with_front}
 use Rattle.csub_expr.proofs.expression.+expr.Given as goal
 
 -- the budget, and then how far down the grammar

@@ -5,9 +5,9 @@ use Rattle.csub_lex.specs.declared.token.Mark.TheVariants.{CloseBrace}
 use Rattle.csub_tree.specs.Declarations.{init_tree}
 use Rattle.csub_expr.specs.Looks.{begins, rest}
 use Rattle.csub_expr.specs.InitDescent.{read_init}
-use Rattle.csub_expr.proofs.Series.{rest_shorter}
+use Rattle.csub_expr.proofs.LawsTokens.{rest_shorter}
 use Rattle.csub_expr.proofs.InitLaws.{shorter_init}
-use Rattle.csub_expr.proofs.Unrolled.{front_fails, front_goes, front_ends, front_trailing}
+use Rattle.csub_expr.proofs.LawsLists.{front_fails, front_goes, front_ends, front_trailing}
 use Rattle.csub_expr.proofs.initialiser.+init.Goals as goal
 
 pub inits-returns-in_err-one : goal.inits-returns-in_err-one

@@ -4,7 +4,7 @@ use Rattle.csub_tree.specs.Declarations.{init_tree}
 use Rattle.csub_expr.specs.Looks.{begins}
 use Rattle.csub_expr.specs.ListDescent.{separated}
 use Rattle.csub_expr.specs.InitDescent.{read_init}
-use Rattle.csub_expr.proofs.Series.{with_front}
+use Rattle.csub_expr.proofs.LawsLists.{with_front}
 use Rattle.csub_expr.proofs.initialiser.+init.Given as goal
 
 abbrev pub decreases-init : goal.decreases-init

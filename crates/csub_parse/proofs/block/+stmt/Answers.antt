@@ -71,5 +71,5 @@ plain-returns-in_err-x t c =
 pub plain-returns : goal.plain-returns
 plain-returns t c =
     let b = c.args.budget in
-    let one : read_stmt b (rest c.in_ok-e.rest.now) ≡ Ok (stmt_tree c.in_ok-x.x, c.in_ok-x.rest.now) = rw (← c.skip.ensures) c.in_ok-x.ensures in
-    rw (c.in_ok-node.ensures.ok, c.start_of-start.ensures) (plain_labelled (read_stmt b) b c.args.tokens.now c.in_ok-e.rest.now c.in_ok-x.rest.now (expr_tree c.in_ok-e.e) c.in-Some.name (stmt_tree c.in_ok-x.x) c.in_ok-e.ensures.gives (sym c.if-not-begins.ensures) c.in-Some.ensures one)
+    let one : read_stmt b (rest c.in_ok-e.rest.now) ≡ Ok (stmt_tree c.in_ok-x.x.value, c.in_ok-x.rest.now) = rw (← c.skip.ensures) c.in_ok-x.ensures in
+    rw (c.label_node.ensures, c.start_of-start.ensures) (plain_labelled (read_stmt b) b c.args.tokens.now c.in_ok-e.rest.now c.in_ok-x.rest.now (expr_tree c.in_ok-e.e) c.in-Some.name (stmt_tree c.in_ok-x.x.value) c.in_ok-e.ensures.gives (sym c.if-not-begins.ensures) c.in-Some.ensures one)

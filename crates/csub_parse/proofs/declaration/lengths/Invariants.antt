@@ -1,6 +1,6 @@
 use Rattle.std.proofs.Common.{◌≡◌, ℕ, ◌<◌, suc, length, map}
 use Rattle.csub_expr.specs.ListDescent.{repeated}
-use Rattle.csub_expr.proofs.Series.{with_front}
+use Rattle.csub_expr.proofs.LawsLists.{with_front}
 use Rattle.csub_parse.specs.DeclarationDescent.{length_at, no_length}
 use Rattle.csub_tree.specs.Expressions.{expr_tree}
 use Rattle.csub_parse.proofs.declaration.lengths.Given as goal

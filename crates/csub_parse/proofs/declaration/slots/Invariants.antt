@@ -1,6 +1,6 @@
 use Rattle.std.proofs.Common.{◌≡◌, ℕ, ◌<◌, suc, length, map}
 use Rattle.csub_expr.specs.ListDescent.{separated, never}
-use Rattle.csub_expr.proofs.Series.{with_front}
+use Rattle.csub_expr.proofs.LawsLists.{with_front}
 use Rattle.csub_parse.specs.DeclarationDescent.{slot_at}
 use Rattle.csub_tree.specs.Declarations.{declarator_tree}
 use Rattle.csub_parse.proofs.declaration.slots.Given as goal

@@ -4,7 +4,7 @@ use Rattle.std.proofs.lemmas.List.{map_push}
 use Rattle.csub_tree.specs.Declarations.{declarator_tree}
 use Rattle.csub_expr.specs.Looks.{rest}
 use Rattle.csub_expr.specs.Answers.{Fails}
-use Rattle.csub_expr.proofs.Series.{rest_shorter}
+use Rattle.csub_expr.proofs.LawsTokens.{rest_shorter}
 use Rattle.csub_parse.specs.DeclarationDescent.{var_at}
 use Rattle.csub_parse.proofs.Given.{laws}
 use Rattle.csub_parse.proofs.DeclarationSound.{var_shorter}

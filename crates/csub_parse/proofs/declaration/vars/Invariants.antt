@@ -1,6 +1,6 @@
 use Rattle.std.proofs.Common.{◌≡◌, ℕ, ◌<◌, length, map}
 use Rattle.csub_expr.specs.Looks.{rest}
-use Rattle.csub_expr.proofs.Series.{with_front}
+use Rattle.csub_expr.proofs.LawsLists.{with_front}
 use Rattle.csub_parse.specs.DeclarationDescent.{var_at, following}
 use Rattle.csub_tree.specs.Declarations.{declarator_tree}
 use Rattle.csub_parse.proofs.Loops.{others}

@@ -2,8 +2,8 @@ use Rattle.std.proofs.Common.{arith, sym, ap, ◌∙◌, ◌≡◌, ◌<◌, ◌
 use Rattle.std.proofs.lemmas.Result.{err_from_is_err_and}
 use Rattle.std.proofs.lemmas.List.{map_push}
 use Rattle.csub_expr.specs.Looks.{rest, begins}
-use Rattle.csub_expr.proofs.Series.{rest_shorter}
-use Rattle.csub_expr.proofs.Unrolled.{front_fails, front_goes, front_ends, front_trailing}
+use Rattle.csub_expr.proofs.LawsTokens.{rest_shorter}
+use Rattle.csub_expr.proofs.LawsLists.{front_fails, front_goes, front_ends, front_trailing}
 use Rattle.csub_parse.specs.UnitDescent.{constant_at}
 use Rattle.csub_tree.specs.Units.{constant_tree}
 use Rattle.csub_parse.proofs.Given.{laws}

@@ -1,7 +1,7 @@
 use Rattle.std.proofs.Common.{◌≡◌, ℕ, ◌<◌, suc, length, map}
 use Rattle.csub_expr.specs.Looks.{begins}
 use Rattle.csub_expr.specs.ListDescent.{separated}
-use Rattle.csub_expr.proofs.Series.{with_front}
+use Rattle.csub_expr.proofs.LawsLists.{with_front}
 use Rattle.csub_parse.specs.UnitDescent.{constant_at}
 use Rattle.csub_tree.specs.Units.{constant_tree}
 use Rattle.csub_lex.specs.declared.token.Mark.TheVariants.{CloseBrace}

@@ -1,6 +1,6 @@
 use Rattle.std.proofs.Common.{◌≡◌, ℕ, ◌<◌, length, map}
 use Rattle.csub_expr.specs.ListDescent.{repeated}
-use Rattle.csub_expr.proofs.Series.{with_front}
+use Rattle.csub_expr.proofs.LawsLists.{with_front}
 use Rattle.csub_lex.specs.declared.token.Mark.TheVariants.{CloseBrace}
 use Rattle.csub_expr.specs.Looks.{begins}
 use Rattle.csub_parse.specs.DeclarationDescent.{field_at}

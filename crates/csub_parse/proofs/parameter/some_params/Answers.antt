@@ -3,8 +3,8 @@ use Rattle.std.proofs.lemmas.Result.{err_from_is_err_and}
 use Rattle.std.proofs.lemmas.List.{map_push}
 use Rattle.csub_expr.specs.Looks.{rest}
 use Rattle.csub_expr.specs.ListDescent.{never}
-use Rattle.csub_expr.proofs.Series.{rest_shorter}
-use Rattle.csub_expr.proofs.Unrolled.{front_fails, front_goes, front_ends}
+use Rattle.csub_expr.proofs.LawsTokens.{rest_shorter}
+use Rattle.csub_expr.proofs.LawsLists.{front_fails, front_goes, front_ends}
 use Rattle.csub_parse.specs.DeclarationDescent.{param_at}
 use Rattle.csub_tree.specs.Declarations.{param_tree}
 use Rattle.csub_parse.proofs.DeclarationSound.{param_shorter}

@@ -4,6 +4,7 @@ use Rattle.std.specs.Prelude.{◌&&◌}
 use Rattle.csub_lex.specs.declared.token.Token.{Token}
 use Rattle.csub_expr.specs.Answers.{Answer, ◌>>=◌, done}
 
+-- where two steps are answered, both are
 pub bind_ok : {A B : Type 0} (r : Answer A) (f : A × List Token → Answer B) (y : B × List Token) → (r >>= f) ≡ Ok y → (x : A × List Token) × (r ≡ Ok x) × (f x ≡ Ok y)
 bind_ok (Ok x) f y e = (x, refl, e)
 bind_ok (Err n) f y e = absurd cc
@@ -30,14 +31,12 @@ pub chosen : {A : Type 0} (b : Bool) (x y z : A) → cond b x y ≡ z → ((b �
 chosen true x y z e = inl (refl, e)
 chosen false x y z e = inr (refl, e)
 
+-- both of two tests held
 pub and_true : (a b : Bool) → (a && b) ≡ true → (a ≡ true) × (b ≡ true)
 and_true true b e = (refl, e)
 and_true false b e = absurd cc
 
-pub false_true : (b : Bool) → b ≡ false → b ≡ true → ⊥
-false_true true p q = absurd cc
-false_true false p q = absurd cc
-
+-- what is not true is false
 pub not_true : (b : Bool) → (b ≡ true → ⊥) → b ≡ false
 not_true true h = absurd (h refl)
 not_true false h = refl

@@ -1,26 +1,20 @@
--- Lists with commas: what is read is spelled so, what is spelled so is read, and a reading depends on what it took and
--- on the token after it.
-use Rattle.std.proofs.Common.{◌≡◌, ℕ, zero, suc, ◌<◌, ◌≤◌, List, [], ◌∷◌, ◌++◌, length, Ok, Bool, true, false, cond, refl, sym, ap, subst, ◌∙◌, arith, append_assoc, inl, inr, ◌⊎◌}
+-- Lists with commas, by how one piece is read: what is read is spelled so, what is spelled so is read, and a reading depends on
+-- what it took and on the token after it.
+use Rattle.std.proofs.Common.{◌≡◌, ℕ, zero, suc, ◌-◌, ◌<◌, Err, List, [], ◌∷◌, ◌++◌, length, Ok, Bool, true, false, cond, refl, sym, ap, subst, ◌∙◌, arith, append_assoc, inl, inr, ◌⊎◌}
 use Rattle.csub_text.specs.declared.span.Span.{Span}
 use Rattle.csub_lex.specs.declared.token.Mark.TheVariants as marks
 use Rattle.csub_lex.specs.declared.token.Token.{Token}
 use Rattle.csub_tree.specs.Tokens.{mark}
 use Rattle.csub_tree.specs.Lists.{Separated, last_one, before, Trailing, no_comma, comma}
 use Rattle.csub_expr.specs.Looks.{begins, rest, head_span}
-use Rattle.csub_expr.specs.Answers.{Answer, ◌>>=◌, done}
+use Rattle.csub_expr.specs.declared.stop.Stop.{Stop}
+use Rattle.csub_expr.specs.declared.stop.Stop.TheVariants as stops
+use Rattle.csub_expr.specs.Answers.{Answer, ◌>>=◌, Fails, done}
 use Rattle.csub_expr.specs.ListDescent.{separated}
-use Rattle.csub_expr.proofs.Answered.{bind_ok, ok_value, ok_rest, chosen}
+use Rattle.csub_expr.proofs.LawsAnswers.{bind_ok, ok_value, ok_rest, chosen}
+use Rattle.csub_expr.proofs.LawsTokens.{rest_shorter}
 use Rattle.csub_expr.proofs.Taken.{begins_is}
-use Rattle.csub_expr.proofs.Local.{Local, SameAtHead, local_bind, local_done, local_refuse, local_rest, local_if, same_begins, local_fuel, bind_same}
-
-pub rest_shorter : (ts : List Token) → length (rest ts) ≤ length ts
-unfolding rest
-rest_shorter [] = omega arith
-rest_shorter (t ∷ ts) = omega arith
-
-pub append_nil : (s : List Token) → s ++ [] ≡ s
-append_nil [] = refl
-append_nil (t ∷ s) = ap (λ (u : List Token). t ∷ u) (append_nil s)
+use Rattle.csub_expr.proofs.LawsLocal.{Local, SameAtHead, local_bind, local_done, local_refuse, local_rest, local_if, same_begins, local_fuel, bind_same}
 
 -- what was read is a list, and a comma more only where the list may end with one
 pub record TookList (A : Type 0) (R : A → List Token → Type 0) (stop : List Token → Bool) (ts : List Token) (xs : List A) (r : List Token) : Type 0 where
@@ -44,6 +38,7 @@ module _ {A : Type 0} (item : List Token → Answer A) (stop : List Token → Bo
     took_done : (ts : List Token) (xs ys : List A) (r q : List Token) → TookList A R stop ts ys q → done ys q ≡ done xs r → TookList A R stop ts xs r
     took_done ts xs ys r q h e = subst (λ (v : List A). TookList A R stop ts v r) (ok_value ys xs q r e) (subst (λ (v : List Token). TookList A R stop ts ys v) (ok_rest ys xs q r e) h)
 
+    -- what was read is a list with commas
     pub separated_sound : (f : ℕ) (ts : List Token) (xs : List A) (r : List Token) → separated item stop f ts ≡ Ok (xs, r) → TookList A R stop ts xs r
     unfolding separated after
     separated_sound zero ts xs r e = absurd cc
@@ -79,21 +74,24 @@ module _ {A : Type 0} (item : List Token → Answer A) (stop : List Token → Bo
           | inr p ↦ took_done ts xs (x ∷ []) r us (record { s = one.0; u = []; parts = one.1; spelled = last_one one.2; trail = no_comma; tail = inl refl }) p.1
         ]
 
-  -- complete, piece by piece
+  -- the last piece
   pub separated_last : (f : ℕ) (ts : List Token) (x : A) (r : List Token) → item ts ≡ Ok (x, r) → begins marks.Comma r ≡ false → separated item stop (suc f) ts ≡ Ok (x ∷ [], r)
   unfolding separated
   separated_last f ts x r e none = rw (e, none) refl
 
+  -- the last piece with a comma more behind it
   pub separated_trailing : (f : ℕ) (ts : List Token) (x : A) (a : Span) (r : List Token) → item ts ≡ Ok (x, mark marks.Comma a ∷ r) → stop r ≡ true → separated item stop (suc f) ts ≡ Ok (x ∷ [], r)
   unfolding separated begins rest
   separated_trailing f ts x a r e ends = rw (e, ends) refl
 
+  -- a piece in front of others
   pub separated_next : (f : ℕ) (ts : List Token) (x : A) (a : Span) (us : List Token) (xs : List A) (r : List Token) → item ts ≡ Ok (x, mark marks.Comma a ∷ us) → stop us ≡ false → separated item stop f us ≡ Ok (xs, r) → separated item stop (suc f) ts ≡ Ok (x ∷ xs, r)
   unfolding separated begins rest
   separated_next f ts x a us xs r e on more = rw (e, on, more) refl
 
   -- local
   module _ (shorter : (ts : List Token) (x : A) (r : List Token) → item ts ≡ Ok (x, r) → length r < length ts) where
+    -- fuel above the number of tokens is enough
     pub separated_enough : (f g : ℕ) (ts : List Token) → length ts < f → length ts < g → separated item stop f ts ≡ separated item stop g ts
     unfolding separated after
     separated_enough zero g ts lf lg = elim lf [ ]
@@ -112,9 +110,44 @@ module _ {A : Type 0} (item : List Token → Answer A) (stop : List Token → Bo
           (local_bind (List A) (List A) (separated item stop f) (λ xs. done (x ∷ xs)) (local_each f) (λ xs. local_done (List A) (x ∷ xs)))))
           (local_done (List A) (x ∷ [])))
 
+      -- a list is read locally where its pieces are
       pub local_separated : Local (List A) (λ ts. separated item stop (suc (length ts)) ts)
       local_separated = local_fuel (List A) (separated item stop) local_each separated_enough
 
--- the loop over a list: those read so far stand in front of those still to come
+-- in the loop over a list those read so far stand in front of those still to come
 abbrev pub with_front : {A : Type 0} → List A → Answer (List A) → Answer (List A)
 with_front xs read = read >>= λ ys. Ok (xs ++ ys.0, ys.1)
+
+-- a turn of that loop: where the piece is refused, where a comma comes, where none comes, and where a last one comes
+module _ {A : Type 0} (item : List Token → Answer A) (stop : List Token → Bool) where
+  pub front_fails : (e : Stop) (f : ℕ) (u : List Token) (xs : List A) → length u < f → Fails e (item u) → Fails e (with_front xs (separated item stop f u))
+  unfolding separated
+  front_fails e zero u xs lt h = elim lt [ ]
+  front_fails stops.Memory (suc f) u xs lt h = tt
+  front_fails (stops.At n) (suc f) u xs lt h = rw h refl
+
+  pub front_goes : (f : ℕ) (u v : List Token) (xs : List A) (x : A) → length u < f → item u ≡ Ok (x, v) → begins marks.Comma v ≡ true → stop (rest v) ≡ false → with_front xs (separated item stop f u) ≡ with_front (xs ++ x ∷ []) (separated item stop (f - 1) (rest v))
+  unfolding separated
+  front_goes zero u v xs x lt e comes on = elim lt [ ]
+  front_goes (suc f) u v xs x lt e comes on =
+      let ef : suc f - 1 ≡ f = omega arith in
+      rw (ef, e, comes, on) (step (separated item stop f (rest v)))
+    where
+      step : (read : Answer (List A)) → with_front xs (read >>= λ ys. Ok (x ∷ ys.0, ys.1)) ≡ with_front (xs ++ x ∷ []) read
+      step (Ok y) = ap (λ (v : List A). Ok (v, y.1)) (sym (append_assoc xs (x ∷ []) y.0))
+      step (Err n) = refl
+
+  pub front_ends : (f : ℕ) (u v : List Token) (xs : List A) (x : A) → length u < f → item u ≡ Ok (x, v) → begins marks.Comma v ≡ false → with_front xs (separated item stop f u) ≡ Ok (xs ++ x ∷ [], v)
+  unfolding separated
+  front_ends zero u v xs x lt e none = elim lt [ ]
+  front_ends (suc f) u v xs x lt e none = rw (e, none) refl
+
+  pub front_trailing : (f : ℕ) (u v : List Token) (xs : List A) (x : A) → length u < f → item u ≡ Ok (x, v) → begins marks.Comma v ≡ true → stop (rest v) ≡ true → with_front xs (separated item stop f u) ≡ Ok (xs ++ x ∷ [], rest v)
+  unfolding separated
+  front_trailing zero u v xs x lt e comes ends = elim lt [ ]
+  front_trailing (suc f) u v xs x lt e comes ends = rw (e, comes, ends) refl
+
+-- the loop begins with none
+pub front_none : {A : Type 0} (r : Answer (List A)) → r ≡ with_front [] r
+front_none (Ok x) = refl
+front_none (Err n) = refl

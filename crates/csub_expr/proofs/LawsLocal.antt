@@ -12,12 +12,10 @@ use Rattle.csub_tree.specs.SpellsExpressions.{Operator, Prefix, operator_of, ass
 use Rattle.csub_expr.specs.declared.operator.Tail.{Tail}
 use Rattle.csub_expr.specs.Looks.{begins, begins_key, rest, head_span, same_mark, same_key, of_mark, of_key, of_level, op_at, assignment_at, prefix_at, tail_at, tail_of, begins_number, is_number_key}
 use Rattle.csub_expr.specs.Answers.{Answer, ◌>>=◌, done, refuse, expect, expect_name, name_of}
-use Rattle.csub_expr.proofs.Answered.{bind_ok}
+use Rattle.csub_expr.specs.Laws.{head}
+use Rattle.csub_expr.proofs.LawsAnswers.{bind_ok}
 
-abbrev pub head : List Token → Option Token
-head [] = None
-head (t ∷ ts) = Some t
-
+-- two lists that begin alike have the same first token where what follows has
 pub head_append : (s r q : List Token) → head r ≡ head q → head (s ++ r) ≡ head (s ++ q)
 head_append [] r q e = e
 head_append (t ∷ s) r q e = refl
@@ -27,13 +25,16 @@ pub record Local (A : Type 0) (p : List Token → Answer A) : Type 0 where
   pub reads : (ts : List Token) (x : A) (r : List Token) → p ts ≡ Ok (x, r) → (s : List Token) × (ts ≡ s ++ r) × ((q : List Token) → head q ≡ head r → p (s ++ q) ≡ Ok (x, q))
   pub refuses : (ts : List Token) (n : ℕ) → p ts ≡ Err n → (s : List Token) × (r : List Token) × (ts ≡ s ++ r) × (n ≡ length r) × ((q : List Token) → head q ≡ head r → p (s ++ q) ≡ Err (length q))
 
+-- a question whose answer depends on the first token alone
 abbrev pub SameAtHead : (B : Type 0) → (List Token → B) → Type 0
 SameAtHead B g = (ts us : List Token) → head ts ≡ head us → g ts ≡ g us
 
+-- where two steps are refused, the first is, or it is answered and the second refused
 pub bind_err : {A B : Type 0} (r : Answer A) (f : A × List Token → Answer B) (n : ℕ) → (r >>= f) ≡ Err n → (r ≡ Err n) ⊎ ((x : A × List Token) × (r ≡ Ok x) × (f x ≡ Err n))
 bind_err (Ok x) f n e = inr (x, refl, e)
 bind_err (Err m) f n e = let same : m ≡ n = cc in inl (ap (λ k. Err k) same)
 
+-- two steps are local where both are
 pub local_bind : (A B : Type 0) (p : List Token → Answer A) (q : A → List Token → Answer B) → Local A p → ((x : A) → Local B (q x)) → Local B (λ ts. p ts >>= λ x. q x.0 x.1)
 local_bind A B p q hp hq = record {
   reads = λ ts x r e.
@@ -74,6 +75,7 @@ left_of : {A : Type 0} → Answer A → ℕ
 left_of (Ok x) = 0
 left_of (Err n) = n
 
+-- an answer without a look is local
 pub local_done : (A : Type 0) (x : A) → Local A (done x)
 unfolding value_of rest_of
 local_done A x = record {
@@ -81,6 +83,7 @@ local_done A x = record {
   refuses = λ ts n e. absurd cc;
 }
 
+-- so is a refusal
 pub local_refuse : (A : Type 0) → Local A refuse
 unfolding left_of
 local_refuse A = record {
@@ -92,6 +95,7 @@ nil_append : (s r : List Token) → [] ≡ s ++ r → r ≡ []
 nil_append [] r e = sym e
 nil_append (t ∷ s) r e = absurd cc
 
+-- and a local reading behind the first token
 pub local_rest : (A : Type 0) (p : List Token → Answer A) → Local A p → Local A (λ ts. p (rest ts))
 unfolding rest
 local_rest A p h = record { reads = go; refuses = no_go }
@@ -114,6 +118,7 @@ local_rest A p h = record { reads = go; refuses = no_go }
         ([], [], refl, a.3 ∙ ap length none, λ q same. let q_none : q ≡ [] = empty q same in rw q_none (e ∙ ap (λ k. Err k) (a.3 ∙ ap length none)))
     no_go (t ∷ ts) n e = let a = h.refuses ts n e in (t ∷ a.0, a.1, ap (λ (u : List Token). t ∷ u) a.2, a.3, a.4)
 
+-- a reading that depends on a question about the first token
 pub local_at : (A B : Type 0) (g : List Token → B) → SameAtHead B g → (p : B → List Token → Answer A) → ((b : B) → Local A (p b)) → Local A (λ ts. p (g ts) ts)
 local_at A B g same_g p h = record {
   reads = λ ts x r e.
@@ -124,10 +129,12 @@ local_at A B g same_g p h = record {
       (a.0, a.1, a.2, a.3, λ z same. ap (λ (b : B). p b (a.0 ++ z)) (same_g (a.0 ++ z) ts (head_append a.0 z a.1 same ∙ ap head (sym a.2))) ∙ a.4 z same);
 }
 
+-- a reading that is one of two
 pub local_choice : (A : Type 0) (p q : List Token → Answer A) → Local A p → Local A q → (b : Bool) → Local A (λ ts. cond b (p ts) (q ts))
 local_choice A p q hp hq true = hp
 local_choice A p q hp hq false = hq
 
+-- a reading that a test of the first token chooses
 pub local_if : (A : Type 0) (test : List Token → Bool) → SameAtHead Bool test → (p q : List Token → Answer A) → Local A p → Local A q → Local A (λ ts. cond (test ts) (p ts) (q ts))
 local_if A test same p q hp hq = local_at A Bool test same (λ b ts. cond b (p ts) (q ts)) (local_choice A p q hp hq)
 
@@ -138,6 +145,7 @@ by_cases A p q same h = record {
   refuses = λ ts n e. let a = h.refuses ts n (sym (same ts) ∙ e) in (a.0, a.1, a.2, a.3, λ z head. same (a.0 ++ z) ∙ a.4 z head);
 }
 
+-- the token of an equal first token
 pub some_is : (t u : Token) → Some t ≡ Some u → t ≡ u
 some_is t u e = cc
 
@@ -148,6 +156,7 @@ same_by B g h at [] (u ∷ us) e = absurd cc
 same_by B g h at (t ∷ ts) [] e = absurd cc
 same_by B g h at (t ∷ ts) (u ∷ us) e = at t ts ∙ ap h (some_is t u e) ∙ sym (at u us)
 
+-- questions about the first token alone
 pub same_begins : (m : Mark) → SameAtHead Bool (begins m)
 unfolding begins
 same_begins m = same_by Bool (begins m) (λ t. of_mark false (λ n. same_mark n m) t.kind) (λ t ts. refl)
@@ -184,6 +193,7 @@ same_head_span = same_by Span head_span (λ t. t.span) (λ t ts. refl)
 pub local_token : (A : Type 0) (p : Span → List Token → Answer A) → ((sp : Span) → Local A (p sp)) → Local A (λ ts. p (head_span ts) (rest ts))
 local_token A p h = local_at A Span head_span same_head_span (λ sp ts. p sp (rest ts)) (λ sp. local_rest A (p sp) (h sp))
 
+-- a mark, and a name, that has to come
 pub local_expect : (m : Mark) → Local Span (expect m)
 unfolding expect
 local_expect m = local_if Span (begins m) (same_begins m) (λ ts. done (head_span ts) (rest ts)) refuse (local_token Span (λ sp. done sp) (λ sp. local_done Span sp)) (local_refuse Span)
@@ -263,6 +273,7 @@ local_fuel A p h enough = record {
       );
 }
 
+-- two steps are the same where the second is, behind each answer of the first
 pub bind_same : (A B : Type 0) (r : Answer A) (f g : A × List Token → Answer B) → ((x : A) (u : List Token) → r ≡ Ok (x, u) → f (x, u) ≡ g (x, u)) → (r >>= f) ≡ (r >>= g)
 bind_same A B (Ok x) f g h = h x.0 x.1 refl
 bind_same A B (Err n) f g h = refl
