@@ -1,5 +1,5 @@
 -- From what the steps of `record` answer to its cause or its text.
-use Rattle.std.proofs.Common.{◌≡◌, ℕ, List, length, Option, Some, Result, Ok, Err, IfOk, IfErr, MatchResult, sym, ap, ◌∙◌, subst, arith}
+use Rattle.std.proofs.Common.{◌≡◌, ◌≤◌, ℕ, List, length, inr, Option, Some, Result, Ok, Err, IfOk, IfErr, MatchResult, sym, ap, ◌∙◌, subst, arith}
 use Rattle.std.specs.declared.vec.Vec.{Vec}
 use Rattle.std.specs.declared.alloc.Global.{Global}
 use Rattle.dv_outside.specs.Outside.{Files, file_at, IsFetched}
@@ -8,13 +8,13 @@ use Rattle.read_small.specs.Small.{IsSmall}
 use Rattle.test_suite.specs.Tests.{TestParts}
 use Rattle.dejavu_cli.specs.Words.{record_files}
 use Rattle.dejavu_cli.specs.Record.{IsSmallSuite}
-use Rattle.dejavu_cli.specs.Steps.{IsSourceCause, IsSuiteCause, IsTextCause, HasRecordText}
+use Rattle.dejavu_cli.specs.Steps.{IsFetchCause, IsSourceCause, IsSuiteCause, IsTextCause, HasRecordText}
 use Rattle.dejavu_cli.specs.Answers.{HasTextOf, HasCauseOf, HasBadSource}
 use Rattle.dejavu_cli.specs.declared.refusal.Role.{Role}
 use Rattle.dejavu_cli.specs.declared.refusal.Role.TheVariants as role
 use Rattle.dejavu_cli.specs.declared.refusal.Refusal.{Refusal}
 use Rattle.dejavu_cli.specs.declared.refusal.Refusal.TheVariants as refusal
-use Rattle.dejavu_cli.proofs.SourceLemmas.{short_file, found_file, has_source, has_no_source}
+use Rattle.dejavu_cli.proofs.SourceLemmas.{short_file, found_file, rose_since, has_source, has_good_source, has_no_source}
 
 module _ (s t : List ℕ) (told : Option Files) (before now : List ℕ → ℕ) (source : List ℕ) (fetched : IsFetched told s 1048577 source) where
   pub bad_source : (r : Refusal) → IsSourceCause role.Source source r → HasCauseOf (record_files s t) told before now r
@@ -26,6 +26,16 @@ module _ (s t : List ℕ) (told : Option Files) (before now : List ℕ → ℕ) 
   bad_source refusal.ReadFault cause = absurd cause
   bad_source refusal.Memory cause = tt
   bad_source (refusal.TooMuch n) cause = absurd cause
+
+  module _ (P : ProgramTree) (small : IsSmall source P) where
+    pub no_suite : (r : Refusal) (since : ℕ) → before t ≤ since → IsFetchCause since (now t) r → HasCauseOf (record_files s t) told before now r
+    no_suite refusal.Usage since kept cause = absurd cause
+    no_suite (refusal.Source which) since kept cause = absurd cause
+    no_suite refusal.Suite since kept cause = absurd cause
+    no_suite refusal.History since kept cause = absurd cause
+    no_suite refusal.ReadFault since kept cause = inr (has_good_source told s source fetched P small, rose_since (before t) since (now t) kept cause)
+    no_suite refusal.Memory since kept cause = tt
+    no_suite (refusal.TooMuch n) since kept cause = absurd cause
 
   module _ (P : ProgramTree) (small : IsSmall source P) (mid : Option Files) (same : mid ≡ told) (suite : List ℕ) (taken : IsFetched mid t 16777217 suite) where
     whole_source : (files : Files) → told ≡ Some files → file_at files s ≡ Some source

@@ -60,7 +60,7 @@ module _ (words : List (List ℕ)) (told : Option Files) (before now : List ℕ 
   pub complete_done : (text : List ℕ) → Says b n fb fn status.Done text answer → IsComplete words told before now fb fn answer
   complete_done text says files at c is ready read written = elim says [ inl h ↦ is_done c h.0 | inr h ↦ absurd (written h.1) ]
 
-  left_of_record : (files : Files) → told ≡ Some files → (s t : List ℕ) → AreReady (record_files s t) files → ¬ HasReadFault (record_files s t) before now
+  left_of_record : (files : Files) → told ≡ Some files → (s t : List ℕ) → AreReady (record_files s t) files → ¬ HasReadFault (record_files s t) told before now
       → (r : Refusal) → HasCauseOf (record_files s t) told before now r → IsLeft (record_files s t) (status_of r)
   left_of_record files at s t ready read refusal.Usage cause = absurd cause
   left_of_record files at s t ready read (refusal.Source role.Source) cause = absurd (good_source files s ready.0.0 ready.0.1 (cause files at))
@@ -72,7 +72,7 @@ module _ (words : List (List ℕ)) (told : Option Files) (before now : List ℕ 
   left_of_record files at s t ready read refusal.Memory cause = inr refl
   left_of_record files at s t ready read (refusal.TooMuch m) cause = inl refl
 
-  left_of_select : (files : Files) → told ≡ Some files → MeansOneProgram → (o m h : List ℕ) → AreReady (select_files o m h) files → ¬ HasReadFault (select_files o m h) before now
+  left_of_select : (files : Files) → told ≡ Some files → MeansOneProgram → (o m h : List ℕ) → AreReady (select_files o m h) files → ¬ HasReadFault (select_files o m h) told before now
       → (r : Refusal) → HasCauseOf (select_files o m h) told before now r → IsLeft (select_files o m h) (status_of r)
   left_of_select files at one o m h ready read refusal.Usage cause = absurd cause
   left_of_select files at one o m h ready read (refusal.Source role.Source) cause = absurd cause
@@ -85,7 +85,7 @@ module _ (words : List (List ℕ)) (told : Option Files) (before now : List ℕ 
   left_of_select files at one o m h ready read refusal.Memory cause = refl
   left_of_select files at one o m h ready read (refusal.TooMuch k) cause = absurd cause
 
-  left_over : (files : Files) → told ≡ Some files → MeansOneProgram → (c : Command) → AreReady c files → ¬ HasReadFault c before now
+  left_over : (files : Files) → told ≡ Some files → MeansOneProgram → (c : Command) → AreReady c files → ¬ HasReadFault c told before now
       → (r : Refusal) → HasCauseOf c told before now r → IsLeft c (status_of r)
   left_over files at one (record_files s t) ready read r cause = left_of_record files at s t ready read r cause
   left_over files at one (select_files o m h) ready read r cause = left_of_select files at one o m h ready read r cause

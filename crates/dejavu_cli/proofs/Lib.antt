@@ -1,9 +1,9 @@
-pub mod WordLemmas
-pub mod Zips
-pub mod RunLemmas
-pub mod SourceLemmas
-pub mod AnswerLemmas
-pub mod ChoiceLemmas
-pub mod Safety
-pub mod SelectionLemmas
-pub mod CompleteLemmas
+mod AnswerLemmas
+mod ChoiceLemmas
+mod CompleteLemmas
+mod RunLemmas
+mod Safety
+mod SelectionLemmas
+mod SourceLemmas
+mod WordLemmas
+mod Zips

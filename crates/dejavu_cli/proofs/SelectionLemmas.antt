@@ -1,5 +1,5 @@
 -- From what the steps of `select` answer to its cause or its text.
-use Rattle.std.proofs.Common.{◌≡◌, ℕ, List, Option, Some, Result, Ok, Err, MatchResult, sym, ◌∙◌, subst, arith}
+use Rattle.std.proofs.Common.{◌≡◌, ◌≤◌, ℕ, List, inl, inr, Option, Some, Result, Ok, Err, MatchResult, sym, ◌∙◌, subst, arith}
 use Rattle.std.specs.declared.vec.Vec.{Vec}
 use Rattle.std.specs.declared.alloc.Global.{Global}
 use Rattle.dv_outside.specs.Outside.{Files, IsFetched}
@@ -7,13 +7,13 @@ use Rattle.csub_semantics.specs.Syntax.{ProgramTree}
 use Rattle.read_small.specs.Small.{IsSmall, MeansOneProgram}
 use Rattle.dejavu_cli.specs.Words.{select_files}
 use Rattle.dejavu_cli.specs.Select.{IsHistoryFile, IsSelection}
-use Rattle.dejavu_cli.specs.Steps.{IsSourceCause, IsHistoryCause}
+use Rattle.dejavu_cli.specs.Steps.{IsFetchCause, IsSourceCause, IsHistoryCause}
 use Rattle.dejavu_cli.specs.Answers.{HasTextOf, HasCauseOf, HasBadSource}
 use Rattle.dejavu_cli.specs.declared.refusal.Role.{Role}
 use Rattle.dejavu_cli.specs.declared.refusal.Role.TheVariants as role
 use Rattle.dejavu_cli.specs.declared.refusal.Refusal.{Refusal}
 use Rattle.dejavu_cli.specs.declared.refusal.Refusal.TheVariants as refusal
-use Rattle.dejavu_cli.proofs.SourceLemmas.{short_file, found_file, has_source, has_no_source}
+use Rattle.dejavu_cli.proofs.SourceLemmas.{short_file, found_file, rose_since, has_source, has_good_source, has_no_source}
 
 module _ (o n h : List ℕ) (told : Option Files) (before now : List ℕ → ℕ) (old : List ℕ) (fetched : IsFetched told o 1048577 old) where
   pub bad_old : (r : Refusal) → IsSourceCause role.Old old r → HasCauseOf (select_files o n h) told before now r
@@ -26,6 +26,15 @@ module _ (o n h : List ℕ) (told : Option Files) (before now : List ℕ → ℕ
   bad_old refusal.Memory cause = tt
   bad_old (refusal.TooMuch m) cause = absurd cause
 
+  pub no_new : (P : ProgramTree) → IsSmall old P → (r : Refusal) (since : ℕ) → before n ≤ since → IsFetchCause since (now n) r → HasCauseOf (select_files o n h) told before now r
+  no_new P small refusal.Usage since kept cause = absurd cause
+  no_new P small (refusal.Source which) since kept cause = absurd cause
+  no_new P small refusal.Suite since kept cause = absurd cause
+  no_new P small refusal.History since kept cause = absurd cause
+  no_new P small refusal.ReadFault since kept cause = inr (inl (has_good_source told o old fetched P small, rose_since (before n) since (now n) kept cause))
+  no_new P small refusal.Memory since kept cause = tt
+  no_new P small (refusal.TooMuch m) since kept cause = absurd cause
+
   module _ (P : ProgramTree) (small : IsSmall old P) (mid : Option Files) (same : mid ≡ told) (new : List ℕ) (taken : IsFetched mid n 1048577 new) where
     pub bad_new : (r : Refusal) → IsSourceCause role.New new r → HasCauseOf (select_files o n h) told before now r
     bad_new refusal.Usage cause = absurd cause
@@ -37,6 +46,20 @@ module _ (o n h : List ℕ) (told : Option Files) (before now : List ℕ → ℕ
     bad_new refusal.ReadFault cause = absurd cause
     bad_new refusal.Memory cause = tt
     bad_new (refusal.TooMuch m) cause = absurd cause
+
+    pub no_bytes : (P' : ProgramTree) → IsSmall new P' → (r : Refusal) (since : ℕ) → before h ≤ since → IsFetchCause since (now h) r → HasCauseOf (select_files o n h) told before now r
+    no_bytes P' small' refusal.Usage since kept cause = absurd cause
+    no_bytes P' small' (refusal.Source which) since kept cause = absurd cause
+    no_bytes P' small' refusal.Suite since kept cause = absurd cause
+    no_bytes P' small' refusal.History since kept cause = absurd cause
+    no_bytes P' small' refusal.ReadFault since kept cause =
+        inr (inr (
+          has_good_source told o old fetched P small,
+          (λ files at. (P', has_source mid n new taken P' small' files (same ∙ at))),
+          rose_since (before h) since (now h) kept cause,
+        ))
+    no_bytes P' small' refusal.Memory since kept cause = tt
+    no_bytes P' small' (refusal.TooMuch m) since kept cause = absurd cause
 
     module _ (P' : ProgramTree) (small' : IsSmall new P') (last : Option Files) (same' : last ≡ told) (bytes : List ℕ) (read : IsFetched last h 134217729 bytes) where
       no_history : (r : Refusal) → IsHistoryCause old bytes P r → HasCauseOf (select_files o n h) told before now r

@@ -124,11 +124,19 @@ abbrev pub HasBadHistory : Command → Option Files → Type 0
 HasBadHistory (record_files source suite) told = ⊥
 HasBadHistory (select_files old new history) told = WhereTold told (λ files. HasNoHistory files old new history)
 
--- the count of faults of a named file rose
-abbrev pub HasReadFault : Command → (List ℕ → ℕ) → (List ℕ → ℕ) → Type 0
-HasReadFault (record_files source suite) before now = Rose (before source) (now source) ⊎ Rose (before suite) (now suite)
-HasReadFault (select_files old new history) before now =
-    Rose (before old) (now old) ⊎ (Rose (before new) (now new) ⊎ Rose (before history) (now history))
+-- the source of this name is accepted
+abbrev pub HasGoodSource : List ℕ → Option Files → Type 0
+HasGoodSource name told = WhereTold told (λ files. (P : ProgramTree) × HasSource files name P)
+
+-- the count of faults of a named file rose, and the sources before that file are accepted
+abbrev pub HasReadFault : Command → Option Files → (List ℕ → ℕ) → (List ℕ → ℕ) → Type 0
+HasReadFault (record_files source suite) told before now =
+    Rose (before source) (now source)
+    ⊎ (HasGoodSource source told × Rose (before suite) (now suite))
+HasReadFault (select_files old new history) told before now =
+    Rose (before old) (now old)
+    ⊎ ((HasGoodSource old told × Rose (before new) (now new))
+    ⊎ (HasGoodSource old told × HasGoodSource new told × Rose (before history) (now history)))
 
 -- the history would have more bytes than a history may have, so many
 abbrev pub HasTooMuch : Command → Option Files → ℕ → Type 0
@@ -142,7 +150,7 @@ HasCauseOf c told before now refusal.Usage = ⊥
 HasCauseOf c told before now (refusal.Source which) = HasBadSource c which told
 HasCauseOf c told before now refusal.Suite = HasBadSuite c told
 HasCauseOf c told before now refusal.History = HasBadHistory c told
-HasCauseOf c told before now refusal.ReadFault = HasReadFault c before now
+HasCauseOf c told before now refusal.ReadFault = HasReadFault c told before now
 HasCauseOf c told before now refusal.Memory = Unit {0}
 HasCauseOf c told before now (refusal.TooMuch bytes) = HasTooMuch c told bytes
 
@@ -224,8 +232,9 @@ abbrev pub IsDone : Command → Status8 → Type 0
 IsDone (record_files source suite) answer = (answer ≡ status.Done) ⊎ ((answer ≡ status.TooMuch) ⊎ (answer ≡ status.Memory))
 IsDone (select_files old new history) answer = (answer ≡ status.Done) ⊎ (answer ≡ status.Memory)
 
--- Completeness: where the words are a command whose files are told and ready, and no count of faults rose, it is done
+-- Completeness: where the words are a command whose files are told and ready, and none had a fault, nor the output, it is
+-- done
 abbrev pub IsComplete : List (List ℕ) → Option Files → (List ℕ → ℕ) → (List ℕ → ℕ) → ℕ → ℕ → Status8 → Type 0
 IsComplete words told before now faults_before faults_now answer =
     (files : Files) → told ≡ Some files → (c : Command) → command_of words ≡ Some c → AreReady c files →
-    ¬ HasReadFault c before now → ¬ Rose faults_before faults_now → IsDone c answer
+    ¬ HasReadFault c told before now → ¬ Rose faults_before faults_now → IsDone c answer

@@ -71,7 +71,8 @@ IsHistoryCause source bytes P r = ⊥
 -- the row has the numbers of the dangerous edges
 pub record IsDangerRow (P P' : ProgramTree) (row : List Bool) : Type 0 where
   pub edges : length row ≡ length (edge_list P)
-  pub danger : (e : ℕ) (edge : Edge) → edge_at P e ≡ Some edge → IsTrue (has row e) ↔ Dangerous (flow_of P) (flow_of P') edge.function edge.from edge.exit
+  pub danger : (e : ℕ) (edge : Edge) → edge_at P e ≡ Some edge →
+      IsTrue (has row e) ↔ Dangerous (flow_of P) (flow_of P') edge.function edge.from edge.exit
 
 -- the text of the choices for these entries
 pub record HasChoices (P P' : ProgramTree) (entries : List EntryParts) (bytes : List ℕ) : Type 0 where

@@ -1,7 +1,10 @@
-use Rattle.std.proofs.Common.{map, sym, subst, ◌∙◌}
+use Rattle.std.proofs.Common.{map, Some, sym, subst, ◌∙◌, arith}
 use Rattle.dv_outside.specs.Outside.{IsFetched}
 use Rattle.csub_semantics.specs.Syntax.{function_tree}
-use Rattle.dejavu_cli.proofs.SelectionLemmas.{bad_old, bad_new, selected}
+use Rattle.dejavu_cli.specs.Words.{select_files}
+use Rattle.dejavu_cli.specs.Answers.{HasTextOf, HasCauseOf}
+use Rattle.dejavu_cli.proofs.SourceLemmas.{passed_on}
+use Rattle.dejavu_cli.proofs.SelectionLemmas.{bad_old, no_new, bad_new, no_bytes, selected}
 use Rattle.dejavu_cli.proofs.work.select.Goals as goal
 
 pub returns-in-Err-clause-answer : goal.returns-in-Err-clause-answer
@@ -10,6 +13,17 @@ returns-in-Err-clause-answer g c =
     bad_old c.args.old_name.now c.args.new_name.now c.args.history_name.now (g.S.Shelf.files c.args.shelf.now) (g.S.Shelf.faults c.args.shelf.now) (g.S.Shelf.faults c.fetch_file.new.shelf)
     c.deref.result.now fetched c.in-Err.refusal c.in-Err.ensures.cause
 
+pub returns-in_err-new_source-clause-answer : goal.returns-in_err-new_source-clause-answer
+returns-in_err-new_source-clause-answer g c =
+    let fetched = subst (IsFetched (g.S.Shelf.files c.args.shelf.now) c.args.old_name.now 1048577) (sym c.deref.ensures.value) c.in_ok-old_source.ensures.bytes in
+    let files = select_files c.args.old_name.now c.args.new_name.now c.args.history_name.now in
+    passed_on c.from_residual-in_err-new_source.result (λ text. HasTextOf (Some files) (g.S.Shelf.files c.args.shelf.now) text.items)
+    (HasCauseOf files (g.S.Shelf.files c.args.shelf.now) (g.S.Shelf.faults c.args.shelf.now) (g.S.Shelf.faults c.fetch_file-2.new.shelf))
+    c.in_err-new_source.field-0.0 c.from_residual-in_err-new_source.ensures.1
+    (no_new c.args.old_name.now c.args.new_name.now c.args.history_name.now (g.S.Shelf.files c.args.shelf.now) (g.S.Shelf.faults c.args.shelf.now) (g.S.Shelf.faults c.fetch_file-2.new.shelf)
+    c.deref.result.now fetched (map function_tree c.in-Ok.program) c.in-Ok.ensures.small c.in_err-new_source.field-0.0
+    (g.S.Shelf.faults c.fetch_file.new.shelf c.args.new_name.now) (c.in_ok-old_source.ensures.counts c.args.new_name.now) c.in_err-new_source.ensures.cause)
+
 pub returns-in-Err-read_source-clause-answer : goal.returns-in-Err-read_source-clause-answer
 returns-in-Err-read_source-clause-answer g c =
     let fetched = subst (IsFetched (g.S.Shelf.files c.args.shelf.now) c.args.old_name.now 1048577) (sym c.deref.ensures.value) c.in_ok-old_source.ensures.bytes in
@@ -17,6 +31,21 @@ returns-in-Err-read_source-clause-answer g c =
     bad_new c.args.old_name.now c.args.new_name.now c.args.history_name.now (g.S.Shelf.files c.args.shelf.now) (g.S.Shelf.faults c.args.shelf.now) (g.S.Shelf.faults c.fetch_file-2.new.shelf)
     c.deref.result.now fetched (map function_tree c.in-Ok.program) c.in-Ok.ensures.small (g.S.Shelf.files c.fetch_file.new.shelf) c.in_ok-old_source.ensures.same
     c.deref-2.result.now taken c.in-Err-read_source.refusal c.in-Err-read_source.ensures.cause
+
+pub returns-in_err-bytes-clause-answer : goal.returns-in_err-bytes-clause-answer
+returns-in_err-bytes-clause-answer g c =
+    let fetched = subst (IsFetched (g.S.Shelf.files c.args.shelf.now) c.args.old_name.now 1048577) (sym c.deref.ensures.value) c.in_ok-old_source.ensures.bytes in
+    let taken = subst (IsFetched (g.S.Shelf.files c.fetch_file.new.shelf) c.args.new_name.now 1048577) (sym c.deref-2.ensures.value) c.in_ok-new_source.ensures.bytes in
+    let first = c.in_ok-old_source.ensures.counts c.args.history_name.now in
+    let second = c.in_ok-new_source.ensures.counts c.args.history_name.now in
+    let files = select_files c.args.old_name.now c.args.new_name.now c.args.history_name.now in
+    passed_on c.from_residual-in_err-bytes.result (λ text. HasTextOf (Some files) (g.S.Shelf.files c.args.shelf.now) text.items)
+    (HasCauseOf files (g.S.Shelf.files c.args.shelf.now) (g.S.Shelf.faults c.args.shelf.now) (g.S.Shelf.faults c.fetch_file-3.new.shelf))
+    c.in_err-bytes.field-0.0 c.from_residual-in_err-bytes.ensures.1
+    (no_bytes c.args.old_name.now c.args.new_name.now c.args.history_name.now (g.S.Shelf.files c.args.shelf.now) (g.S.Shelf.faults c.args.shelf.now) (g.S.Shelf.faults c.fetch_file-3.new.shelf)
+    c.deref.result.now fetched (map function_tree c.in-Ok.program) c.in-Ok.ensures.small (g.S.Shelf.files c.fetch_file.new.shelf) c.in_ok-old_source.ensures.same
+    c.deref-2.result.now taken (map function_tree c.in-Ok-read_source.program) c.in-Ok-read_source.ensures.small c.in_err-bytes.field-0.0
+    (g.S.Shelf.faults c.fetch_file-2.new.shelf c.args.history_name.now) (omega (arith, first, second)) c.in_err-bytes.ensures.cause)
 
 pub returns-clause-answer : goal.returns-clause-answer
 returns-clause-answer g c =
