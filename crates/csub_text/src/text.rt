@@ -89,25 +89,3 @@ impl Ord for Text {
         self.held.as_slice().cmp(other.held.as_slice())
     }
 }
-
-#[cfg(test)]
-mod tests {
-    use super::Text;
-    use std::process::Abort;
-
-    // With ample memory a text is made and copied, and no byte is lost or added.
-    #[test]
-    fn a_text_and_its_copy_have_the_bytes_they_were_made_of(rt: HostRuntime) {
-        let Ok(text) = Text::new(rt.alloc(), b"count_1\0\xff") else {
-            assert!(rt; false);
-            return;
-        };
-        assert!(rt; text.bytes() == b"count_1\0\xff".as_slice());
-        let Ok(copy) = text.copy() else {
-            assert!(rt; false);
-            return;
-        };
-        assert!(rt; copy.bytes() == b"count_1\0\xff".as_slice());
-        assert!(rt; copy == text);
-    }
-}

@@ -89,6 +89,3 @@ fn say<K: Sink>(out: &mut K, status: Status8, text: &[u8]) -> Status8
         Err(_) => Status8::WriteFault,
     }
 }
-
-#[cfg(test)]
-mod tests;

@@ -1,6 +1,7 @@
 -- What a shelf holds, what a sink was given, and when a count of faults tells of a fault.
 -- Contents are told (`Some`) or not (`None`); what is not told is neither promised nor denied.
-use Rattle.std.specs.Prelude.{◌≡◌, ◌<◌, ◌≤◌, ◌⊎◌, ◌^◌, ◌-◌, ◌+◌, min, ℕ, List, ◌++◌, length, take, Option, Some, Result, Ok, Err}
+use Rattle.std.specs.Prelude.{◌≡◌, ◌<◌, ◌≤◌, ◌⊎◌, ◌^◌, ◌-◌, ◌+◌, min, ℕ}
+use Rattle.std.specs.Prelude.{List, ◌++◌, length, take, Option, Some, Result, Ok, Err}
 use Rattle.std.specs.Option.{option_map}
 use Rattle.std.specs.Ordering.{nat_cmp}
 use Rattle.std.specs.Cmp.Lexicographic.{slice_cmp}
@@ -18,7 +19,8 @@ file_at files name = get files name
 
 -- Where the files are told, there is one with that name, and the bytes are its first `most`, or all if it has fewer.
 abbrev pub IsFetched : Option Files → List ℕ → ℕ → List ℕ → Type 0
-IsFetched told name most bytes = (files : Files) → told ≡ Some files → (whole : List ℕ) × (file_at files name ≡ Some whole) × (bytes ≡ take most whole)
+IsFetched told name most bytes = (files : Files) → told ≡ Some files →
+    (whole : List ℕ) × (file_at files name ≡ Some whole) × (bytes ≡ take most whole)
 
 -- These bytes were added at the end, where the bytes are told; told bytes stay told.
 abbrev pub Appends : Option (List ℕ) → Option (List ℕ) → List ℕ → Type 0

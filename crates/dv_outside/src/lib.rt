@@ -30,6 +30,3 @@ pub use shelf::{FetchError, Shelf};
 pub use shelves::{FailingShelf, MemoryShelf};
 pub use sink::{Sink, SinkFailed, write_whole};
 pub use sinks::{FailingSink, MemorySink};
-
-#[cfg(test)]
-mod tests;

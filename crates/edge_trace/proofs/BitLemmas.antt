@@ -6,7 +6,7 @@ use Rattle.std.proofs.lemmas.List.{get_or_past, get_or-replicate, length-replica
 use Rattle.std.proofs.lemmas.Nat.Bits.{bit_at-zero, bit_at_set_same, bit_at_set_other, bit_at-lt, bit_at_and, bit_at_or, bit_at_not}
 use Rattle.edge_trace.specs.Rows.{has, union, IsLeastCommon, NoneCommon}
 use Rattle.edge_trace.specs.Words.{bit_of, row_of, bits_of, IsKept}
-use Rattle.edge_trace.proofs.RowLemmas.{same_rows, has_past, has-below, length-below, has-set_same, has-set_other, has-union, length-union, has-replicate}
+use Rattle.edge_trace.proofs.Laws.{same_rows, has_past, has-below, length-below, has-set_same, has-set_other, has-union, length-union, has-replicate}
 
 -- a number below 2 is one of two
 pub bit_cases : (n : ℕ) → n < 2 → (n ≡ 0) ⊎ (n ≡ 1)

@@ -10,7 +10,7 @@ use Rattle.std.proofs.lemmas.Simd.{mask_l-lt, bit_mask_l}
 use lib.Lanes.{mask_l}
 use Rattle.edge_trace.specs.Rows.{has, byte_of}
 use Rattle.edge_trace.specs.Words.{bit_of, row_of, IsKept}
-use Rattle.edge_trace.proofs.RowLemmas.{same_rows}
+use Rattle.edge_trace.proofs.Laws.{same_rows}
 use Rattle.edge_trace.proofs.BitLemmas.{bit_cases, has-row_of}
 
 -- ---- eight truth values as a byte

@@ -7,7 +7,7 @@ use Rattle.std.proofs.lemmas.Nat.{and_le_l}
 use Rattle.std.proofs.lemmas.Nat.Bits.{bit_at-trailing_zeros, bit_at-zero}
 use Rattle.edge_trace.specs.Rows.{IsLeastCommon, NoneCommon}
 use Rattle.edge_trace.specs.Words.{bit_of, bits_of}
-use Rattle.edge_trace.proofs.RowLemmas.{has_past}
+use Rattle.edge_trace.proofs.Laws.{has_past}
 use Rattle.edge_trace.proofs.BitLemmas.{and_test, or_test, has-bits_of, length-row_of}
 
 -- bit i of word `at`

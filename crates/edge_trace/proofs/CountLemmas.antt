@@ -13,7 +13,7 @@ use Rattle.std.proofs.lemmas.Simd.{mask_l-lt, bit_mask_l, ones-mask_l}
 use lib.Lanes.{mask_l}
 use Rattle.edge_trace.specs.Rows.{has, size, below, difference}
 use Rattle.edge_trace.specs.Words.{bit_of, row_of, bits_of, IsKept}
-use Rattle.edge_trace.proofs.RowLemmas.{same_rows, has_past, length-below, has-below, has-difference, length-difference}
+use Rattle.edge_trace.proofs.Laws.{same_rows, has_past, length-below, has-below, has-difference, length-difference}
 use Rattle.edge_trace.proofs.BitLemmas.{bit_cases, beyond_test, length-row_of, has-row_of, has-bits_of}
 
 -- ---- one word

@@ -1,5 +1,6 @@
-pub mod RowLemmas
-pub mod ByteLemmas
-pub mod BitLemmas
-pub mod CommonLemmas
-pub mod CountLemmas
+mod BitLemmas
+mod ByteLemmas
+mod CommonLemmas
+mod CountLemmas
+pub mod Laws
+mod Threads

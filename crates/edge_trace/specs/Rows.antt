@@ -1,5 +1,6 @@
 -- Sets of numbers below a bound. A row has one truth value a number: its length is the bound.
-use Rattle.std.specs.Prelude.{ℕ, ◌+◌, ◌*◌, ◌^◌, ◌<◌, Bool, false, IsTrue, not, ◌&&◌, ◌||◌, if◌then◌else◌, List, [], ◌∷◌, map, length, count_by, sum_by, slice_index_or}
+use Rattle.std.specs.Prelude.{ℕ, ◌+◌, ◌*◌, ◌^◌, ◌<◌, Bool, false, IsTrue, not, ◌&&◌, ◌||◌, if◌then◌else◌}
+use Rattle.std.specs.Prelude.{List, [], ◌∷◌, map, length, count_by, sum_by, slice_index_or}
 use Rattle.std.specs.List.{range_with_len}
 
 -- whether the number is in the set; no number from the bound on is

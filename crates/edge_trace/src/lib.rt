@@ -1,14 +1,12 @@
 //! Sets of edge numbers below a bound, kept as rows of bits.
 //!
-//! Contracts see an [`EdgeRow`](row::EdgeRow) as one truth value a number, so two rows with the same
+//! Contracts see an [`EdgeRow`] as one truth value a number, so two rows with the same
 //! value are the same set below the same bound. What each call does to the set stands in its own
-//! contract; `specs/Rows.antt` has the words that the contracts are made of.
+//! contract; `specs/Rows.antt` has the words that the contracts are made of. Proofs above cite
+//! `proofs/Laws`. That workers may share rows and hand them on is shown in `proofs/Threads`.
 #![tactic(auto)]
 
-pub mod row;
+mod row;
 mod words;
 
 pub use row::EdgeRow;
-
-#[cfg(test)]
-mod tests;

@@ -1,4 +1,4 @@
--- Laws of words and lines: what is written is read back.
+-- Laws of words and lines, for proofs above: what is written is read back.
 use Rattle.std.proofs.Common.{inl, inr, ◌≡◌, ◌≢◌, ℕ, ◌^◌, ◌<◌, ◌/◌, ◌%◌, eqb, leb, Bool, true, false, ◌&&◌, lit<, List, [], ◌∷◌, ◌++◌, length, map, get_or, refl, ap, ◌∙◌, arith, append_assoc}
 use Rattle.std.proofs.lemmas.Bool.{cases_lt}
 use Rattle.std.proofs.lemmas.List.{get_or_past}
@@ -17,7 +17,7 @@ use Rattle.line_text.specs.Words.{IsWord, AreWords, line_of_words, pieces}
 use Rattle.line_text.proofs.BytesLemmas.{bytes_or_dash-nonempty}
 use Rattle.line_text.proofs.CutLemmas.{lacks, split_none, more_lines}
 use Rattle.line_text.proofs.HexadecimalLemmas.{all_below-at}
-use Rattle.line_text.proofs.NumberLemmas.{own}
+use Rattle.line_text.proofs.LawsOfNumbers.{read_on-numerals}
 
 -- ---- words
 
@@ -34,7 +34,7 @@ pieces-line_of_words (word ∷ next ∷ more) some h =
     slice_split_at (λ b. eqb b 32) word 32 (line_of_words (next ∷ more)) (lacks 32 word (All-head Plain word (next ∷ more) h)) refl
     ∙ ap (λ rest. word ∷ rest) (pieces-line_of_words (next ∷ more) (λ e. cc e) (All-tail Plain word (next ∷ more) h))
 
--- words are the words of their line
+-- words are the words of the line that is made of them
 pub AreWords-line_of_words : (words : List (List ℕ)) → words ≢ [] → All IsWord words → AreWords (line_of_words words) words
 AreWords-line_of_words words some h = (
   pieces-line_of_words words some (All-weaker IsWord (λ word. All (λ byte. byte ≢ 32) word) (λ word w. w.no_space) words h),
@@ -73,9 +73,10 @@ digits-lack c (d ∷ ds) small h =
     let parts = and_both (is_ascii_digit d) (all_ascii_digits ds) h in
     All-cons (λ byte. byte ≢ c) d ds (digit-not c d small parts.0) (digits-lack c ds small parts.1)
 
+-- the decimal of a number of 64 bits is a word
 pub IsWord-decimal : (n : ℕ) → n < 2 ^ 64 → IsWord (decimal n)
 IsWord-decimal n small =
-    let digits : all_ascii_digits (decimal n) ≡ true = digits_decimal own n small in
+    let digits : all_ascii_digits (decimal n) ≡ true = digits_decimal read_on-numerals n small in
     record {
       nonempty = λ none. omega (arith, decimal_nonempty n small, ap length none);
       no_space = digits-lack 32 (decimal n) (lit< tt) digits;
@@ -106,6 +107,7 @@ bytes_or_dash-lack : (c : ℕ) (bytes : List ℕ) → 0 < c → c < 45 → All (
 bytes_or_dash-lack c [] some small = All-cons (λ byte. byte ≢ c) 45 [] (λ is. omega arith) (All-nil (λ byte. byte ≢ c))
 bytes_or_dash-lack c (b ∷ more) some small = encode_lower-lack c (b ∷ more) some (omega arith)
 
+-- so is what stands for bytes
 pub IsWord-bytes_or_dash : (bytes : List ℕ) → IsWord (bytes_or_dash bytes)
 IsWord-bytes_or_dash bytes = record {
   nonempty = λ none. omega (arith, bytes_or_dash-nonempty bytes, ap length none);
@@ -115,7 +117,7 @@ IsWord-bytes_or_dash bytes = record {
 
 -- ---- a word stands for one value
 
--- bytes have one word, and no other bytes have it
+-- no two lists of bytes have the same word
 pub bytes_or_dash-injective : (a b : List ℕ) → IsBytes a → IsBytes b → bytes_or_dash a ≡ bytes_or_dash b → a ≡ b
 bytes_or_dash-injective [] [] ha hb is = refl
 bytes_or_dash-injective [] (y ∷ b) ha hb is = absurd (omega (arith, ap length is, length-encode_with lower_digits (y ∷ b)))

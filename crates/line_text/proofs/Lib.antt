@@ -1,5 +1,6 @@
-pub mod BytesLemmas
-pub mod CutLemmas
-pub mod HexadecimalLemmas
+mod BytesLemmas
+mod CutLemmas
+mod HexadecimalLemmas
 pub mod Laws
-pub mod NumberLemmas
+pub mod LawsOfNumbers
+mod NumberLemmas

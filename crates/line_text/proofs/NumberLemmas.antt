@@ -9,16 +9,8 @@ use Rattle.std.specs.Str.{all_ascii_digits}
 use Rattle.std.proofs.Math.Seq.{drop-cons}
 use Rattle.std.proofs.Math.ListN.{drop_of_length-le}
 use Rattle.std.proofs.lemmas.Bool.{cases_lt}
-use Rattle.std.proofs.lemmas.Str.Parse.{IsNumeralModel, numerals_by_fold}
-use Rattle.std.proofs.lemmas.Fmt.{decimal_nonempty, first_decimal, decimal_digit, digits_decimal, digits_value-decimal, decimal-digits_value, decimal_injective}
-
--- the value of more digits after a number
-abbrev pub read_on : ℕ → List ℕ → ℕ
-read_on n [] = n
-read_on n (c ∷ cs) = read_on (n * 10 + (c - 48)) cs
-
-pub own : IsNumeralModel (λ ds. all_ascii_digits ds ≡ true) (read_on 0)
-own = numerals_by_fold _ (search rules) read_on (search rules)
+use Rattle.std.proofs.lemmas.Fmt.{decimal_nonempty, first_decimal, decimal_digit, digits_value-decimal, decimal-digits_value, decimal_injective}
+use Rattle.line_text.proofs.LawsOfNumbers.{read_on, read_on-numerals, decimal-all_digits}
 
 -- what no number's digits are
 pub decimal-not_empty : (n : ℕ) (bs : List ℕ) → n < 2 ^ 64 → length bs ≡ 0 → bs ≢ decimal n
@@ -30,17 +22,11 @@ decimal-no_zero n bs small two zero is = elim (cases_lt 0 n) [
   | inr none ↦ omega (arith, ap length (decimal_digit n (omega arith)), ap length is)
 ]
 
-pub decimal-all_digits : (n : ℕ) (bs : List ℕ) → n < 2 ^ 64 → all_ascii_digits bs ≡ false → bs ≢ decimal n
-decimal-all_digits n bs small other is =
-    let digits : all_ascii_digits (decimal n) ≡ true = digits_decimal own n small in
-    let same : all_ascii_digits bs ≡ true = ap all_ascii_digits is ∙ digits in
-    cc
-
 pub decimal-not_above : (n most : ℕ) (bs : List ℕ) → n < 2 ^ 64 → n ≤ most → most < read_on 0 bs → bs ≢ decimal n
-decimal-not_above n most bs small within above is = omega (arith, ap (read_on 0) is, digits_value-decimal own n small)
+decimal-not_above n most bs small within above is = omega (arith, ap (read_on 0) is, digits_value-decimal read_on-numerals n small)
 
 pub decimal-read_on : (bs : List ℕ) → all_ascii_digits bs ≡ true → 0 < length bs → (get_or bs 0 0 ≡ 48 → length bs ≡ 1) → read_on 0 bs < 2 ^ 64 → bs ≡ decimal (read_on 0 bs)
-decimal-read_on bs digits some plain small = sym (decimal-digits_value own bs digits some plain small)
+decimal-read_on bs digits some plain small = sym (decimal-digits_value read_on-numerals bs digits some plain small)
 
 -- one more digit
 pub read_on-drop : (n i : ℕ) (bs : List ℕ) → i < length bs → read_on n (drop i bs) ≡ read_on (n * 10 + (get_or bs i 0 - 48)) (drop (i + 1) bs)

@@ -8,6 +8,8 @@
 //! `signed_decimal`; `push_hex`, `read_hex` and `read_digest` of `encode_lower`; `push_bytes_or_dash`
 //! and `read_bytes_or_dash` of `bytes_or_dash`. `cut_word` gives the pieces of a line between its
 //! spaces one by one, and `cut_line` the lines of a text. Each call goes over its text once.
+//!
+//! Proofs above cite `proofs/Laws` (words and lines) and `proofs/LawsOfNumbers` (decimal digits).
 #![tactic(auto)]
 
 mod bytes;
@@ -21,6 +23,3 @@ pub use hexadecimal::{push_hex, read_digest, read_hex};
 pub use lines::{Line, cut_line};
 pub use numbers::{push_decimal, push_signed, read_decimal, read_signed};
 pub use words::{Word, cut_word};
-
-#[cfg(test)]
-mod tests;

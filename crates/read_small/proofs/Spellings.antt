@@ -7,7 +7,7 @@ use Rattle.std.specs.Fmt.{decimal}
 use Rattle.std.specs.Str.{all_ascii_digits}
 use Rattle.std.specs.Char.{is_ascii_digit}
 use Rattle.std.proofs.lemmas.Fmt.{decimal_nonempty, digits_decimal, digits_value-decimal}
-use Rattle.line_text.proofs.NumberLemmas.{read_on, own}
+use Rattle.line_text.proofs.LawsOfNumbers.{read_on, read_on-numerals as own}
 use Rattle.read_small.specs.declared.token.Fixed.{Fixed}
 use Rattle.read_small.specs.declared.token.Fixed.TheVariants.{Int, Main, Void, If, Else, Getchar, Putchar, Return, Open, Close, OpenBrace, CloseBrace, Semicolon, Equal}
 use Rattle.read_small.specs.declared.token.Kind.{Kind}

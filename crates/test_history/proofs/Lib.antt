@@ -1,14 +1,15 @@
-pub mod AskedLemmas
-pub mod CrossedLemmas
-pub mod EntryLemmas
-pub mod Laws
-pub mod LengthLemmas
-pub mod NamesLemmas
-pub mod NumbersLemmas
-pub mod PlainLemmas
-pub mod ReadLemmas
-pub mod RowLemmas
-pub mod SameLemmas
-pub mod TextLemmas
-pub mod ValueLemmas
-pub mod WholeLemmas
+mod AskedLemmas
+mod CauseLemmas
+mod CrossedLemmas
+mod EntryLemmas
+mod LengthLemmas
+mod NamesLemmas
+mod NumbersLemmas
+mod PlainLemmas
+mod ReadLemmas
+mod RowLemmas
+mod SameLemmas
+mod TextLemmas
+mod Threads
+mod ValueLemmas
+mod WholeLemmas

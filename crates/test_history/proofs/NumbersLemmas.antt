@@ -9,7 +9,7 @@ use Rattle.std.proofs.lemmas.List.Splits.{length-slice_split}
 use Rattle.line_text.specs.Words.{line_of_words, pieces}
 use Rattle.line_text.proofs.Laws.{line_of_words-pieces, pieces-line_of_words, IsWord-decimal}
 use Rattle.edge_trace.specs.Rows.{has}
-use Rattle.edge_trace.proofs.RowLemmas.{has-set_other, has-replicate}
+use Rattle.edge_trace.proofs.Laws.{has-set_other, has-replicate}
 use Rattle.test_history.specs.HistoryTexts.{crossed_numbers, words_or_dash}
 use Rattle.test_history.specs.Rules.{AreRising}
 use Rattle.test_history.proofs.RowLemmas.{crossed_numbers-set, crossed_numbers-empty}

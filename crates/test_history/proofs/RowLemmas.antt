@@ -5,7 +5,7 @@ use Rattle.std.proofs.Math.Seq.{get_or-append_seam}
 use Rattle.std.proofs.lemmas.List.Elements.{All-nil, All-cons, All-weaker}
 use Rattle.std.proofs.lemmas.List.Kept.{AllPairs-cons}
 use Rattle.edge_trace.specs.Rows.{has}
-use Rattle.edge_trace.proofs.RowLemmas.{has-replicate}
+use Rattle.edge_trace.proofs.Laws.{has-replicate}
 use Rattle.test_history.specs.HistoryTexts.{crossed_numbers}
 use Rattle.test_history.specs.Rules.{AreRising}
 

@@ -14,7 +14,7 @@ use Rattle.line_text.specs.Bytes.{bytes_or_dash}
 use Rattle.line_text.specs.Lines.{TextLine, lines_of, line_with, text_of_lines}
 use Rattle.line_text.specs.Words.{line_of_words}
 use Rattle.line_text.proofs.Laws.{lines_of-text_of_lines, bytes_or_dash-injective}
-use Rattle.line_text.proofs.NumberLemmas.{decimal-all_digits}
+use Rattle.line_text.proofs.LawsOfNumbers.{decimal-all_digits}
 use Rattle.test_suite.specs.Tests.{TestParts}
 use Rattle.test_history.specs.Faults.{IsGoodEntry}
 use Rattle.test_history.specs.Histories.{EntryParts, HistoryParts, IsDigest, IsByteStatus, IsReadable}

@@ -83,7 +83,8 @@ IsEntriesRefusal text error.Memory = ⊤
 
 -- the same, where the rest of the text begins with them
 abbrev pub IsRestRefusal : List ℕ → ℕ → ℕ → HistoryError → Type 0
-IsRestRefusal rest edges tests error = (text : List ℕ) → SaysEdges text edges → SaysTests text tests → IsReadTo text 4 rest → IsEntriesRefusal text error
+IsRestRefusal rest edges tests error =
+    (text : List ℕ) → SaysEdges text edges → SaysTests text tests → IsReadTo text 4 rest → IsEntriesRefusal text error
 
 -- the refusal of a text of which n lines are read
 abbrev pub refusal_after : ℕ → Fault → HistoryError

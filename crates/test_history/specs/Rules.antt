@@ -1,5 +1,6 @@
 -- The rules H1 to H14 of a history's lines, and the first line that breaks one.
-use Rattle.std.specs.Prelude.{◌≡◌, ◌≤◌, ◌<◌, ◌+◌, ◌-◌, ◌*◌, ℕ, List, ◌∷◌, length, codes, true, Option, Some, None, slice_get, All, AllPairs}
+use Rattle.std.specs.Prelude.{◌≡◌, ◌≤◌, ◌<◌, ◌+◌, ◌-◌, ◌*◌, ℕ, List, ◌∷◌, length, codes, true}
+use Rattle.std.specs.Prelude.{Option, Some, None, slice_get, All, AllPairs}
 use Rattle.std.specs.Fmt.{decimal}
 use Rattle.hex.specs.Hex.{encode_lower, IsBytes}
 use Rattle.csub_semantics.specs.Memory.{most_output}

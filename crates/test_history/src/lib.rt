@@ -13,6 +13,8 @@
 //! - [`digest_of`] is SHA-256 (FIPS 180-4).
 //! - A [`History`] has in every entry a row of its own number of edges: `History::new` asks for it and
 //!   `History::entries` tells it.
+//!
+//! That workers may share entries and histories and hand them on is shown in `proofs/Threads`.
 #![tactic(auto)]
 
 mod crossed;
@@ -33,8 +35,3 @@ pub use error::{HistoryError, HistoryTextError};
 pub use history::History;
 pub use reader::read_history;
 pub use writer::write_history;
-
-#[cfg(test)]
-mod read_tests;
-#[cfg(test)]
-mod tests;

@@ -1,1 +1,1 @@
-pub mod ZipLemmas
+mod ZipLemmas

@@ -14,6 +14,3 @@ mod text;
 pub use choice::Choice;
 pub use choosing::select;
 pub use text::select_text;
-
-#[cfg(test)]
-mod tests;

@@ -1,5 +1,6 @@
-pub mod Laws
-pub mod LineLemmas
-pub mod NameLemmas
-pub mod SuiteLemmas
-pub mod WordLemmas
+mod CauseLemmas
+mod LineLemmas
+mod NameLemmas
+mod SuiteLemmas
+mod Threads
+mod WordLemmas

@@ -1,5 +1,6 @@
 -- The rules S1 to S7 of a suite's lines, and the first line that breaks one.
-use Rattle.std.specs.Prelude.{◌≡◌, ◌≤◌, ◌<◌, ◌-◌, ◌⊎◌, ⊤, ℕ, List, [], ◌∷◌, length, codes, IsTrue, Option, Some, None, slice_get}
+use Rattle.std.specs.Prelude.{◌≡◌, ◌≤◌, ◌<◌, ◌-◌, ◌⊎◌, ⊤, ℕ, List, [], ◌∷◌, length, codes, IsTrue}
+use Rattle.std.specs.Prelude.{Option, Some, None, slice_get}
 use Rattle.std.specs.Fmt.{decimal}
 use Rattle.hex.specs.Hex.{IsBytes}
 use Rattle.line_text.specs.Bytes.{bytes_or_dash}

@@ -1,7 +1,8 @@
 use Rattle.std.proofs.Common.{◌≡◌, ◌<◌, ◌≤◌, ◌+◌, ◌*◌, ◌-◌, ◌^◌, ◌∙◌, rules, arith, false, ap, length, get_or, sym}
 use Rattle.std.specs.Fmt.{decimal}
 use Rattle.std.specs.Char.{is_ascii_digit}
-use Rattle.line_text.proofs.NumberLemmas.{read_on, decimal-not_empty, decimal-no_zero, decimal-all_digits, decimal-not_above, decimal-read_on, all_ascii_digits-drop, end_digits, end_number, read_on-past}
+use Rattle.line_text.proofs.LawsOfNumbers.{read_on, decimal-all_digits}
+use Rattle.line_text.proofs.NumberLemmas.{decimal-not_empty, decimal-no_zero, decimal-not_above, decimal-read_on, all_ascii_digits-drop, end_digits, end_number, read_on-past}
 use Rattle.line_text.proofs.numbers.read_decimal.Goals as goal
 use Rattle.line_text.proofs.numbers.read_decimal.Goals.{else-text-gt1-via-then-text-gt1+else-text-eq48, else-text-gt1-via-else-text-gt1}
 

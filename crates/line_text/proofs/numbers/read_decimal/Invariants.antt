@@ -1,6 +1,6 @@
 use Rattle.std.proofs.Common.{◌≡◌, drop}
 use Rattle.std.specs.Str.{all_ascii_digits}
-use Rattle.line_text.proofs.NumberLemmas.{read_on}
+use Rattle.line_text.proofs.LawsOfNumbers.{read_on}
 use Rattle.line_text.proofs.numbers.read_decimal.Given as goal
 
 abbrev pub invariant-loop-digit : goal.invariant-loop-digit

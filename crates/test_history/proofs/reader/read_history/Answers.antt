@@ -4,7 +4,7 @@ use Rattle.test_history.specs.Causes.{IsOnlyCause}
 use Rattle.test_history.specs.declared.error.HistoryError.TheVariants.{Sum, Foreign, EdgeCount}
 use Rattle.test_history.specs.Histories.{HistoryParts}
 use Rattle.test_history.specs.HistoryTexts.{text_before_end}
-use Rattle.test_history.proofs.Laws.{sum_is, told_is, told_whole, only_memory, passed_on, cause_excludes, refusal_cause, only_cause, passed_only}
+use Rattle.test_history.proofs.CauseLemmas.{sum_is, told_is, told_whole, only_memory, passed_on, cause_excludes, refusal_cause, only_cause, passed_only}
 use Rattle.test_history.proofs.reader.read_history.Goals as goal
 
 pub returns-in_err-told-clause-back : goal.returns-in_err-told-clause-back

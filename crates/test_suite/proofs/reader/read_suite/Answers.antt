@@ -4,7 +4,7 @@ use Rattle.std.proofs.lemmas.Option.{slice_get_within}
 use Rattle.std.specs.List.{AllPairs}
 use Rattle.test_suite.specs.Tests.{TestParts}
 use Rattle.test_suite.specs.Suites.{names_of}
-use Rattle.test_suite.proofs.Laws.{says_same, only_memory, passed_on, apart_no_repeat}
+use Rattle.test_suite.proofs.CauseLemmas.{says_same, only_memory, passed_on, apart_no_repeat}
 use Rattle.test_suite.proofs.reader.read_suite.Goals as goal
 
 pub returns-in_err-tests-clause-back : goal.returns-in_err-tests-clause-back

@@ -1,0 +1,84 @@
+//! The files that the words name, and the answer to words. The digests and sums are those of `sha256sum`.
+use dejavu_cli::{Status8, dejavu};
+use dv_outside::{MemoryShelf, MemorySink, OpenGate, names_differ};
+use std::alloc::{AllocError, Global};
+use std::test::Fail;
+use std::thread::Threads;
+
+const BRANCHING: &str =
+    "int main(void) { if (getchar() == 65) { putchar(66); } else { putchar(67); } return 0; }";
+
+// The same, but for what is written for another byte than 65.
+const CHANGED: &str =
+    "int main(void) { if (getchar() == 65) { putchar(66); } else { putchar(68); } return 0; }";
+
+pub const BRANCHING_HISTORY: &str =
+    "dejavu history 1\nsource 720637fdcd894bb8ccb9d36c0cd133613d681911fdf1f57983db95d5bb25131b\nedges 8\ntests 2\ntest A\nbudget 100\ninput 41\nstatus exit 0\nturns 8\noutput 42\ncrossed 0 1 2 3 5 7\ntest B\nbudget 100\ninput 42\nstatus exit 0\nturns 8\noutput 43\ncrossed 0 1 2 4 6 7\nend 0bc316408f7242f3c5c5ed8b088347e07f369cbec4df9697f6861b2db1073bc5\n";
+
+pub const EMPTY_HISTORY: &str =
+    "dejavu history 1\nsource 24243bfac9f6afa167d0b0fe14c3ac8b5b4e34d974861164ca11dfab4601216b\nedges 3\ntests 1\ntest E\nbudget 9\ninput -\nstatus exit 0\nturns 5\noutput -\ncrossed 0 1 2\nend bf058354d525dd080cca930761ae7e363856871d20a54cfca26560f9a1d868a9\n";
+
+// The history of `branching`, in which the output of A is another.
+const SPOILED_HISTORY: &str =
+    "dejavu history 1\nsource 720637fdcd894bb8ccb9d36c0cd133613d681911fdf1f57983db95d5bb25131b\nedges 8\ntests 2\ntest A\nbudget 100\ninput 41\nstatus exit 0\nturns 8\noutput 52\ncrossed 0 1 2 3 5 7\ntest B\nbudget 100\ninput 42\nstatus exit 0\nturns 8\noutput 43\ncrossed 0 1 2 4 6 7\nend 0bc316408f7242f3c5c5ed8b088347e07f369cbec4df9697f6861b2db1073bc5\n";
+
+/// Of `branching`, `changed` and the history: B alone crosses edge 4, which leads to the changed line.
+pub const SELECTION: &str = "left A\nrun B edge 4\nselected 1 of 2\n";
+
+/// The files: three small sources, one that isn't small, two suites and one that is none, two histories and one that
+/// is none.
+pub fn files(alloc: Global) -> Result<Vec<(String, Vec<u8>)>, AllocError> {
+    let texts: [(&str, &str); 10] = [
+        ("branching", BRANCHING),
+        ("changed", CHANGED),
+        ("empty", "int main(void) { }"),
+        (
+            "large",
+            "int main(void) { int c; c = getchar(); return 0; }",
+        ),
+        ("two", "dejavu suite 1\ntest A 100 41\ntest B 100 42\n"),
+        ("one", "dejavu suite 1\ntest E 9 -\n"),
+        ("none", "dejavu suite 1\ntest A 100 4\n"),
+        ("history", BRANCHING_HISTORY),
+        ("empty history", EMPTY_HISTORY),
+        ("spoiled history", SPOILED_HISTORY),
+    ];
+    let mut files = Vec::new(alloc);
+    for (name, text) in texts {
+        let content = text.as_bytes().to_vec(alloc)?;
+        files.push((String::from_str(alloc, name)?, content))?;
+    }
+    Ok(files)
+}
+
+/// A shelf of the files.
+pub fn shelf_of_files(alloc: Global) -> Result<MemoryShelf, Fail> {
+    let files = files(alloc)?;
+    if names_differ(&files) {
+        Ok(MemoryShelf::new(alloc, files))
+    } else {
+        Err("two files of one name")?
+    }
+}
+
+/// The words.
+pub fn owned_words(alloc: Global, words: &[&str]) -> Result<Vec<String>, AllocError> {
+    let mut owned = Vec::new(alloc);
+    for word in words {
+        owned.push(String::from_str(alloc, word)?)?;
+    }
+    Ok(owned)
+}
+
+/// The answer and the text, into an output that takes 7 bytes per call.
+pub fn answer<R: Threads + Sync>(
+    rt: &R,
+    alloc: Global,
+    words: &[&str],
+) -> Result<(Status8, Vec<u8>), Fail> {
+    let owned = owned_words(alloc, words)?;
+    let mut shelf = shelf_of_files(alloc)?;
+    let mut out = MemorySink::new(alloc, 1000, 7)?;
+    let status = dejavu(rt, alloc, &owned, &mut shelf, &mut out, &OpenGate);
+    Ok((status, out.bytes().to_vec(alloc)?))
+}

@@ -1,0 +1,14 @@
+//! Tests of the whole command: what it writes and answers for words over files in memory. They stand above what they
+//! test, since a crate's tests are proved together with the whole crate.
+#![tactic(auto)]
+
+#[cfg(test)]
+mod faults;
+#[cfg(test)]
+mod files;
+#[cfg(test)]
+mod record;
+#[cfg(test)]
+mod select;
+#[cfg(test)]
+mod usage;

@@ -1,0 +1,64 @@
+//! What `record` writes, or the line of the first cause.
+use crate::files::{BRANCHING_HISTORY, EMPTY_HISTORY, answer};
+use dejavu_cli::Status8;
+use std::test::Fail;
+
+#[test]
+fn record_writes_the_history(rt: HostRuntime) -> Result<(), Fail> {
+    let rows: [(&[&str], Status8, &str); 3] = [
+        (
+            &["record", "branching", "two"],
+            Status8::Done,
+            BRANCHING_HISTORY,
+        ),
+        (&["record", "empty", "one"], Status8::Done, EMPTY_HISTORY),
+        (
+            &["record", "--", "empty", "one"],
+            Status8::Done,
+            EMPTY_HISTORY,
+        ),
+    ];
+    for (words, status, text) in rows {
+        let (got, bytes) = answer(&rt, rt.alloc(), words)?;
+        assert_eq!(rt; got, status);
+        assert_eq!(rt; bytes.as_slice(), text.as_bytes());
+    }
+    Ok(())
+}
+
+#[test]
+fn record_names_the_first_cause(rt: HostRuntime) -> Result<(), Fail> {
+    let rows: [(&[&str], Status8, &str); 5] = [
+        (
+            &["record", "large", "two"],
+            Status8::Source,
+            "refused: source not built\n",
+        ),
+        (
+            &["record", "large", "none"],
+            Status8::Source,
+            "refused: source not built\n",
+        ),
+        (
+            &["record", "large", "absent"],
+            Status8::Source,
+            "refused: source not built\n",
+        ),
+        (
+            &["record", "branching", "none"],
+            Status8::Suite,
+            "refused: suite not built\n",
+        ),
+        (
+            &["record", "branching", "absent"],
+            Status8::ReadFault,
+            "refused: read fault\n",
+        ),
+    ];
+    for (words, status, text) in rows {
+        let (got, bytes) = answer(&rt, rt.alloc(), words)?;
+        assert_eq!(rt; got, status);
+        assert_eq!(rt; bytes.as_slice(), text.as_bytes());
+    }
+    Ok(())
+}

@@ -1,0 +1,112 @@
+//! What `select` writes, or the line of the first cause.
+use crate::files::{SELECTION, answer};
+use dejavu_cli::Status8;
+use std::test::Fail;
+
+#[test]
+fn select_names_the_tests(rt: HostRuntime) -> Result<(), Fail> {
+    let rows: [(&[&str], Status8, &str); 2] = [
+        (
+            &["select", "branching", "changed", "history"],
+            Status8::Done,
+            SELECTION,
+        ),
+        (
+            &["select", "branching", "branching", "history"],
+            Status8::Done,
+            "left A\nleft B\nselected 0 of 2\n",
+        ),
+    ];
+    for (words, status, text) in rows {
+        let (got, bytes) = answer(&rt, rt.alloc(), words)?;
+        assert_eq!(rt; got, status);
+        assert_eq!(rt; bytes.as_slice(), text.as_bytes());
+    }
+    Ok(())
+}
+
+#[test]
+fn a_history_of_another_source_or_with_another_sum_is_refused(rt: HostRuntime) -> Result<(), Fail> {
+    let rows: [(&[&str], Status8, &str); 3] = [
+        (
+            &["select", "branching", "changed", "spoiled history"],
+            Status8::History,
+            "refused: history not built\n",
+        ),
+        (
+            &["select", "branching", "changed", "empty history"],
+            Status8::History,
+            "refused: history not built\n",
+        ),
+        (
+            &["select", "changed", "branching", "history"],
+            Status8::History,
+            "refused: history not built\n",
+        ),
+    ];
+    for (words, status, text) in rows {
+        let (got, bytes) = answer(&rt, rt.alloc(), words)?;
+        assert_eq!(rt; got, status);
+        assert_eq!(rt; bytes.as_slice(), text.as_bytes());
+    }
+    Ok(())
+}
+
+#[test]
+fn a_source_that_is_not_small_is_named(rt: HostRuntime) -> Result<(), Fail> {
+    let rows: [(&[&str], Status8, &str); 4] = [
+        (
+            &["select", "large", "changed", "history"],
+            Status8::Source,
+            "refused: old not built\n",
+        ),
+        (
+            &["select", "large", "absent", "history"],
+            Status8::Source,
+            "refused: old not built\n",
+        ),
+        (
+            &["select", "branching", "large", "history"],
+            Status8::Source,
+            "refused: new not built\n",
+        ),
+        (
+            &["select", "branching", "large", "absent"],
+            Status8::Source,
+            "refused: new not built\n",
+        ),
+    ];
+    for (words, status, text) in rows {
+        let (got, bytes) = answer(&rt, rt.alloc(), words)?;
+        assert_eq!(rt; got, status);
+        assert_eq!(rt; bytes.as_slice(), text.as_bytes());
+    }
+    Ok(())
+}
+
+#[test]
+fn a_file_that_is_absent_is_a_read_fault(rt: HostRuntime) -> Result<(), Fail> {
+    let rows: [(&[&str], Status8, &str); 3] = [
+        (
+            &["select", "absent", "large", "history"],
+            Status8::ReadFault,
+            "refused: read fault\n",
+        ),
+        (
+            &["select", "branching", "absent", "spoiled history"],
+            Status8::ReadFault,
+            "refused: read fault\n",
+        ),
+        (
+            &["select", "branching", "changed", "absent"],
+            Status8::ReadFault,
+            "refused: read fault\n",
+        ),
+    ];
+    for (words, status, text) in rows {
+        let (got, bytes) = answer(&rt, rt.alloc(), words)?;
+        assert_eq!(rt; got, status);
+        assert_eq!(rt; bytes.as_slice(), text.as_bytes());
+    }
+    Ok(())
+}

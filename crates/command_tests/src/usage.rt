@@ -1,0 +1,23 @@
+//! Words that are no command.
+use crate::files::answer;
+use dejavu_cli::Status8;
+use std::test::Fail;
+
+#[test]
+fn words_that_are_no_command_are_a_fault_of_usage(rt: HostRuntime) -> Result<(), Fail> {
+    let rows: [&[&str]; 7] = [
+        &[],
+        &["record", "branching"],
+        &["record", "a", "b", "--workers", "0"],
+        &["select", "branching", "two"],
+        &["select", "a", "b"],
+        &["select", "a", "b", "c", "d"],
+        &["select", "--workers", "2", "a", "b", "c"],
+    ];
+    for words in rows {
+        let (status, text) = answer(&rt, rt.alloc(), words)?;
+        assert_eq!(rt; status, Status8::Usage);
+        assert_eq!(rt; text.as_slice(), b"refused: usage\n".as_slice());
+    }
+    Ok(())
+}

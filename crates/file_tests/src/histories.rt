@@ -1,0 +1,212 @@
+//! Histories that are made and written. The digests and sums were taken by `sha256sum`; those of no bytes and of `abc`
+//! are the examples of FIPS 180-4.
+ghost use Rattle.std.specs.Prelude.{◌≡◌, length, IfOk};
+ghost use Rattle.test_history.specs.Histories.{IsEntryWithin, IsHistoryWithin};
+ghost use Rattle.test_suite.specs.Tests.{IsWithin};
+
+use crate::row_of_numbers::row_of_numbers;
+use csub_core::{Status, Trap};
+use line_text::push_hex;
+use std::alloc::{AllocError, Global};
+use std::test::Fail;
+use std::thread;
+use std::thread::Threads;
+use test_history::{Entry, History, digest_of, read_history, write_history};
+use test_suite::{Test, copy_test, read_suite};
+
+/// A source of 9 edges.
+const SOURCE: &[u8] =
+    b"int main(void) { int c; c = getchar(); if (c == 65) { putchar(66); } else { putchar(67); } return 0; }";
+
+/// What a run gave: its status, its turns, its output and the edges that it crossed.
+type Results<'a> = (Status, u32, &'a [u8], &'a [u32]);
+
+/// The entry of a test and what its run gave, with a row of 9 edges.
+fn entry_of(alloc: Global, test: &Test, results: Results<'_>) -> Result<Entry, Fail>
+    requires { IsWithin test.now }
+    ensures within { IfOk result IsEntryWithin }
+    ensures row { IfOk result (λ entry. length entry.crossed ≡ 9) }
+{
+    let (status, turns, output, numbers) = results;
+    if turns > test.budget() || output.len() > 16_384 {
+        return Err("a run beyond its limits")?;
+    }
+    let crossed = row_of_numbers(alloc, 9, numbers)?;
+    let copy = copy_test(alloc, test)?;
+    let output = output.to_vec(alloc)?;
+    Ok(Entry::new(copy, status, turns, output, crossed))
+}
+
+/// The history of `SOURCE` with these tests and what their runs gave.
+fn history_of(alloc: Global, suite: &[u8], results: &[Results<'_>]) -> Result<History, Fail>
+    ensures { IfOk result IsHistoryWithin }
+{
+    let tests = read_suite(alloc, suite)?;
+    if tests.len() > results.len() {
+        return Err("a test without a run")?;
+    }
+    let mut entries = Vec::new(alloc);
+    for (place, test) in tests.iter().enumerate() {
+        entries.push(entry_of(alloc, test, results[place])?)?;
+    }
+    Ok(History::new(digest_of(SOURCE), 9, entries))
+}
+
+/// The text of the history of `SOURCE` with these tests and results.
+fn text_of(alloc: Global, suite: &[u8], results: &[Results<'_>]) -> Result<Vec<u8>, Fail> {
+    let history = history_of(alloc, suite, results)?;
+    let text = write_history(alloc, &history)?;
+    Ok(text)
+}
+
+/// The text that a history of `SOURCE` has once it was read.
+fn text_again(alloc: Global, text: &[u8]) -> Result<Vec<u8>, Fail> {
+    let history = read_history(alloc, text, SOURCE, 9)?;
+    let again = write_history(alloc, &history)?;
+    Ok(again)
+}
+
+#[test]
+fn an_entry_has_seven_lines(rt: HostRuntime) -> Result<(), Fail> {
+    let text = text_of(
+        rt.alloc(),
+        b"dejavu suite 1\ntest A 100 41\ntest B 100 42\n",
+        &[
+            (Status::Exit(0), 9, b"B", &[0, 1, 2, 3, 4, 6, 8]),
+            (Status::Exit(0), 9, b"C", &[8, 7, 5, 3, 2, 1, 0, 0]),
+        ],
+    )?;
+    let want = "dejavu history 1\n\
+         source f3e7b98b7d4d95f021635d364627ee64e4acd311669841db52966ba816eaeb96\n\
+         edges 9\ntests 2\n\
+         test A\nbudget 100\ninput 41\nstatus exit 0\nturns 9\noutput 42\ncrossed 0 1 2 3 4 6 8\n\
+         test B\nbudget 100\ninput 42\nstatus exit 0\nturns 9\noutput 43\ncrossed 0 1 2 3 5 7 8\n\
+         end 5cb9b77e6c420835933248acd351ce3e93dd9341ba7193721ccc8db1e7950bc8\n";
+    assert!(rt; text.as_slice() == want.as_bytes());
+    assert!(rt; text_again(rt.alloc(), &text)?.as_slice() == want.as_bytes());
+    Ok(())
+}
+
+#[test]
+fn what_is_empty_is_a_dash(rt: HostRuntime) -> Result<(), Fail> {
+    let text = text_of(
+        rt.alloc(),
+        b"dejavu suite 1\ntest Z 0 -\n",
+        &[(Status::Turns, 0, b"", &[])],
+    )?;
+    let want = "dejavu history 1\n\
+         source f3e7b98b7d4d95f021635d364627ee64e4acd311669841db52966ba816eaeb96\n\
+         edges 9\ntests 1\n\
+         test Z\nbudget 0\ninput -\nstatus turns\nturns 0\noutput -\ncrossed -\n\
+         end 65a841e1075577a7a50bd7386d17092378eee4e35444f8c8ee539a9710412c6f\n";
+    assert!(rt; text.as_slice() == want.as_bytes());
+    assert!(rt; text_again(rt.alloc(), &text)?.as_slice() == want.as_bytes());
+    Ok(())
+}
+
+#[test]
+fn a_history_may_have_no_entry(rt: HostRuntime) -> Result<(), Fail> {
+    let text = text_of(rt.alloc(), b"dejavu suite 1\n", &[])?;
+    let want = "dejavu history 1\n\
+         source f3e7b98b7d4d95f021635d364627ee64e4acd311669841db52966ba816eaeb96\n\
+         edges 9\ntests 0\n\
+         end 336dad8fee8486994aee5e394c2ce44b066492ec81ef5aed2a342d8df2d1987e\n";
+    assert!(rt; text.as_slice() == want.as_bytes());
+    assert!(rt; text_again(rt.alloc(), &text)?.as_slice() == want.as_bytes());
+    Ok(())
+}
+
+fn trapped(trap: Trap) -> Results<'static> {
+    (Status::Trap(trap), 5, b"x", &[0, 2, 3])
+}
+
+/// The tests of runs of all ends.
+const ALL_ENDS: &[u8] = b"dejavu suite 1\n\
+    test overflow 100 -\n\
+    test divide 100 -\n\
+    test shift 100 -\n\
+    test bounds 100 -\n\
+    test unset 100 -\n\
+    test flood 100 -\n\
+    test depth 100 -\n\
+    test missing 100 -\n\
+    test exit 10000000 00ff\n";
+
+const ALL_ENDS_TEXT: &str = "dejavu history 1\n\
+    source f3e7b98b7d4d95f021635d364627ee64e4acd311669841db52966ba816eaeb96\n\
+    edges 9\ntests 9\n\
+    test overflow\nbudget 100\ninput -\nstatus trap overflow\nturns 5\noutput 78\ncrossed 0 2 3\n\
+    test divide\nbudget 100\ninput -\nstatus trap divide\nturns 5\noutput 78\ncrossed 0 2 3\n\
+    test shift\nbudget 100\ninput -\nstatus trap shift\nturns 5\noutput 78\ncrossed 0 2 3\n\
+    test bounds\nbudget 100\ninput -\nstatus trap bounds\nturns 5\noutput 78\ncrossed 0 2 3\n\
+    test unset\nbudget 100\ninput -\nstatus trap unset\nturns 5\noutput 78\ncrossed 0 2 3\n\
+    test flood\nbudget 100\ninput -\nstatus trap flood\nturns 5\noutput 78\ncrossed 0 2 3\n\
+    test depth\nbudget 100\ninput -\nstatus trap depth\nturns 5\noutput 78\ncrossed 0 2 3\n\
+    test missing\nbudget 100\ninput -\nstatus trap missing\nturns 5\noutput 78\ncrossed 0 2 3\n\
+    test exit\nbudget 10000000\ninput 00ff\nstatus exit 255\nturns 10000000\noutput -\ncrossed 8\n\
+    end bd749741f60dc5614dac114e5eda3a89b8c89b615431061c8249de1f1d7a56a6\n";
+
+#[test]
+fn every_end_of_a_run_has_its_words(rt: HostRuntime) -> Result<(), Fail> {
+    let text = text_of(
+        rt.alloc(),
+        ALL_ENDS,
+        &[
+            trapped(Trap::Overflow),
+            trapped(Trap::Divide),
+            trapped(Trap::Shift),
+            trapped(Trap::Bounds),
+            trapped(Trap::Unset),
+            trapped(Trap::Flood),
+            trapped(Trap::Depth),
+            trapped(Trap::Missing),
+            (Status::Exit(255), 10_000_000, b"", &[8]),
+        ],
+    )?;
+    assert!(rt; text.as_slice() == ALL_ENDS_TEXT.as_bytes());
+    assert!(rt; text_again(rt.alloc(), &text)?.as_slice() == ALL_ENDS_TEXT.as_bytes());
+    Ok(())
+}
+
+#[test]
+fn digests_are_those_of_the_standard(rt: HostRuntime) -> Result<(), Fail> {
+    for (source, want) in [
+        (
+            "",
+            "e3b0c44298fc1c149afbf4c8996fb92427ae41e4649b934ca495991b7852b855",
+        ),
+        (
+            "abc",
+            "ba7816bf8f01cfea414140de5dae2223b00361a396177a9cb410ff61f20015ad",
+        ),
+    ] {
+        let mut digits = Vec::new(rt.alloc());
+        push_hex(&mut digits, &digest_of(source.as_bytes()))?;
+        assert!(rt; digits.as_slice() == want.as_bytes(), "{source}");
+    }
+    Ok(())
+}
+
+/// For each history one of the same source without an entry, made by workers.
+fn emptied<R: Threads + Sync>(
+    rt: &R,
+    alloc: Global,
+    histories: &[History],
+) -> Result<Vec<History>, AllocError> {
+    thread::map_chunks(
+        rt,
+        alloc,
+        histories,
+        1,
+        &|_, _chunk| History::new(digest_of(SOURCE), 9, Vec::new(alloc)),
+    )
+}
+
+#[test]
+fn workers_read_and_make_histories(rt: HostRuntime) -> Result<(), Fail> {
+    let mut histories = Vec::new(rt.alloc());
+    histories.push(history_of(rt.alloc(), b"dejavu suite 1\n", &[])?)?;
+    let made = emptied(&rt, rt.alloc(), &histories)?;
+    assert!(rt; made.len() == 1);
+    Ok(())
+}

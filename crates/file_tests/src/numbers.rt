@@ -1,0 +1,116 @@
+//! Numbers, bytes and digests in text. The ends of the numbers are those of Rust's `u64` and `i64`, the digests those of
+//! FIPS 180-4 for no bytes and for `abc`.
+use line_text::{
+    push_bytes_or_dash, push_decimal, push_hex, push_signed, read_bytes_or_dash, read_decimal,
+    read_digest, read_hex, read_signed,
+};
+use std::test::Fail;
+
+#[test]
+fn unsigned_numbers_have_one_text(rt: HostRuntime) {
+    for (text, want) in [
+        ("0", Some(0)),
+        ("9", Some(9)),
+        ("10", Some(10)),
+        ("18446744073709551615", Some(u64::MAX)),
+        ("18446744073709551616", None),
+        ("99999999999999999999", None),
+        ("100000000000000000000", None),
+        ("", None),
+        ("00", None),
+        ("01", None),
+        ("+1", None),
+        ("-1", None),
+        (" 1", None),
+        ("1 ", None),
+        ("1a", None),
+    ] {
+        assert!(rt; read_decimal(text.as_bytes(), u64::MAX) == want, "{text}");
+    }
+    assert!(rt; read_decimal(b"255", 255) == Some(255));
+    assert!(rt; read_decimal(b"256", 255).is_none());
+}
+
+#[test]
+fn signed_numbers_have_one_text(rt: HostRuntime) {
+    for (text, want) in [
+        ("0", Some(0)),
+        ("-1", Some(-1)),
+        ("9223372036854775807", Some(i64::MAX)),
+        ("9223372036854775808", None),
+        ("-9223372036854775808", Some(i64::MIN)),
+        ("-9223372036854775809", None),
+        ("-0", None),
+        ("-01", None),
+        ("--1", None),
+        ("+1", None),
+        ("-", None),
+        ("", None),
+    ] {
+        assert!(rt; read_signed(text.as_bytes()) == want, "{text}");
+    }
+}
+
+#[test]
+fn hexadecimal_has_one_text(rt: HostRuntime) -> Result<(), Fail> {
+    let alloc = rt.alloc();
+    for (text, want) in [
+        ("", Some(b"".as_slice())),
+        ("00", Some(b"\x00".as_slice())),
+        ("ff", Some(b"\xff".as_slice())),
+        ("0a0b", Some(b"\x0a\x0b".as_slice())),
+        ("FF", None),
+        ("0A0b", None),
+        ("f", None),
+        ("0g", None),
+        ("-", None),
+    ] {
+        let read = read_hex(alloc, text.as_bytes())?;
+        assert!(rt; read.as_deref() == want, "{text}");
+    }
+    Ok(())
+}
+
+#[test]
+fn no_bytes_are_a_dash(rt: HostRuntime) -> Result<(), Fail> {
+    let alloc = rt.alloc();
+    for (text, want) in [
+        ("-", Some(b"".as_slice())),
+        ("2d", Some(b"-".as_slice())),
+        ("", None),
+        ("--", None),
+        ("-00", None),
+    ] {
+        let read = read_bytes_or_dash(alloc, text.as_bytes())?;
+        assert!(rt; read.as_deref() == want, "{text}");
+    }
+    Ok(())
+}
+
+#[test]
+fn a_digest_is_64_lower_case_digits(rt: HostRuntime) {
+    let of_nothing = b"e3b0c44298fc1c149afbf4c8996fb92427ae41e4649b934ca495991b7852b855";
+    let read = read_digest(of_nothing);
+    assert!(rt; read.is_some_and(|digest| digest[0] == 0xe3 && digest[31] == 0x55));
+    assert!(rt; read_digest(&of_nothing[..62]).is_none());
+    assert!(rt;
+        read_digest(b"BA7816BF8F01CFEA414140DE5DAE2223B00361A396177A9CB410FF61F20015AD").is_none()
+    );
+}
+
+#[test]
+fn every_writer_appends(rt: HostRuntime) -> Result<(), Fail> {
+    let mut out = Vec::new(rt.alloc());
+    push_decimal(&mut out, 18446744073709551615)?;
+    out.push(b' ')?;
+    push_signed(&mut out, i64::MIN)?;
+    out.push(b' ')?;
+    push_hex(&mut out, b"\x00\xff\x0a")?;
+    out.push(b' ')?;
+    push_bytes_or_dash(&mut out, b"")?;
+    push_bytes_or_dash(&mut out, b"-")?;
+    assert!(rt;
+        out.as_slice() == b"18446744073709551615 -9223372036854775808 00ff0a -2d".as_slice()
+    );
+    Ok(())
+}

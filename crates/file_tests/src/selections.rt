@@ -1,0 +1,85 @@
+//! Two tests of a program of 8 edges, and what is selected for some dangerous edges.
+ghost use Rattle.std.specs.Prelude.{◌≡◌, length, IfOk};
+
+use crate::row_of_numbers::row_of_numbers;
+use csub_core::Status;
+use std::alloc::{AllocError, Global};
+use std::test::Fail;
+use test_history::{Entry, History, digest_of};
+use test_select::{Choice, select, select_text};
+use test_suite::{Test, copy_test, read_suite};
+
+/// The edges that the tests A and B crossed.
+const CROSSED: [&[u32]; 2] = [&[0, 1, 2, 3, 5, 7], &[0, 1, 2, 4, 6, 7]];
+
+/// The entry of a test that crossed these edges.
+fn entry_with(alloc: Global, test: &Test, numbers: &[u32]) -> Result<Entry, AllocError>
+    ensures { IfOk result (λ entry. length entry.crossed ≡ 8) }
+{
+    let crossed = row_of_numbers(alloc, 8, numbers)?;
+    let copy = copy_test(alloc, test)?;
+    Ok(Entry::new(copy, Status::Exit(0), 8, Vec::new(alloc), crossed))
+}
+
+/// The history of the tests of a suite of at most two.
+fn history_of(alloc: Global, suite: &[u8]) -> Result<History, Fail>
+    ensures { IfOk result (λ history. history.edges ≡ 8) }
+{
+    let tests = read_suite(alloc, suite)?;
+    if tests.len() > CROSSED.len() {
+        return Err("more than two tests")?;
+    }
+    let mut entries = Vec::new(alloc);
+    for (place, test) in tests.iter().enumerate() {
+        entries.push(entry_with(alloc, test, CROSSED[place])?)?;
+    }
+    Ok(History::new(digest_of(b""), 8, entries))
+}
+
+/// The choices for these dangerous edges, and their text.
+fn selection(alloc: Global, suite: &[u8], danger: &[u32]) -> Result<(Vec<Choice>, Vec<u8>), Fail> {
+    let history = history_of(alloc, suite)?;
+    let danger = row_of_numbers(alloc, 8, danger)?;
+    let choices = select(alloc, &history, &danger)?;
+    let text = select_text(alloc, &history, &choices)?;
+    Ok((choices, text))
+}
+
+#[test]
+fn the_least_dangerous_edge_of_each_test_is_named(rt: HostRuntime) -> Result<(), Fail> {
+    let suite = b"dejavu suite 1\ntest A 100 41\ntest B 100 42\n";
+    let cases: [(&[u32], [Choice; 2], &str); 3] = [
+        (
+            &[4],
+            [Choice::Left, Choice::Selected(4)],
+            "left A\nrun B edge 4\nselected 1 of 2\n",
+        ),
+        (
+            &[],
+            [Choice::Left, Choice::Left],
+            "left A\nleft B\nselected 0 of 2\n",
+        ),
+        (
+            &[7, 2],
+            [Choice::Selected(2), Choice::Selected(2)],
+            "run A edge 2\nrun B edge 2\nselected 2 of 2\n",
+        ),
+    ];
+    for (danger, want_choices, want_text) in cases {
+        let (choices, text) = selection(rt.alloc(), suite, danger)?;
+        assert!(rt;
+            choices.as_slice() == want_choices.as_slice(),
+            "{want_text}"
+        );
+        assert!(rt; text.as_slice() == want_text.as_bytes(), "{want_text}");
+    }
+    Ok(())
+}
+
+#[test]
+fn a_history_without_tests_has_a_count_alone(rt: HostRuntime) -> Result<(), Fail> {
+    let (choices, text) = selection(rt.alloc(), b"dejavu suite 1\n", &[0, 7])?;
+    assert!(rt; choices.is_empty());
+    assert!(rt; text.as_slice() == b"selected 0 of 0\n".as_slice());
+    Ok(())
+}

@@ -1,0 +1,94 @@
+//! Suites that are read, copied and written, and the faults of those that are refused.
+use csub_text::Text;
+use std::test::Fail;
+use std::thread;
+use test_suite::{SuiteError, Test, copy_test, is_test_name, read_suite, write_suite};
+
+const TWO_TESTS: &[u8] = b"dejavu suite 1\ntest A 100 41\ntest B 100 42\n";
+
+#[test]
+fn a_suite_is_read_copied_and_written_as_it_was(rt: HostRuntime) -> Result<(), Fail> {
+    let alloc = rt.alloc();
+    let tests = read_suite(alloc, TWO_TESTS)?;
+    assert_eq!(rt; tests.len(), 2);
+    let second = copy_test(alloc, &tests[1])?;
+    assert!(rt; second.name().bytes() == b"B".as_slice() && second.budget() == 100);
+    assert!(rt; second.input() == b"B".as_slice());
+    assert!(rt; write_suite(alloc, &tests)?.as_slice() == TWO_TESTS);
+    assert!(rt; is_test_name(b"_9.a-B") && !is_test_name(b"-9") && !is_test_name(b""));
+    Ok(())
+}
+
+#[test]
+fn every_fault_is_named_by_its_line_and_least_rule(rt: HostRuntime) {
+    for (text, line, rule) in [
+        // line 1
+        ("", 1, 1),
+        ("dejavu suite 2\n", 1, 1),
+        ("dejavu suite 1 \ntest A 1 4\n", 1, 1),
+        ("test A 1 -\n", 1, 1),
+        ("dejavu suite 1", 1, 2),
+        // the end of a line comes before all else that is wrong with it
+        ("dejavu suite 1\ntest", 2, 2),
+        ("dejavu suite 1\ntest A 1 -\ntest B 1 -", 3, 2),
+        // four words, the first `test`
+        ("dejavu suite 1\n\n", 2, 3),
+        ("dejavu suite 1\ntest A 1\n", 2, 3),
+        ("dejavu suite 1\ntest A 1 \n", 2, 3),
+        ("dejavu suite 1\ntest A 1 - \n", 2, 3),
+        ("dejavu suite 1\ntest A 1 - -\n", 2, 3),
+        ("dejavu suite 1\ntest  A 1 -\n", 2, 3),
+        ("dejavu suite 1\n test A 1 -\n", 2, 3),
+        ("dejavu suite 1\nTest A 1 -\n", 2, 3),
+        // the name
+        ("dejavu suite 1\ntest .a 01 4\n", 2, 4),
+        ("dejavu suite 1\ntest -a 1 -\n", 2, 4),
+        ("dejavu suite 1\ntest a/b 1 -\n", 2, 4),
+        ("dejavu suite 1\ntest a\u{e9} 1 -\n", 2, 4),
+        // the budget
+        ("dejavu suite 1\ntest A 10000001 -\n", 2, 5),
+        ("dejavu suite 1\ntest A 01 4\n", 2, 5),
+        ("dejavu suite 1\ntest A +1 -\n", 2, 5),
+        ("dejavu suite 1\ntest A - -\n", 2, 5),
+        // the input
+        ("dejavu suite 1\ntest A 1 4\n", 2, 6),
+        ("dejavu suite 1\ntest A 1 0A\n", 2, 6),
+        ("dejavu suite 1\ntest A 1 --\n", 2, 6),
+        ("dejavu suite 1\ntest A 1 41\r\n", 2, 6),
+        // a later line's fault comes before a name that stands twice
+        ("dejavu suite 1\ntest A 1 -\ntest A 1 -\ntest B x -\n", 4, 5),
+    ] {
+        let answer = read_suite(rt.alloc(), text.as_bytes());
+        assert!(rt;
+            answer.err() == Some(SuiteError::Line(line, rule)),
+            "{text}"
+        );
+    }
+}
+
+#[test]
+fn a_name_that_stands_twice_is_named_by_its_later_line(rt: HostRuntime) {
+    let text = b"dejavu suite 1\ntest A 1 -\ntest B 1 -\ntest B 2 41\ntest A 1 -\n";
+    assert!(rt; read_suite(rt.alloc(), text).err() == Some(SuiteError::Twice(4)));
+}
+
+// Workers share tests and hand them on.
+#[test]
+fn a_test_goes_between_threads(rt: HostRuntime) -> Result<(), Fail> {
+    let alloc = rt.alloc();
+    let mut tests = Vec::new(alloc);
+    tests.push(Test::new(Text::new(alloc, b"A")?, 7, b"\x41".to_vec(alloc)?))?;
+    tests.push(Test::new(Text::new(alloc, b"B")?, 8, b"\x42".to_vec(alloc)?))?;
+    let copy_first = |_start: usize, chunk: &[Test]| -> Option<Test> {
+        copy_test(alloc, chunk.first()?).ok()
+    };
+    let copies = thread::map_chunks(&rt, alloc, &tests, 1, &copy_first)?;
+    assert_eq!(rt; copies.len(), 2);
+    assert!(rt; copies[0].as_ref().is_some_and(|test| test.budget() == 7));
+    assert!(rt;
+        copies[1]
+            .as_ref()
+            .is_some_and(|test| test.input() == b"B".as_slice())
+    );
+    Ok(())
+}
