@@ -4,15 +4,15 @@ use Rattle.std.specs.Prelude.{MatchOption}
 use Rattle.std.proofs.lemmas.Option.{same_Some}
 use Rattle.csub_semantics.specs.declared.label.CallLabel.{CallLabel}
 use Rattle.csub_semantics.specs.declared.label.Label.{Label}
-use Rattle.csub_semantics.specs.declared.label.Label.TheVariants.{Entry, Exit, Eval, Init, Branch, Return, Call}
+use Rattle.csub_semantics.specs.declared.label.Label.TheVariants.{Call}
 use Rattle.csub_semantics.specs.Types.{Name}
-use Rattle.csub_semantics.specs.Labels.{LabelTree, CallTree, calls, PointLabel, label_tree, call_tree}
+use Rattle.csub_semantics.specs.Labels.{LabelTree, calls, call_of, PointLabel, label_tree, call_tree}
 use Rattle.csub_semantics.specs.Points.{PointTree}
 use Rattle.csub_semantics.specs.Syntax.{ProgramTree}
 use Rattle.csub_semantics.specs.Flows.{flow_of}
 use Rattle.csub_semantics.specs.Numbers.{Site, site, site_at}
 use Rattle.csub_semantics.specs.Books.{SameLabel, CallsAt, IsNoCallAt}
-use Rattle.program_laws.proofs.Labelled.{is_flow}
+use Rattle.program_laws.proofs.LawsFlows.{is_flow}
 use Rattle.flow_graph.specs.Graph.{Tables, IsGraphOf}
 use Rattle.call_walk.specs.declared.ask.Callee.{Callee}
 use Rattle.call_walk.specs.Moments.{Defines, IsFunction, IsCallee}
@@ -42,14 +42,9 @@ same_trees a b l o o' ea eb la lb =
     ap (λ (x : PointLabel). x.tree) (same_Some (bare a) l (sym ea ∙ la)) ∙ ap (λ (x : PointLabel). x.tree) (same_Some l (bare b) (sym lb ∙ eb))
 
 -- what is no call has the tree of none
-pub no_call : (l : Label) → ((k : CallLabel) → l ≡ Call k → ⊥) → (t : CallTree) → label_tree l ≡ calls t → ⊥
-no_call Entry n t e = cc
-no_call (Exit rule) n t e = cc
-no_call (Eval x) n t e = cc
-no_call (Init owner ctype init) n t e = cc
-no_call (Branch x) n t e = cc
-no_call (Return answer) n t e = cc
-no_call (Call k) n t e = n k refl
+pub no_call : (l : Label) → ((k : CallLabel) → l ≡ Call k → ⊥) → call_of (label_tree l) ≡ None
+no_call (Call k) n = absurd (n k refl)
+no_call _ n = refl
 
 -- a call that stands at a point of both programs
 module _ (g g' : Tables) (P P' : ProgramTree) (ok : IsGraphOf g P) (ok' : IsGraphOf g' P') (f : Name) (p p' : PointTree) (same : SameLabel (flow_of P) (flow_of P') f p p') (k : CallLabel) (labelled : (flow_of P).label f p ≡ Some (bare (calls (call_tree k)))) where
@@ -62,7 +57,7 @@ module _ (g g' : Tables) (P P' : ProgramTree) (ok : IsGraphOf g P) (ok' : IsGrap
   pub new_defines : Defines P' k.callee
   new_defines =
       let one : same.label ≡ bare (calls (call_tree k)) = same_Some _ _ (sym same.old ∙ labelled) in
-      callee_defined P' (is_flow P' ok'.valid) f p' same.label (call_tree k) same.new (ap (λ (l : PointLabel). l.tree) one)
+      callee_defined P' (is_flow P' ok'.valid) f p' same.label (call_tree k) same.new (ap (λ (l : PointLabel). call_of l.tree) one)
 
   pub is_callee : (o : Option Callee) → MatchOption o ⊥ (IsFunction P P' k.callee) → MatchOption o (IsNoCallAt (flow_of P) f p) (IsCallee P P' f p)
   is_callee None h = absurd h

@@ -13,9 +13,10 @@ use Rattle.csub_semantics.specs.Syntax.{LocalTree, FunctionTree, ProgramTree}
 use Rattle.csub_semantics.specs.Points.{PointTree}
 use Rattle.csub_semantics.specs.Flows.{Flow, name_eq, flow_of}
 use Rattle.csub_semantics.specs.Cells.{Root, global_root, local_root, temp_root}
-use Rattle.csub_core.specs.Valid.{Scope, IsObject, IsPlace, IsTarget, IsExpr, AreArgs, IsCall, IsAnswer, IsInitialised, IsLast, IsEarlier, IsValid}
-use Rattle.program_laws.proofs.Labelled.{labelled_at}
-use Rattle.program_laws.proofs.Names.{same_name}
+use Rattle.csub_core.specs.Valid.{Scope, IsObject, IsPlace, IsTarget, IsExpr, AreArgs, IsCall, IsAnswer, IsInitialised, IsLast, IsValid}
+use Rattle.program_laws.proofs.LawsFlows.{labelled_at}
+use Rattle.program_laws.proofs.LawsNames.{same_name}
+use Rattle.program_laws.proofs.LawsNodes.{MayStand}
 use Rattle.call_walk.specs.Shared.{declared_alike, shared}
 use Rattle.call_walk.specs.Locality.{CoversOwner, CoversVariable, CoversPlace, CoversExpr, CoversArg, CoversAnswer, CoversInit, CoversLabel}
 use Rattle.call_walk.proofs.EveryLabel.{every_label}
@@ -119,44 +120,34 @@ module _ (S : Root → Bool) (sc : Scope) (k : ℕ) where
     valid_init : (f : FunctionTree) (owner : OwnerTree) (t : TypeTree) (init : InitTree) → IsInitialised f sc k owner t init → CoversLabel S (initialises owner t init)
     valid_init f owner t (one_value e) h = (valid_object f.locals owner t h.0, valid_expr e h.1)
 
-    valid_last : (f : FunctionTree) (role : Role) (l : LabelTree) → IsLast P f sc role k l → CoversLabel S l
-    valid_last f Whole enters h = tt
-    valid_last f Whole (exits rule) h = tt
-    valid_last f Whole (evaluates e) h = valid_expr e h
-    valid_last f Whole (initialises owner t init) h = valid_init f owner t init h
-    valid_last f Whole (branches e) h = absurd h
-    valid_last f Whole (returns answer) h = valid_answer f.result answer h
-    valid_last f Whole (calls c) h = valid_call f.temps c h
-    valid_last f Test enters h = tt
-    valid_last f Test (exits rule) h = tt
-    valid_last f Test (evaluates e) h = absurd h
-    valid_last f Test (initialises owner t init) h = absurd h
-    valid_last f Test (branches e) h = valid_expr e h
-    valid_last f Test (returns answer) h = absurd h
-    valid_last f Test (calls c) h = absurd h
-    valid_last f Effect enters h = tt
-    valid_last f Effect (exits rule) h = tt
-    valid_last f Effect (evaluates e) h = valid_expr e h
-    valid_last f Effect (initialises owner t init) h = valid_init f owner t init h
-    valid_last f Effect (branches e) h = absurd h
-    valid_last f Effect (returns answer) h = absurd h
-    valid_last f Effect (calls c) h = valid_call f.temps c h
+    valid_whole : (f : FunctionTree) (l : LabelTree) → IsLast P f sc Whole k l → CoversLabel S l
+    valid_whole f (evaluates e) h = valid_expr e h
+    valid_whole f (initialises owner t init) h = valid_init f owner t init h
+    valid_whole f (returns answer) h = valid_answer f.result answer h
+    valid_whole f (calls c) h = valid_call f.temps c h
+    valid_whole f _ h = absurd h
 
-    valid_earlier : (f : FunctionTree) (l : LabelTree) → IsEarlier P f sc k l → CoversLabel S l
-    valid_earlier f enters h = tt
-    valid_earlier f (exits rule) h = tt
-    valid_earlier f (evaluates e) h = absurd h
-    valid_earlier f (initialises owner t init) h = absurd h
-    valid_earlier f (branches e) h = absurd h
-    valid_earlier f (returns answer) h = absurd h
-    valid_earlier f (calls c) h = valid_call f.temps c h
+    valid_test : (f : FunctionTree) (l : LabelTree) → IsLast P f sc Test k l → CoversLabel S l
+    valid_test f (branches e) h = valid_expr e h
+    valid_test f _ h = absurd h
+
+    valid_effect : (f : FunctionTree) (l : LabelTree) → IsLast P f sc Effect k l → CoversLabel S l
+    valid_effect f (evaluates e) h = valid_expr e h
+    valid_effect f (initialises owner t init) h = valid_init f owner t init h
+    valid_effect f (calls c) h = valid_call f.temps c h
+    valid_effect f _ h = absurd h
+
+valid_label : (S : Root → Bool) (P : ProgramTree) (f : FunctionTree) (role : Role) (l : LabelTree) → MayStand P f role l → CoversLabel S l
+valid_label S P f Whole l m = valid_whole S m.scope m.stage P f l m.last
+valid_label S P f Test l m = valid_test S m.scope m.stage P f l m.last
+valid_label S P f Effect l m = valid_effect S m.scope m.stage P f l m.last
 
 -- a label lists the globals that its tree names
 pub label_lists : (P : ProgramTree) → IsValid P → (f : Name) (p : PointTree) (l : PointLabel) → (flow_of P).label f p ≡ Some l → CoversLabel (listed l.globals) l.tree
 label_lists P valid f p l e =
     let at = labelled_at P f p l e in
     subst (λ t. CoversLabel (listed l.globals) t) (ap (λ (m : PointLabel). m.tree) at.is)
-    (every_label P (CoversLabel (listed l.globals)) tt (λ rule. tt) (λ f sc role k. valid_last (listed l.globals) sc k P f role) (λ f sc k. valid_earlier (listed l.globals) sc k P f) valid f p at.stands)
+    (every_label P (CoversLabel (listed l.globals)) tt (λ rule. tt) (valid_label (listed l.globals) P) valid f p at.stands)
 
 contents_same : (o o' : Option (List ℤ)) (vs : List ℤ) → o ≡ Some vs → o' ≡ Some vs → IsTrue (declared_alike o o')
 contents_same o o' vs e e' = subst₂ (λ x y. IsTrue (declared_alike x y)) (sym e) (sym e') ((signed_items vs vs).1 refl)

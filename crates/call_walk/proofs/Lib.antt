@@ -1,19 +1,19 @@
-pub mod Lists
-pub mod Reaching
-pub mod ReachedClosed
-pub mod Agreeing
-pub mod Evaluating
-pub mod Acting
-pub mod EveryLabel
-pub mod Covering
-pub mod Turns
-pub mod Together
-pub mod Respecting
-pub mod Indexed
-pub mod Numbered
-pub mod Asked
-pub mod Naming
-pub mod Explaining
-pub mod Following
-pub mod CallWays
-pub mod Marking
+mod Lists
+mod Reaching
+mod ReachedClosed
+mod Agreeing
+mod Evaluating
+mod Acting
+mod EveryLabel
+mod Covering
+mod Turns
+mod Together
+mod Respecting
+mod Indexed
+mod Numbered
+mod Asked
+mod Naming
+mod Explaining
+mod Following
+mod CallWays
+mod Marking

@@ -4,12 +4,13 @@ use Rattle.std.specs.Prelude.{slice_get, is_some, IfSome, IfNone}
 use Rattle.std.proofs.lemmas.Bool.{cases_lt, cases_eq}
 use Rattle.std.proofs.lemmas.Option.{slice_get_within, same_Some}
 use Rattle.csub_semantics.specs.Types.{Name}
-use Rattle.csub_semantics.specs.Labels.{LabelTree, enters, exits, evaluates, initialises, branches, returns, calls, CallTree, PointLabel}
+use Rattle.csub_semantics.specs.Labels.{CallTree, call_of, PointLabel}
 use Rattle.csub_semantics.specs.Points.{PointTree, exit, ExitTree, next}
 use Rattle.csub_semantics.specs.Syntax.{ProgramTree}
-use Rattle.csub_semantics.specs.Flows.{Edge, Flow, flow_of}
+use Rattle.csub_semantics.specs.Flows.{Edge, flow_of}
 use Rattle.csub_semantics.specs.Numbers.{Site, site, edge_at}
 use Rattle.csub_semantics.specs.Books.{Together, CallsAt, IsNoCallAt, Reached, Dangerous}
+use Rattle.csub_semantics.proofs.LawsLabels.{call_or_none}
 use Rattle.csub_core.specs.Valid.{IsValid}
 use Rattle.edge_trace.specs.Rows.{has}
 use Rattle.call_walk.specs.declared.fact.Fact.{Fact}
@@ -20,7 +21,7 @@ use Rattle.call_walk.proofs.ReachedClosed.{one_callee}
 use Rattle.call_walk.proofs.Reaching.{reached_step, reached_over}
 use Rattle.call_walk.proofs.Naming.{Each, fact_held, held_reached, held_same}
 use Rattle.call_walk.proofs.Following.{pair_held, held_pair}
-use Rattle.call_walk.proofs.CallWays.{call_next}
+use Rattle.call_walk.proofs.CallWays.{call_leads_by_next}
 
 -- whether a pair has a place
 pub has_place : (facts : List Fact) (n n' : ℕ) (o : Option ℕ) → IfSome o (λ place. (c : Fact) × (slice_get facts place ≡ Some c) × (c.old ≡ n) × (c.new ≡ n')) → IfNone o (HasPair facts n n' → ⊥) → (IsTrue (is_some o) → HasPair facts n n') × (HasPair facts n n' → IsTrue (is_some o))
@@ -127,36 +128,22 @@ module _ (P P' : ProgramTree) (facts : List Fact) where
           let one : h.fact ≡ c = same_Some h.fact c (sym (subst (λ k. slice_get facts k ≡ Some h.fact) place h.stands) ∙ stands) in
           m.marked e (subst (λ f. IsStopped P P' facts f e) one h.stopped)
 
--- a point calls something, or nothing
-calls_or_none : (F : Flow) (f : Name) (p : PointTree) (l : PointLabel) → F.label f p ≡ Some l → ((c : CallTree) × (l.tree ≡ calls c)) ⊎ IsNoCallAt F f p
-calls_or_none F f p l e = pick l.tree refl
-  where
-    plain : (t : LabelTree) → l.tree ≡ t → ((c : CallTree) → t ≡ calls c → ⊥) → IsNoCallAt F f p
-    plain t is none = record { label = l; labelled = e; none = λ c h. none c (sym is ∙ h) }
-
-    pick : (t : LabelTree) → l.tree ≡ t → ((c : CallTree) × (l.tree ≡ calls c)) ⊎ IsNoCallAt F f p
-    pick enters is = inr (plain enters is (λ c h. cc))
-    pick (exits rule) is = inr (plain (exits rule) is (λ c h. cc))
-    pick (evaluates x) is = inr (plain (evaluates x) is (λ c h. cc))
-    pick (initialises owner t init) is = inr (plain (initialises owner t init) is (λ c h. cc))
-    pick (branches x) is = inr (plain (branches x) is (λ c h. cc))
-    pick (returns answer) is = inr (plain (returns answer) is (λ c h. cc))
-    pick (calls c) is = inl (c, is)
-
 -- an edge is dangerous exactly where it stops at a fact, if the facts hold every reached pair
 module _ (P P' : ProgramTree) (valid : IsValid P) (valid' : IsValid P') (facts : List Fact) (each : Each P P' facts) (all : (f : Name) (p p' : PointTree) → Reached (flow_of P) (flow_of P') f p p' → IsHeld P P' facts f p p') where
   -- successors with equal labels are reached
   next_reached : (f : Name) (p p' q q' : PointTree) (x : ExitTree) → IsHeld P P' facts f p p' → ComesBack P P' facts f p → Together (flow_of P) (flow_of P') f p p' x q q' → Reached (flow_of P) (flow_of P') f q q'
   next_reached f p p' q q' x h back both =
       let same = held_same P P' facts each valid valid' f p p' h in
-      by_label same.label same.old (calls_or_none (flow_of P) f p same.label same.old)
+      by_label same.label same.old (call_or_none (call_of same.label.tree))
     where
-      by_label : (l : PointLabel) → (flow_of P).label f p ≡ Some l → ((c : CallTree) × (l.tree ≡ calls c)) ⊎ IsNoCallAt (flow_of P) f p → Reached (flow_of P) (flow_of P') f q q'
+      by_label : (l : PointLabel) → (flow_of P).label f p ≡ Some l → ((c : CallTree) × (call_of l.tree ≡ Some c)) ⊎ (call_of l.tree ≡ None) → Reached (flow_of P) (flow_of P') f q q'
       by_label l e (inl c) =
           let at : CallsAt (flow_of P) f p c.0.callee = record { label = l; labelled = e; call = c.0; is = c.1; callee = refl } in
-          let x_next : x ≡ next = call_next P valid f p q l c.0 x e c.1 both.old in
+          let x_next : x ≡ next = call_leads_by_next P valid f p q l c.0 x e c.1 both.old in
           reached_over (flow_of P) (flow_of P') f p p' q q' c.0.callee (held_reached P P' facts each f p p' h) at (held_reached P P' facts each c.0.callee exit exit (back c.0.callee at)) (subst (λ y. Together (flow_of P) (flow_of P') f p p' y q q') x_next both)
-      by_label l e (inr none) = reached_step (flow_of P) (flow_of P') f p p' q q' x (held_reached P P' facts each f p p' h) none both
+      by_label l e (inr none) =
+          let plain : IsNoCallAt (flow_of P) f p = record { label = l; labelled = e; none = none } in
+          reached_step (flow_of P) (flow_of P') f p p' q q' x (held_reached P P' facts each f p p' h) plain both
 
   danger_from : (e : ℕ) (edge : Edge) → edge_at P e ≡ Some edge → IsStoppedBefore P P' facts (length facts) e → Dangerous (flow_of P) (flow_of P') edge.function edge.from edge.exit
   danger_from e edge numbered h =

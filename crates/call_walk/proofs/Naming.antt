@@ -11,8 +11,8 @@ use Rattle.csub_semantics.specs.Numbers.{Site, site}
 use Rattle.csub_semantics.specs.Books as books
 use Rattle.csub_semantics.specs.Books.{SameLabel, Justified, IsBook, Reached}
 use Rattle.csub_core.specs.Valid.{IsValid}
-use Rattle.program_laws.proofs.Labelled.{is_flow}
-use Rattle.flow_graph.proofs.Lists.{Made, made_of}
+use Rattle.program_laws.proofs.LawsFlows.{is_flow}
+use Rattle.flow_graph.proofs.LawsLists.{Made, made_of}
 use Rattle.call_walk.specs.declared.fact.Fact.{Fact}
 use Rattle.call_walk.specs.Walks.{IsNamed, name_in, point_in, named_fact, named_facts, named_reason, IsExplained}
 use Rattle.call_walk.specs.Moments.{AreAt, IsHeld, Extends}

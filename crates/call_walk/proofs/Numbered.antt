@@ -1,82 +1,33 @@
 -- What the numbers of a valid program stand for.
-use Rattle.std.proofs.Common.{◌≡◌, ℕ, zero, suc, ◌+◌, ◌<◌, List, [], ◌∷◌, map, length, get_or, Bool, true, false, cond, Option, Some, None, find, option_map, refl, sym, ap, ◌∙◌, subst, subst₂, ◌⊎◌, inl, inr, arith}
-use Rattle.std.specs.Prelude.{◌≢◌, AllPairs, slice_get}
+use Rattle.std.proofs.Common.{◌≡◌, ℕ, zero, suc, ◌+◌, ◌<◌, List, [], ◌∷◌, length, Bool, true, false, cond, Option, Some, None, find, option_map, refl, sym, ap, ◌∙◌, subst, subst₂}
+use Rattle.std.specs.Prelude.{slice_get}
 use Rattle.std.specs.Option.{option_and_then}
 use Rattle.std.specs.List.{flat_map}
-use Rattle.std.proofs.lemmas.List.{length-map}
-use Rattle.std.proofs.lemmas.Option.{slice_get-map, slice_get_within, same_Some, get_or_from_slice_get}
+use Rattle.std.proofs.lemmas.Option.{slice_get-map, slice_get_within, same_Some}
 use Rattle.csub_semantics.specs.Types.{Name}
-use Rattle.csub_semantics.specs.Labels.{CallTree, calls, PointLabel}
+use Rattle.csub_semantics.specs.Labels.{CallTree, call_of, PointLabel}
 use Rattle.csub_semantics.specs.Points.{PointTree, entry, ExitTree, exit_eq}
 use Rattle.csub_semantics.specs.Syntax.{FunctionTree, ProgramTree}
-use Rattle.csub_semantics.specs.Successors.{Way, Node}
-use Rattle.csub_semantics.specs.Flows.{PlacedNode, placed, function_nodes, point_list, Edge, edges_from, name_eq, function_of, node_of, way_in, way_of, labelled, flow_of, start_name}
+use Rattle.csub_semantics.specs.Successors.{Way}
+use Rattle.csub_semantics.specs.Flows.{point_list, Edge, edges_from, name_eq, function_of, node_of, way_in, way_of, labelled, flow_of, start_name}
 use Rattle.csub_semantics.specs.Numbers.{Site, site, site_of, site_at, edge_at, name_at}
 use Rattle.csub_core.specs.Valid.{BeginsWithStart, IsValid}
 use Rattle.program_laws.specs.Flows.{entry_label, IsFlow}
-use Rattle.program_laws.proofs.Names.{same_name}
-use Rattle.flow_graph.specs.Graph as graphs
+use Rattle.program_laws.proofs.LawsNames.{same_name, same_exit}
 use Rattle.flow_graph.specs.Graph.{Tables, IsGraphOf, point_count}
-use Rattle.flow_graph.proofs.Lists.{slice_get-left, slice_get-right, slice_get_cases_append, range_at, made_of}
-use Rattle.flow_graph.proofs.Distinct.{number_of, function_places}
-use Rattle.flow_graph.specs.Numbers.{count_function}
-use Rattle.flow_graph.proofs.Found.{point_placed, found}
-use Rattle.flow_graph.proofs.Exits.{exit_same}
+use Rattle.flow_graph.proofs.LawsLists.{slice_get-left, slice_get-right, made_of}
+use Rattle.flow_graph.proofs.LawsPlaces.{found, points_once, points_counted}
 use Rattle.call_walk.specs.Moments.{Defines}
 use Rattle.call_walk.proofs.Indexed.{get_some}
 
-abbrev Distinct : ProgramTree → Type 0
-Distinct P = AllPairs (λ (f g : FunctionTree). f.name ≢ g.name) P
-
--- a point of a later function is none of the first one
-apart : (f : FunctionTree) (rest : ProgramTree) (y : PlacedNode) (k : ℕ) → Distinct (f ∷ rest) → slice_get (point_list rest) k ≡ Some y → f.name ≡ y.function → ⊥
-apart f rest y k distinct e same =
-    let is = point_placed rest k y e in
-    let within = slice_get_within rest is.place is.function is.there in
-    let got : get_or rest is.place f ≡ is.function = get_or_from_slice_get rest is.place is.function f is.there in
-    distinct 0 (suc is.place) f (omega arith) (omega (arith, within)) (same ∙ is.name ∙ ap (λ (x : FunctionTree). x.name) (sym got))
-
--- where a point of a function stands
-record Stands (f : FunctionTree) (k : ℕ) (z : PlacedNode) : Type 0 where
-  function : f.name ≡ z.function
-  number : number_of f.body z.node.point ≡ k
-
-stands : (f : FunctionTree) (k : ℕ) (z : PlacedNode) → slice_get (map (placed f.name) (function_nodes f)) k ≡ Some z → Stands f k z
-stands f k z e =
-    let m = made_of (placed f.name) (slice_get (function_nodes f) k) z (sym (slice_get-map (placed f.name) (function_nodes f) k) ∙ e) in
-    let number : number_of f.body m.value.point ≡ 0 + k = range_at (λ (n : Node PointTree). number_of f.body n.point) (function_nodes f) 0 (count_function f) k m.value (function_places f) m.is in
-    let plain : number_of f.body m.value.point ≡ k = omega (arith, number) in
-    record {
-      function = ap (λ (x : PlacedNode). x.function) m.gives;
-      number = ap (λ (x : PlacedNode). number_of f.body x.node.point) (sym m.gives) ∙ plain;
-    }
-
 -- one number for each point
-place_one : (P : ProgramTree) → Distinct P → (n m : ℕ) (x y : PlacedNode) → slice_get (point_list P) n ≡ Some x → slice_get (point_list P) m ≡ Some y → site_of x ≡ site_of y → n ≡ m
-place_one [] d n m x y e h s = absurd cc
-place_one (f ∷ rest) d n m x y e h s =
-    cases (slice_get_cases_append (map (placed f.name) (function_nodes f)) (point_list rest) n x e) (slice_get_cases_append (map (placed f.name) (function_nodes f)) (point_list rest) m y h)
-    (λ k j a b. place_one rest (λ i l z u v. d (suc i) (suc l) z (omega arith) (omega arith)) k j x y a b s)
-  where
-    same_function : x.function ≡ y.function
-    same_function = ap (λ (t : Site). t.function) s
-
-    cases : (slice_get (map (placed f.name) (function_nodes f)) n ≡ Some x) ⊎ ((k : ℕ) × (n ≡ length (map (placed f.name) (function_nodes f)) + k) × (slice_get (point_list rest) k ≡ Some x)) → (slice_get (map (placed f.name) (function_nodes f)) m ≡ Some y) ⊎ ((k : ℕ) × (m ≡ length (map (placed f.name) (function_nodes f)) + k) × (slice_get (point_list rest) k ≡ Some y)) → ((k j : ℕ) → slice_get (point_list rest) k ≡ Some x → slice_get (point_list rest) j ≡ Some y → k ≡ j) → n ≡ m
-    cases (inl a) (inl b) later = sym (stands f n x a).number ∙ ap (λ (t : Site). number_of f.body t.point) s ∙ (stands f m y b).number
-    cases (inl a) (inr b) later = absurd (apart f rest y b.0 d b.2 ((stands f n x a).function ∙ same_function))
-    cases (inr a) (inl b) later = absurd (apart f rest x a.0 d a.2 ((stands f m y b).function ∙ sym same_function))
-    cases (inr a) (inr b) later = a.1 ∙ ap (λ k. length (map (placed f.name) (function_nodes f)) + k) (later a.0 b.0 a.2 b.2) ∙ sym b.1
-
 pub site_one : (P : ProgramTree) → IsValid P → (n m : ℕ) (s : Site) → site_at P n ≡ Some s → site_at P m ≡ Some s → n ≡ m
 site_one P valid n m s a b =
     let x = made_of site_of (slice_get (point_list P) n) s a in
     let y = made_of site_of (slice_get (point_list P) m) s b in
-    place_one P valid.distinct n m x.value y.value x.is y.is (x.gives ∙ sym y.gives)
+    points_once P valid.distinct n m x.value y.value x.is y.is (x.gives ∙ sym y.gives)
 
 -- the numbers of points are those below their count
-points_counted : (g : Tables) (P : ProgramTree) → IsGraphOf g P → point_count g ≡ length (point_list P)
-points_counted g P ok = sym (length-map g.1 (graphs.point_at P)) ∙ ap length ok.points ∙ length-map (point_list P) graphs.point_of
-
 pub site_within : (g : Tables) (P : ProgramTree) (n : ℕ) → IsGraphOf g P → n < point_count g → (s : Site) × (site_at P n ≡ Some s)
 site_within g P n ok within =
     let x = get_some (point_list P) n (subst (λ k. n < k) (points_counted g P ok) within) in
@@ -120,10 +71,10 @@ edge_of P valid n f p q x h leads =
     let there : node_of (function_of P f) p ≡ Some node.node = subst₂ (λ a b. node_of (function_of P a) b ≡ Some node.node) same_name' same_point' (found P n node valid.distinct m.is) in
     let w = made_of (λ (w : Way PointTree). w.to) (way_in node.node.ways x) q (sym (ap (λ o. option_map (λ (w : Way PointTree). w.to) (way_of o x)) there) ∙ leads) in
     let at = found_at (λ (w : Way PointTree). exit_eq w.exit x) node.node.ways w.value w.is in
-    let same_exit : w.value.exit ≡ x = exit_same w.value.exit x at.2 in
+    let one_exit : w.value.exit ≡ x = same_exit w.value.exit x at.2 in
     let of = λ (u : Way PointTree). let y : Edge = record { function = node.function; from = node.node.point; exit = u.exit } in y in
     let there_too : slice_get (edges_from node) at.0 ≡ Some (of w.value) = slice_get-map of node.node.ways at.0 ∙ ap (option_map of) at.1 in
-    let same : of w.value ≡ record { function = f; from = p; exit = x } = λ i. record { function = same_name' i; from = same_point' i; exit = same_exit i } in
+    let same : of w.value ≡ record { function = f; from = p; exit = x } = λ i. record { function = same_name' i; from = same_point' i; exit = one_exit i } in
     flat_at edges_from (point_list P) n at.0 node (record { function = f; from = p; exit = x }) m.is (there_too ∙ ap Some same)
 
 -- a function that has an entry is defined
@@ -134,7 +85,7 @@ defined_by P g l e = pick (function_of P g) refl e
     pick None is e = absurd cc
     pick (Some f) is e = record { function = f; is = is }
 
-pub callee_defined : (P : ProgramTree) → IsFlow (flow_of P) → (f : Name) (p : PointTree) (l : PointLabel) (k : CallTree) → (flow_of P).label f p ≡ Some l → l.tree ≡ calls k → Defines P k.callee
+pub callee_defined : (P : ProgramTree) → IsFlow (flow_of P) → (f : Name) (p : PointTree) (l : PointLabel) (k : CallTree) → (flow_of P).label f p ≡ Some l → call_of l.tree ≡ Some k → Defines P k.callee
 callee_defined P ok f p l k e is = defined_by P k.callee entry_label (ok.called f p l k e is)
 
 pub defined_name : (P : ProgramTree) (g : Name) (d : Defines P g) → d.function.name ≡ g

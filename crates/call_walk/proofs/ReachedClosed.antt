@@ -1,13 +1,13 @@
 -- The reached pairs and the dangerous edges are a closed claim.
 use Rattle.std.proofs.Common.{◌≡◌, Option, Some, None, refl, sym, ap, ◌∙◌, subst, ◌⊎◌, inl, inr}
 use Rattle.csub_semantics.specs.Types.{Name}
-use Rattle.csub_semantics.specs.Labels.{CallTree, calls, PointLabel}
+use Rattle.csub_semantics.specs.Labels.{CallTree, call_of, PointLabel}
 use Rattle.csub_semantics.specs.Points.{PointTree, entry, exit, ExitTree, next}
 use Rattle.csub_semantics.specs.Flows.{Flow}
 use Rattle.csub_semantics.specs.Books.{SameLabel, Together, CallsAt, IsNoCallAt, Reached, Dangerous, GoesOn, Closed}
 use Rattle.program_laws.specs.Decided.{Decided}
 use Rattle.program_laws.specs.Flows.{entry_label, IsFlow}
-use Rattle.program_laws.proofs.Decided.{labels}
+use Rattle.program_laws.proofs.LawsLabels.{labels_decided}
 use Rattle.call_walk.proofs.Reaching.{reached_start, reached_step, reached_call, reached_over, every_reached}
 
 -- a point that calls g calls nothing else, and calls something
@@ -15,7 +15,7 @@ pub one_callee : (P : Flow) (f : Name) (p : PointTree) (g h : Name) → CallsAt 
 one_callee P f p g h a b =
     let both : ◌≡◌ {A = Option PointLabel} (Some a.label) (Some b.label) = sym a.labelled ∙ b.labelled in
     let same : a.label ≡ b.label = cc in
-    let trees : calls a.call ≡ calls b.call = sym a.is ∙ ap (λ (l : PointLabel). l.tree) same ∙ b.is in
+    let calls : ◌≡◌ {A = Option CallTree} (Some a.call) (Some b.call) = sym a.is ∙ ap (λ (l : PointLabel). call_of l.tree) same ∙ b.is in
     let one : a.call ≡ b.call = cc in
     sym a.callee ∙ ap (λ (c : CallTree). c.callee) one ∙ b.callee
 
@@ -23,7 +23,8 @@ pub calls_or_not : (P : Flow) (f : Name) (p : PointTree) (g : Name) → IsNoCall
 calls_or_not P f p g plain at =
     let both : ◌≡◌ {A = Option PointLabel} (Some plain.label) (Some at.label) = sym plain.labelled ∙ at.labelled in
     let same : plain.label ≡ at.label = cc in
-    plain.none at.call (ap (λ (l : PointLabel). l.tree) same ∙ at.is)
+    let calls : ◌≡◌ {A = Option CallTree} None (Some at.call) = sym plain.none ∙ ap (λ (l : PointLabel). call_of l.tree) same ∙ at.is in
+    cc
 
 module _ (P P' : Flow) where
   abbrev Same : Name → PointTree → PointTree → Type 0
@@ -35,7 +36,7 @@ module _ (P P' : Flow) where
       pick : (a : Option PointLabel) → P.label f q ≡ a → (b : Option PointLabel) → P'.label f q' ≡ b → Same f q q' ⊎ (Same f q q' → ⊥)
       pick None ea b eb = inr (λ s. let e : ◌≡◌ {A = Option PointLabel} None (Some s.label) = sym ea ∙ s.old in cc)
       pick (Some a) ea None eb = inr (λ s. let e : ◌≡◌ {A = Option PointLabel} None (Some s.label) = sym eb ∙ s.new in cc)
-      pick (Some a) ea (Some b) eb = decide (labels a b)
+      pick (Some a) ea (Some b) eb = decide (labels_decided a b)
         where
           decide : Decided a b → Same f q q' ⊎ (Same f q q' → ⊥)
           decide (inl e) = inl (record { label = b; old = ea ∙ ap Some e; new = eb })
@@ -62,11 +63,11 @@ module _ (P P' : Flow) where
     entries f p p' g s at =
         let both : ◌≡◌ {A = Option PointLabel} (Some s.label) (Some at.label) = sym s.old ∙ at.labelled in
         let same : s.label ≡ at.label = cc in
-        let tree : s.label.tree ≡ calls at.call = ap (λ (l : PointLabel). l.tree) same ∙ at.is in
+        let call : call_of s.label.tree ≡ Some at.call = ap (λ (l : PointLabel). call_of l.tree) same ∙ at.is in
         subst (λ n. Same n entry entry) at.callee (record {
           label = entry_label;
-          old = ok.called f p s.label at.call s.old tree;
-          new = ok'.called f p' s.label at.call s.new tree;
+          old = ok.called f p s.label at.call s.old call;
+          new = ok'.called f p' s.label at.call s.new call;
         })
 
     pub reached_same : (f : Name) (p p' : PointTree) → Reached P P' f p p' → Same f p p'

@@ -6,7 +6,7 @@ use Rattle.csub_semantics.specs.Flows.{Flow, flow_of}
 use Rattle.csub_semantics.specs.Cells.{Root, global_root, local_root, temp_root, Inner, Cell, reference}
 use Rattle.csub_semantics.specs.Runs.{initial_content, initial_at}
 use Rattle.csub_core.specs.Valid.{IsValid}
-use Rattle.program_laws.proofs.Labelled.{is_flow}
+use Rattle.program_laws.proofs.LawsFlows.{is_flow}
 use Rattle.call_walk.specs.Shared.{declared_alike, shared, Agree}
 use Rattle.call_walk.proofs.Agreeing.{agree_put}
 use Rattle.call_walk.proofs.Acting.{same_act}

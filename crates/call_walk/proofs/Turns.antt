@@ -3,15 +3,15 @@ use Rattle.std.proofs.Common.{◌≡◌, ℕ, suc, ◌+◌, ℤ, List, [], ◌�
 use Rattle.std.specs.List.{list_any}
 use Rattle.std.specs.Ordering.{int_eq}
 use Rattle.csub_semantics.specs.Types.{Name}
-use Rattle.csub_semantics.specs.Labels.{LabelTree, enters, exits, evaluates, initialises, branches, returns, calls, CallTree, PointLabel}
+use Rattle.csub_semantics.specs.Labels.{call_of, PointLabel}
 use Rattle.csub_semantics.specs.Points.{PointTree, entry, exit, ExitTree, next, on_case, on_default}
 use Rattle.csub_semantics.specs.Flows.{Flow, Edge}
-use Rattle.csub_semantics.specs.Acts.{Store, Outcome, leaves, gives, pushes, pops, act}
+use Rattle.csub_semantics.specs.Acts.{Store, Outcome, act}
 use Rattle.csub_semantics.specs.Runs.{Frame, Standing, Turn, goes, stops, lost, exit_at, edge_of, cross, put_result, come_back, come_back_to, pop, follow, turn_at, turn_of, opening}
 use Rattle.csub_semantics.specs.Books.{SameLabel, CallsAt, GoesOn, Closed, IsImage}
 use Rattle.program_laws.specs.Outcomes.{Fits}
 use Rattle.program_laws.specs.Flows.{IsFlow}
-use Rattle.program_laws.proofs.Fitting.{fits}
+use Rattle.program_laws.proofs.LawsOutcomes.{fits, leaves_no_call, gives_no_call, pushes_by_call, pops_by_exit}
 use Rattle.call_walk.specs.Locality.{SameOutcome, both_leave, both_give, both_push, both_pop, both_end}
 use Rattle.call_walk.specs.Lockstep.{Claim, Edges}
 
@@ -95,44 +95,6 @@ pub record Respects (P P' : Flow) (A : Store → Store → Type 0) : Type 0 wher
   pub opens : (input : List ℕ) → A (opening P input).store (opening P' input).store
   pub outputs : (s s' : Store) → A s s' → s.output ≡ s'.output
 
--- which labels may leave, give a value, push and pop
-no_call_leaves : (l : LabelTree) (x : ExitTree) (r : Option ℤ) (s : Store) → Fits l (leaves x r s) → (c : CallTree) → l ≡ calls c → ⊥
-no_call_leaves enters x r s fit c e = cc
-no_call_leaves (exits rule) x r s fit c e = cc
-no_call_leaves (evaluates a) x r s fit c e = cc
-no_call_leaves (initialises owner t init) x r s fit c e = cc
-no_call_leaves (branches a) x r s fit c e = cc
-no_call_leaves (returns answer) x r s fit c e = cc
-no_call_leaves (calls d) x r s fit c e = fit
-
-no_call_gives : (l : LabelTree) (v : ℤ) (s : Store) → Fits l (gives v s) → (c : CallTree) → l ≡ calls c → ⊥
-no_call_gives enters v s fit c e = cc
-no_call_gives (exits rule) v s fit c e = cc
-no_call_gives (evaluates a) v s fit c e = cc
-no_call_gives (initialises owner t init) v s fit c e = cc
-no_call_gives (branches a) v s fit c e = cc
-no_call_gives (returns answer) v s fit c e = cc
-no_call_gives (calls d) v s fit c e = fit
-
-module _ (P : Flow) (f : Name) (p : PointTree) (l : PointLabel) (at : P.label f p ≡ Some l) where
-  pushes_callee : (t : LabelTree) (g : Name) (s : Store) → l.tree ≡ t → Fits t (pushes g s) → CallsAt P f p g
-  pushes_callee enters g s e fit = absurd fit
-  pushes_callee (exits rule) g s e fit = absurd fit
-  pushes_callee (evaluates a) g s e fit = absurd fit
-  pushes_callee (initialises owner t init) g s e fit = absurd fit
-  pushes_callee (branches a) g s e fit = absurd fit
-  pushes_callee (returns answer) g s e fit = absurd fit
-  pushes_callee (calls c) g s e fit = record { label = l; labelled = at; call = c; is = e; callee = sym fit }
-
-  pops_at_exit : IsFlow P → (t : LabelTree) (r : Option ℤ) (s : Store) → l.tree ≡ t → Fits t (pops r s) → p ≡ exit
-  pops_at_exit ok enters r s e fit = absurd fit
-  pops_at_exit ok (exits rule) r s e fit = ok.leaves f p l rule at e
-  pops_at_exit ok (evaluates a) r s e fit = absurd fit
-  pops_at_exit ok (initialises owner t init) r s e fit = absurd fit
-  pops_at_exit ok (branches a) r s e fit = absurd fit
-  pops_at_exit ok (returns answer) r s e fit = absurd fit
-  pops_at_exit ok (calls c) r s e fit = absurd fit
-
 any_case : (b : Bool) (v : ℤ) (vs : List ℤ) → b ≡ true → (if b then on_case v else on_default vs) ≡ on_case v
 any_case b v vs e = rw e
 
@@ -173,7 +135,7 @@ module _ (P P' : Flow) (ok : IsFlow P) (ok' : IsFlow P') (C : Claim) (E : Edges)
       let to = P.succ b.function b.old next in
       let to' = P'.succ b.function b.new next in
       subst₂ (λ l l'. Matches (come_back (old_frame b) (olds bs) r s l to) (come_back (new_frame b) (news bs) r s' l' to')) (sym at.labelled) (sym new_label)
-      (subst (λ t. Matches (come_back_to (old_frame b) (olds bs) r s t to) (come_back_to (new_frame b) (news bs) r s' t to')) (sym at.is) returned)
+      (subst (λ call. Matches (come_back_to (old_frame b) (olds bs) r s call to) (come_back_to (new_frame b) (news bs) r s' call to')) (sym at.is) returned)
     where
       same : SameLabel P P' b.function b.old b.new
       same = closed.same b.function b.old b.new w.0
@@ -187,28 +149,30 @@ module _ (P P' : Flow) (ok : IsFlow P) (ok' : IsFlow P') (C : Claim) (E : Edges)
           (cross_both b bs next b.result (put_result (length (olds bs)) w.1.call.temp r s) (put_result (length (olds bs)) w.1.call.temp r s') (keeps.puts (length (olds bs)) w.1.call.temp r s s' al) (P.succ b.function b.old next) (λ q e. closed.over b.function b.old b.new q g w.0 w.1 cx e) w.0 w.2 next (λ q' e. refl))
 
   module _ (b : Both) (bs : List Both) (l : PointLabel) (old : P.label b.function b.old ≡ Some l) (new : P'.label b.function b.new ≡ Some l) (cb : C b.function b.old b.new) (w : Waits P C E A b.function bs) where
-    steps_on : ((c : CallTree) → l.tree ≡ calls c → ⊥) → (x : ExitTree) (q : PointTree) → P.succ b.function b.old x ≡ Some q → E b.function b.old x ⊎ GoesOn P' C b.function b.new x q
+    steps_on : call_of l.tree ≡ None → (x : ExitTree) (q : PointTree) → P.succ b.function b.old x ≡ Some q → E b.function b.old x ⊎ GoesOn P' C b.function b.new x q
     steps_on none x q e = closed.steps b.function b.old b.new q x cb (record { label = l; labelled = old; none = none }) e
 
     follow_both : (o o' : Outcome) → SameOutcome A o o' → Fits l.tree o → Matches (follow P (old_frame b) (olds bs) o) (follow P' (new_frame b) (news bs) o')
     follow_both o o' (both_leave {x} {r} {s} {s'} al) fit =
-        cross_both b bs x r s s' al (P.succ b.function b.old x) (steps_on (no_call_leaves l.tree x r s fit) x) cb w x (λ q' e. refl)
+        cross_both b bs x r s s' al (P.succ b.function b.old x) (steps_on (leaves_no_call l.tree x r s fit) x) cb w x (λ q' e. refl)
     follow_both o o' (both_give {v} {s} {s'} al) fit =
         let x = exit_at (P.cases b.function b.old) v in
-        cross_both b bs x b.result s s' al (P.succ b.function b.old x) (steps_on (no_call_gives l.tree v s fit) x) cb w (exit_at (P'.cases b.function b.new) v) (λ q' e. same_exit b.function b.new q' (P.cases b.function b.old) v e)
+        cross_both b bs x b.result s s' al (P.succ b.function b.old x) (steps_on (gives_no_call l.tree v s fit) x) cb w (exit_at (P'.cases b.function b.new) v) (λ q' e. same_exit b.function b.new q' (P.cases b.function b.old) v e)
     follow_both o o' (both_push {g} {s} {s'} al) fit = λ miss. record {
       joint = record { stack = record { function = g; old = entry; new = entry; result = None } ∷ b ∷ bs; old = s; new = s' };
       image = None;
       old = refl;
       new = refl;
       ready =
-          let at = pushes_callee P b.function b.old l old l.tree g s refl fit in
+          let by = pushes_by_call l.tree g s fit in
+          let at : CallsAt P b.function b.old g = record { label = l; labelled = old; call = by.0; is = by.1; callee = sym by.2 } in
           (closed.enters b.function b.old b.new g cb at, (cb, at, w));
       alike = al;
       is_image = tt;
     }
     follow_both o o' (both_pop {r} {s} {s'} al) fit =
-        pop_both b.function bs r s s' al (subst₂ (λ p p'. C b.function p p') (pops_at_exit P b.function b.old l old ok l.tree r s refl fit) (pops_at_exit P' b.function b.new l new ok' l.tree r s refl fit) cb) w
+        let by = pops_by_exit l.tree r s fit in
+        pop_both b.function bs r s s' al (subst₂ (λ p p'. C b.function p p') (ok.leaves b.function b.old l by.0 old by.1) (ok'.leaves b.function b.new l by.0 new by.1) cb) w
     follow_both o o' (both_end {t} {s} {s'} al) fit = (s', refl, al)
 
   -- the act of the top frames, where n frames stand below them

@@ -1,10 +1,10 @@
-pub mod ValidArgs
-pub mod ValidCounts
-pub mod ValidLists
-pub mod ValidObjects
-pub mod ValidParts
-pub mod ValidResults
-pub mod ValidPrograms
-pub mod ValidStmts
-pub mod ValidStart
-pub mod Threads
+mod ValidArgs
+mod ValidCounts
+mod ValidLists
+mod ValidObjects
+mod ValidParts
+mod ValidResults
+mod ValidPrograms
+mod ValidStmts
+mod ValidStart
+mod Threads

@@ -1,7 +1,7 @@
 -- A program may cross threads.
 use denote.Param.Send.{IsSend, IsSync, sendable}
 use Rattle.std.proofs.Crossing.{crosses}
-use Rattle.csub_semantics.proofs.Threads.{Function-send, Function-sync}
+use Rattle.csub_semantics.proofs.LawsThreads.{Function-send, Function-sync}
 use Rattle.csub_core.specs.contracts.program.Program as Program
 
 pub Program-send : IsSend Program.the_row

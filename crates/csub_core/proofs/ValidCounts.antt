@@ -10,9 +10,9 @@ use Rattle.std.specs.declared.alloc.Global.{Global}
 use Rattle.csub_semantics.specs.declared.function.Function.{Function}
 use Rattle.csub_semantics.specs.declared.function.RStmt.{RStmt, Block}
 use Rattle.csub_semantics.specs.Types.{Name}
-use Rattle.csub_semantics.specs.Labels.{LabelTree, enters, exits, evaluates, initialises, branches, returns, calls}
+use Rattle.csub_semantics.specs.Labels.{LabelTree, exits, returns}
 use Rattle.csub_semantics.specs.Syntax.{PartTree, StmtTree, StmtTrees, ElseTree, parts, block, conditional, while_loop, do_loop, for_loop, breaks, continues, no_stmt, more_stmts, no_else, else_stmt, FunctionTree, function_tree, stmt_tree, stmts_of}
-use Rattle.csub_semantics.proofs.StmtRows.{stmt_tree-Block}
+use Rattle.csub_semantics.proofs.LawsRows.{stmt_tree-Block}
 use Rattle.csub_semantics.specs.Points.{PointTree, exit, at}
 use Rattle.csub_semantics.specs.Successors.{Way, Node, Around, own_ways, last_ways, part_nodes, parts_nodes, nodes, nodes_list, nodes_else, leaving, looping, test_ways, enter, enter_part, enter_list, enter_else, enter_parts}
 use Rattle.csub_semantics.specs.Flows.{function_nodes, to_exit, end_rule, placed, edges_from, point_list, edge_list}
@@ -56,13 +56,8 @@ module _ {X : Type 0} where
 
   -- the own point of a part outside a test has one way out
   pub length-own_ways : (label : LabelTree) (past returned : X) → length (own_ways label past returned) ≡ 1
-  length-own_ways enters past returned = refl
-  length-own_ways (exits rule) past returned = refl
-  length-own_ways (evaluates e) past returned = refl
-  length-own_ways (initialises owner t init) past returned = refl
-  length-own_ways (branches e) past returned = refl
   length-own_ways (returns answer) past returned = refl
-  length-own_ways (calls c) past returned = refl
+  length-own_ways _ past returned = refl
 
   pub length-last_ways : (s : _) (p : PartTree) (past returned : X) → length (last_ways (s ∷ p) past returned) ≡ 1
   length-last_ways s [] past returned = length-own_ways s.label past returned

@@ -4,11 +4,6 @@ use Rattle.std.proofs.lemmas.List.{get_or-map, length-map}
 use Rattle.std.specs.List.{AllWithin}
 use Rattle.std.proofs.lemmas.List.Elements.{All-map, All-nil, All-cons, All-head, All-tail, at_read}
 
--- equal maps have elements that stand for the same
-pub map_at : {X Y : Type 0} (f : X → Y) (xs ys : List X) (i : ℕ) (x y : X) → i < length xs → i < length ys → map f xs ≡ map f ys → x ≡ get_or xs i x → y ≡ get_or ys i y → f x ≡ f y
-map_at f xs ys i x y h k e p q =
-    let a = get_or-map f xs i x (f x) h in let b = get_or-map f ys i y (f x) k in cc
-
 -- what is found from a place on
 pub find-drop_map : {X Y : Type 0} (test : Y → Bool) (f : X → Y) (xs : List X) (i : ℕ) (d : X) → i < length xs → find test (map f (drop i xs)) ≡ cond (test (f (get_or xs i d))) (Some (f (get_or xs i d))) (find test (map f (drop (i + 1) xs)))
 find-drop_map test f xs i d h = rw (drop-cons xs i d h, add-one) refl

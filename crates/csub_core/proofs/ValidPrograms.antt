@@ -14,7 +14,7 @@ AreNamed-split fs =
 valid_parts : (P : ProgramTree) → IsValid P → IsFramed P × All (IsFunction P) P
 valid_parts P h = (
   ((h.functions, h.points, h.edges), ((h.start, h.main), h.distinct)),
-  λ k d below. (((h.frames k d below, h.parameters k d below), h.objects k d below), h.bodies k d below),
+  λ k d below. (((h.frames k d below, (h.parameters k d below, h.lists k d below)), h.objects k d below), h.bodies k d below),
 )
 
 valid_from_parts : (P : ProgramTree) → IsFramed P → All (IsFunction P) P → IsValid P
@@ -28,7 +28,8 @@ valid_from_parts P framed each = record {
   points = framed.0.1;
   edges = framed.0.2;
   frames = λ k d below. (each k d below).0.0.0;
-  parameters = λ k d below. (each k d below).0.0.1;
+  parameters = λ k d below. (each k d below).0.0.1.0;
+  lists = λ k d below. (each k d below).0.0.1.1;
 }
 
 pub IsValid-split : (fs : List Function) → IsValid (map function_tree fs) ↔ (IsFramed (map function_tree fs) × All (λ f. IsFunction (map function_tree fs) (function_tree f)) fs)

@@ -1,18 +1,12 @@
 -- The first function of a program, `#start`, by the parts of its definition.
 use Rattle.std.proofs.Common.{◌≡◌, List, [], ◌∷◌, map, length, refl}
 use Rattle.csub_semantics.specs.declared.function.RStmt.{RStmt}
-use Rattle.csub_semantics.specs.Syntax.{StmtTree, StmtTrees, parts, block, conditional, while_loop, do_loop, for_loop, breaks, continues, more_stmts, stmt_tree, stmts_of}
+use Rattle.csub_semantics.specs.Syntax.{StmtTree, StmtTrees, parts, more_stmts, stmt_tree, stmts_of}
 use Rattle.csub_core.specs.Valid.{IsStartBody}
 
 two_lines : (s t : StmtTree) (rest : StmtTrees) → IsStartBody (more_stmts s (more_stmts t rest)) → ⊥
 two_lines (parts ps) t rest h = h
-two_lines (block stmts) t rest h = h
-two_lines (conditional p a e) t rest h = h
-two_lines (while_loop p s) t rest h = h
-two_lines (do_loop s p) t rest h = h
-two_lines (for_loop a p b s) t rest h = h
-two_lines breaks t rest h = h
-two_lines continues t rest h = h
+two_lines _ t rest h = h
 
 -- the body of `#start` is one line
 pub start_body_is_one : (ss : List RStmt) → IsStartBody (stmts_of (map stmt_tree ss)) → length ss ≡ 1

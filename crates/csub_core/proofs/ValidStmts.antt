@@ -1,5 +1,5 @@
 -- Which statements are valid, by the statements and parts of their vectors.
-use Rattle.std.proofs.Common.{◌≡◌, ◌↔◌, List, [], ◌∷◌, ◌++◌, ◌||◌, map, All, Option, Some, None, Bool, true, false, refl, sym, subst}
+use Rattle.std.proofs.Common.{◌≡◌, ◌↔◌, List, [], ◌∷◌, ◌++◌, ◌||◌, ◌≤◌, map, length, arith, All, Option, Some, None, Bool, true, false, refl, sym, subst}
 use Rattle.std.proofs.lemmas.List.Elements.{All-nil, All-cons, All-head, All-tail}
 use Rattle.std.specs.declared.vec.Vec.{Vec}
 use Rattle.std.specs.declared.alloc.Global.{Global}
@@ -7,13 +7,14 @@ use Rattle.csub_text.specs.declared.span.Span.{Span}
 use Rattle.csub_semantics.specs.declared.function.RCall.{RCall}
 use Rattle.csub_semantics.specs.declared.function.RPart.{RPart}
 use Rattle.csub_semantics.specs.Labels.{LabelTree}
-use Rattle.csub_semantics.specs.declared.function.RStmt.{RStmt, Parts, Block}
-use Rattle.csub_core.specs.declared.valid.role.Role.TheVariants.{Whole, Effect}
+use Rattle.csub_semantics.specs.declared.function.RStmt.{RStmt, Block}
+use Rattle.csub_core.specs.declared.valid.role.Role.{Role}
+use Rattle.csub_core.specs.declared.valid.role.Role.TheVariants.{Effect}
 use Rattle.csub_core.specs.declared.valid.role.Targets.{Targets}
 use Rattle.csub_semantics.specs.Syntax.{call_stage, own_stage, part_tree, stmt_tree, stmts_of, FunctionTree, ProgramTree}
-use Rattle.csub_core.specs.Valid.{is_declared, declares, IsPart, IsStmt, AreStmts}
+use Rattle.csub_core.specs.Valid.{is_declared, declares, IsPart, IsStmt, AreStmts, stmt_count, most_entries}
 use Rattle.csub_core.specs.Checks.{declared_own}
-use Rattle.csub_semantics.proofs.StmtRows.{stmt_tree-Block}
+use Rattle.csub_semantics.proofs.LawsRows.{stmt_tree-Block}
 use Rattle.csub_core.proofs.ValidLists.{All-of_map}
 
 module _ (P : ProgramTree) (f : FunctionTree) (to : Targets) where
@@ -25,11 +26,28 @@ module _ (P : ProgramTree) (f : FunctionTree) (to : Targets) where
         λ h. (All-head (λ t. IsStmt P f to (stmt_tree t)) s ss h, rest.1 (All-tail (λ t. IsStmt P f to (stmt_tree t)) s ss h)),
       )
 
-  pub IsStmt-Block : (stmts : Vec RStmt Global) → IsStmt P f to (stmt_tree (Block stmts)) ↔ All (λ s. IsStmt P f to (stmt_tree s)) stmts.items
-  IsStmt-Block stmts = subst (λ t. IsStmt P f to t ↔ All (λ s. IsStmt P f to (stmt_tree s)) stmts.items) (sym (stmt_tree-Block stmts)) (AreStmts-All stmts.items)
+  -- a block is a short list of statements
+  abbrev pub AreFew : List RStmt → Type 0
+  AreFew ss = stmt_count (stmts_of (map stmt_tree ss)) ≤ most_entries
 
-  pub IsStmt-Parts : (row : Vec RPart Global) → IsStmt P f to (stmt_tree (Parts row)) ↔ All (λ p. IsPart P f Whole (part_tree p)) row.items
-  IsStmt-Parts row = All-of_map (IsPart P f Whole) part_tree row.items
+  pub IsStmt-Block : (stmts : Vec RStmt Global) → IsStmt P f to (stmt_tree (Block stmts)) ↔ (AreFew stmts.items × All (λ s. IsStmt P f to (stmt_tree s)) stmts.items)
+  IsStmt-Block stmts =
+      let each = AreStmts-All stmts.items in
+      subst (λ t. IsStmt P f to t ↔ (AreFew stmts.items × All (λ s. IsStmt P f to (stmt_tree s)) stmts.items)) (sym (stmt_tree-Block stmts))
+      (λ h. (h.0, each.0 h.1), λ h. (h.0, each.1 h.1))
+
+-- how many statements a list has
+pub stmt_count-list : (ss : List RStmt) → stmt_count (stmts_of (map stmt_tree ss)) ≡ length ss
+stmt_count-list [] = refl
+stmt_count-list (s ∷ ss) = let rest = stmt_count-list ss in omega arith
+
+-- the parts of a list, in a role
+pub parts_of_map : (P : ProgramTree) (f : FunctionTree) (role : Role) (ps : List RPart) → All (λ p. IsPart P f role p) (map part_tree ps) ↔ All (λ p. IsPart P f role (part_tree p)) ps
+parts_of_map P f role ps = All-of_map (IsPart P f role) part_tree ps
+
+-- each of the parts of a list declares an object
+pub declared_of_map : (ps : List RPart) → All (λ p. declares p ≡ true) (map part_tree ps) ↔ All (λ p. declares (part_tree p) ≡ true) ps
+declared_of_map ps = All-of_map (λ p. declares p ≡ true) part_tree ps
 
 -- the parts of a list, evaluated for their effects
 pub effects_of_map : (P : ProgramTree) (f : FunctionTree) (ps : List RPart) → All (λ p. IsPart P f Effect p) (map part_tree ps) ↔ All (λ p. IsPart P f Effect (part_tree p)) ps

@@ -6,8 +6,11 @@ use Rattle.csub_core.specs.declared.valid.role.Role.TheVariants.{Whole, Test, Ef
 use Rattle.csub_types.specs.declared.kind.IntKind.{IntKind}
 use Rattle.csub_semantics.specs.Trees.{NamedArg, value_argument}
 use Rattle.csub_semantics.specs.Labels.{LabelTree, call_tree}
-use Rattle.csub_semantics.specs.Syntax.{PartTree, StmtTree, StmtTrees, ElseTree, parts, block, conditional, while_loop, do_loop, for_loop, breaks, continues, no_stmt, more_stmts, no_else, else_stmt, FunctionTree, ProgramTree, part_tree, function_tree}
-use Rattle.csub_core.specs.Valid.{Scope, scope_of, is_declared, label_result, IsExpr, IsCall, IsLast, AreStmts, no_loop, objects_of, AreOther, frame_cells, most_parameters, BeginsWithStart, IsMain, most_functions, most_points, most_edges, most_cells}
+use Rattle.csub_semantics.specs.Syntax.{PartTree, StmtTree, StmtTrees, ElseTree, parts, block, conditional, while_loop, do_loop, for_loop, breaks}
+use Rattle.csub_semantics.specs.Syntax.{continues, no_stmt, more_stmts, no_else, else_stmt, FunctionTree, ProgramTree, part_tree, function_tree}
+use Rattle.csub_core.specs.Valid.{Scope, scope_of, is_declared, label_result, IsExpr, IsCall, IsLast, AreStmts, no_loop, objects_of, AreOther}
+use Rattle.csub_core.specs.Valid.{declares, IsOneOrDeclares, stmt_count, most_entries, frame_cells, most_parameters, BeginsWithStart, IsMain}
+use Rattle.csub_core.specs.Valid.{most_functions, most_points, most_edges, most_cells}
 use Rattle.csub_semantics.specs.Flows.{main_name, function_of, point_list, edge_list}
 use Rattle.csub_semantics.specs.declared.function.RCall.{RCall}
 use Rattle.csub_semantics.specs.declared.function.LocalVar.{LocalVar}
@@ -79,6 +82,14 @@ count_function ends further f = ends + count_list further f.body
 abbrev pub AreApart : List Member → List LocalVar → Type 0
 AreApart params locals = All (λ (l : LocalVar). l.number ≡ 1 → All (λ (p : Member). p.name ≢ l.name) params) locals
 
+-- the parts of a statement apart from what each of them is
+abbrev pub AreTogether : List PartTree → Type 0
+AreTogether ps = (length ps ≤ most_entries) × IsOneOrDeclares ps
+
+-- what the third list of a `for` is apart from what each of its parts is
+abbrev pub IsOneStep : List PartTree → Type 0
+IsOneStep ps = (length ps ≤ 1) × All (λ p. declares p ≡ false) ps
+
 -- validity, cut into parts that are joined two by two
 abbrev pub IsWithinLimits : ProgramTree → Type 0
 IsWithinLimits P = (length P ≤ most_functions + 1) × (length (point_list P) ≤ most_points) × (length (edge_list P) ≤ most_edges)
@@ -94,7 +105,7 @@ IsFramed P = IsWithinLimits P × AreNamed P
 
 -- what validity says of each function
 abbrev pub IsSmall : FunctionTree → Type 0
-IsSmall f = (frame_cells f ≤ most_cells) × (length f.params ≤ most_parameters)
+IsSmall f = (frame_cells f ≤ most_cells) × ((length f.params ≤ most_parameters) × (stmt_count f.body ≤ most_entries))
 
 abbrev pub HasObjects : FunctionTree → Type 0
 HasObjects f = IsSmall f × AllPairs AreOther (objects_of f)

@@ -1,5 +1,6 @@
 -- Valid programs: what a program keeps at every moment.
-use Rattle.std.specs.Prelude.{ℕ, ◌+◌, ◌≤◌, ◌≡◌, ◌≢◌, ◌<◌, ◌++◌, Bool, true, false, IsTrue, List, [], ◌∷◌, map, length, slice_get, find, nat_eq, ◌&&◌, All, AllPairs, Option, Some, None, IfSome}
+use Rattle.std.specs.Prelude.{ℕ, ◌+◌, ◌≤◌, ◌≡◌, ◌≢◌, ◌<◌, ◌++◌, ◌⊎◌, Bool, true, false, IsTrue, List, [], ◌∷◌, map, length, slice_get, find, nat_eq, ◌&&◌}
+use Rattle.std.specs.Prelude.{All, AllPairs, Option, Some, None, IfSome}
 use Rattle.std.specs.List.{list_any}
 use Rattle.std.specs.Option.{option_map, option_and_then}
 use Rattle.csub_text.specs.declared.operator.BinOp.{BinOp}
@@ -9,9 +10,12 @@ use Rattle.csub_types.specs.declared.kind.IntKind.TheVariants.{Int}
 use Rattle.csub_types.specs.Kinds.{IsOf, promote, common}
 use Rattle.csub_types.specs.Arithmetic.{unary_kind, binary_kind}
 use Rattle.csub_semantics.specs.Types.{Name, TypeTree, number_kind, MemberTree}
-use Rattle.csub_semantics.specs.Trees.{NamedPlace, NamedExpr, Variable, NamedArg, value_argument, OwnerTree, global_owner, local_owner, variable, object, temporary, constant, reading, unary_operation, conversion, stepping, operation, conjunction, disjunction, choice, assignment, update, input_byte, output_byte}
+use Rattle.csub_semantics.specs.Trees.{NamedPlace, NamedExpr, Variable, NamedArg, value_argument, OwnerTree, global_owner, local_owner, variable}
+use Rattle.csub_semantics.specs.Trees.{object, temporary, constant, reading, unary_operation, conversion, stepping, operation, conjunction}
+use Rattle.csub_semantics.specs.Trees.{disjunction, choice, assignment, update, input_byte, output_byte}
 use Rattle.csub_semantics.specs.Labels.{LabelTree, evaluates, initialises, branches, returns, calls, AnswerTree, CallTree, InitTree, one_value}
-use Rattle.csub_semantics.specs.Syntax.{PartTree, StmtTree, StmtTrees, ElseTree, parts, block, conditional, while_loop, do_loop, for_loop, breaks, continues, no_stmt, more_stmts, no_else, else_stmt, Stage, LocalTree, FunctionTree, ProgramTree}
+use Rattle.csub_semantics.specs.Syntax.{PartTree, StmtTree, StmtTrees, ElseTree, parts, block, conditional, while_loop, do_loop, for_loop, breaks}
+use Rattle.csub_semantics.specs.Syntax.{continues, no_stmt, more_stmts, no_else, else_stmt, Stage, LocalTree, FunctionTree, ProgramTree}
 use Rattle.csub_core.specs.declared.valid.role.Role.{Role}
 use Rattle.csub_core.specs.declared.valid.role.Role.TheVariants.{Whole, Test, Effect}
 use Rattle.csub_core.specs.declared.valid.role.Targets.{Targets}
@@ -91,9 +95,9 @@ abbrev pub IsTarget : Scope → NamedPlace → Type 0
 IsTarget sc (variable (object owner t)) = IsObject sc.objects owner t
 IsTarget sc (variable (temporary n kind)) = ⊥
 
--- an expression at the k-th stage of a part: every constant is a number of its kind, and every operation has the kind that its operator and operands state: a unary
--- one the promoted kind of its operand (C11 6.5.3.3), `?:` the common kind of its later operands (6.5.15p5), and a
--- compound assignment that of its operation (6.5.16.2p3)
+-- an expression at the k-th stage of a part: every constant is a number of its kind, and every operation has the kind
+-- that its operator and operands state: a unary one the promoted kind of its operand (C11 6.5.3.3), `?:` the common kind
+-- of its later operands (6.5.15p5), and a compound assignment that of its operation (6.5.16.2p3)
 module _ (sc : Scope) (number : ℕ) where
   abbrev pub IsExpr : NamedExpr → Type 0
   IsExpr (constant k v) = IsOf k v
@@ -184,11 +188,31 @@ is_declared label = false
 abbrev pub declares : PartTree → Bool
 declares p = list_any (λ s. is_declared s.label) p
 
--- what stands before the body of a `for`: round a test, expressions that are evaluated for their effects; the first may be
--- a declaration in their place (C11 6.8.5.3)
+-- the most statements of a list, and the most parts of a statement
+abbrev pub most_entries : ℕ
+most_entries = 1048576
+
+-- how many statements a list has
+abbrev pub stmt_count : StmtTrees → ℕ
+stmt_count no_stmt = 0
+stmt_count (more_stmts s rest) = stmt_count rest + 1
+
+-- at most one expression, or a declaration, which has a part for each object that it initialises (C11 6.7)
+abbrev pub IsOneOrDeclares : List PartTree → Type 0
+IsOneOrDeclares ps = (length ps ≤ 1) ⊎ All (λ p. declares p ≡ true) ps
+
+-- the parts of a statement, or the first of a `for`
+pub record AreParts (P : ProgramTree) (f : FunctionTree) (role : Role) (ps : List PartTree) : Type 0 where
+  pub few : length ps ≤ most_entries
+  pub one : IsOneOrDeclares ps
+  pub each : All (λ p. IsPart P f role p) ps
+
+-- what stands before the body of a `for`: round a test, at most one expression each that is evaluated for its effects;
+-- a declaration may stand in place of the first (C11 6.8.5.3)
 pub record IsForHead (P : ProgramTree) (f : FunctionTree) (first : List PartTree) (test : PartTree) (third : List PartTree) : Type 0 where
-  pub begins : All (λ p. IsPart P f Effect p) first
+  pub begins : AreParts P f Effect first
   pub tests : IsPart P f Test test
+  pub one : length third ≤ 1
   pub steps : All (λ p. IsPart P f Effect p) third
   pub undeclared : All (λ p. declares p ≡ false) third
 
@@ -202,8 +226,8 @@ in_loop = record { of_break = true; of_continue = true }
 -- a label stands only where there is a point of its kind, and every test has its own point
 abbrev mutual
   pub IsStmt : ProgramTree → FunctionTree → Targets → StmtTree → Type 0
-  IsStmt P f to (parts ps) = All (λ p. IsPart P f Whole p) ps
-  IsStmt P f to (block stmts) = AreStmts P f to stmts
+  IsStmt P f to (parts ps) = AreParts P f Whole ps
+  IsStmt P f to (block stmts) = (stmt_count stmts ≤ most_entries) × AreStmts P f to stmts
   IsStmt P f to (conditional p t e) = IsPart P f Test p × IsStmt P f to t × IsElse P f to e
   IsStmt P f to (while_loop p s) = IsPart P f Test p × IsStmt P f in_loop s
   IsStmt P f to (do_loop s p) = IsStmt P f in_loop s × IsPart P f Test p
@@ -283,3 +307,4 @@ pub record IsValid (P : ProgramTree) : Type 0 where
   pub edges : length (edge_list P) ≤ most_edges
   pub frames : All (λ f. frame_cells f ≤ most_cells) P
   pub parameters : All (λ f. length f.params ≤ most_parameters) P
+  pub lists : All (λ f. stmt_count f.body ≤ most_entries) P

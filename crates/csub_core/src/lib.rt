@@ -8,10 +8,9 @@
 pub mod program;
 mod valid;
 
-pub use csub_semantics::{Answer, CallLabel, EndRule, ExitLabel, Label, RInit};
-pub use csub_semantics::{BinOp, IntKind, Span, StepOp, Text, Trap, UnaryOp};
-pub use csub_semantics::{CType, Member, Owner, Piece, Place, RArg, RExpr};
-pub use csub_semantics::{Function, LocalVar, RCall, RPart, RStmt};
-pub use csub_semantics::{Point, PointPath, Status};
-pub use csub_semantics::{copy_call, copy_label};
+pub use csub_semantics::{
+    Answer, BinOp, CType, CallLabel, EndRule, ExitLabel, Function, IntKind, Label, LocalVar,
+    Member, Owner, Piece, Place, Point, PointPath, RArg, RCall, RExpr, RInit, RPart, RStmt, Span,
+    Status, StepOp, Text, Trap, UnaryOp, copy_call, copy_label,
+};
 pub use program::Program;

@@ -3,8 +3,8 @@ ghost use Rattle.std.specs.Prelude.{◌≡◌, ◌↔◌, IsSome, IfSome, map};
 ghost use Rattle.csub_semantics.specs.Syntax.{function_tree};
 ghost use Rattle.csub_core.specs.Valid.{IsValid};
 
-use csub_semantics::Function;
 use crate::valid::is_valid;
+use csub_semantics::Function;
 use std::marker::Model;
 
 /// A valid program: `#start`, which calls `main`, and then the defined functions in the order of the source. Contracts

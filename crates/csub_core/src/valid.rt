@@ -6,7 +6,7 @@ ghost use Rattle.std.specs.Prelude.{◌≡◌, ◌≢◌, ◌↔◌, ◌≤◌, 
 ghost use Rattle.std.specs.List.{AllWithin};
 ghost use Rattle.csub_semantics.specs.declared.function.Function.{Function};
 ghost use Rattle.csub_semantics.specs.Syntax.{function_tree};
-ghost use Rattle.csub_core.specs.Valid.{IsValid, frame_cells, most_cells};
+ghost use Rattle.csub_core.specs.Valid.{IsValid, frame_cells, most_cells, most_parameters, most_entries, stmt_count};
 ghost use Rattle.csub_core.specs.Checks.{IsWithinLimits, HasEnds, AreNamed, IsFramed, IsFunction, HasObjects, IsSmall};
 
 mod calls;
@@ -17,13 +17,13 @@ mod role;
 mod start;
 mod statements;
 
-use csub_semantics::Function;
 use crate::valid::calls::is_named;
 use crate::valid::counts::{has_few_edges, has_few_points};
 use crate::valid::objects::objects_differ;
 use crate::valid::role::Targets;
 use crate::valid::start::{has_main, has_start};
-use crate::valid::statements::are_stmts;
+use crate::valid::statements::{are_stmts, has_few_stmts};
+use csub_semantics::Function;
 
 /// The most functions beside `#start`.
 const MOST_FUNCTIONS: usize = 500;
@@ -118,11 +118,18 @@ fn has_objects(function: &Function) -> bool
     is_small(function) && objects_differ(function)
 }
 
-/// Whether a frame of the function has at most 4,096 cells, and the function at most 16 parameters.
+/// Whether a frame of the function has at most 4,096 cells, and the function few parameters and lines.
 fn is_small(function: &Function) -> bool
     ensures { IsTrue result ↔ IsSmall (function_tree function.now) }
 {
-    has_few_cells(function) && function.params.len() <= MOST_PARAMETERS
+    has_few_cells(function) && is_short(function)
+}
+
+/// Whether a function has at most 16 parameters, and at most 1,048,576 lines of its own.
+fn is_short(function: &Function) -> bool
+    ensures { IsTrue result ↔ ((length (function_tree function.now).params ≤ most_parameters) × (stmt_count (function_tree function.now).body ≤ most_entries)) }
+{
+    function.params.len() <= MOST_PARAMETERS && has_few_stmts(&function.body)
 }
 
 fn has_few_cells(function: &Function) -> bool

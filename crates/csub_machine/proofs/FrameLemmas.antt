@@ -2,7 +2,7 @@
 use Rattle.std.proofs.Common.{◌≡◌, ◌<◌, ◌+◌, ℕ, [], ◌∷◌, ◌++◌, length, None, All, subst, sym, ap, ◌∙◌, refl, arith, length-append}
 use Rattle.std.proofs.lemmas.List.Elements.{All-push}
 use Rattle.csub_semantics.specs.Types.{Name}
-use Rattle.csub_semantics.specs.Labels.{LabelTree, enters, exits, evaluates, initialises, branches, returns, calls}
+use Rattle.csub_semantics.specs.Labels.{LabelTree, calls}
 use Rattle.csub_semantics.specs.Syntax.{ProgramTree}
 use Rattle.csub_semantics.specs.Points.{entry}
 use Rattle.csub_semantics.specs.Flows.{point_list, flow_of}
@@ -24,12 +24,7 @@ frames_pushed P old new n a few l t b = record {
 
 -- no valid program calls a function that isn't defined
 pub callee_defined : (P : ProgramTree) (n : ℕ) (l : LabelTree) (f : Name) → IsFlow (flow_of P) → HasLabel P n l → IsCallOf l f → IsUndefined P f → ⊥
-callee_defined P n enters f flow label call undefined = absurd call
-callee_defined P n (exits rule) f flow label call undefined = absurd call
-callee_defined P n (evaluates e) f flow label call undefined = absurd call
-callee_defined P n (initialises owner t init) f flow label call undefined = absurd call
-callee_defined P n (branches e) f flow label call undefined = absurd call
-callee_defined P n (returns answer) f flow label call undefined = absurd call
 callee_defined P n (calls c) f flow label call undefined =
     let found = flow.called (place_of P n).function (place_of P n).point _ c label refl in
     let lost = ap (λ (g : Name). (flow_of P).label g entry) call in cc
+callee_defined P n _ f flow label call undefined = absurd call

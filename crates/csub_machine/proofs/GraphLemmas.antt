@@ -8,16 +8,9 @@ use Rattle.csub_semantics.specs.Points.{PointTree, ExitTree}
 use Rattle.csub_semantics.specs.Flows.{Edge, point_list, edge_list, flow_of, function_of, name_eq}
 use Rattle.csub_semantics.specs.Numbers.{Site, site, site_of, site_at, edge_at, name_at}
 use Rattle.std.proofs.lemmas.List.{length-map}
-use Rattle.flow_graph.specs.Graph.{Tables, IsGraphOf, point_count, edge_count, function_count, point_at, point_of, function_at, function_of as graph_function_of}
-use Rattle.flow_graph.proofs.Whole.{edges_listed}
+use Rattle.flow_graph.specs.Graph.{Tables, IsGraphOf, function_count, function_at, function_of as graph_function_of}
 use Rattle.csub_machine.specs.Places.{place_of, site_or, LeadsTo, LeadsNowhere}
 use Rattle.csub_machine.proofs.Same.{name_true}
-
-pub points_counted : (g : Tables) (P : ProgramTree) → IsGraphOf g P → point_count g ≡ length (point_list P)
-points_counted g P h = sym (length-map g.1 (point_at P)) ∙ ap length h.points ∙ length-map (point_list P) point_of
-
-pub edges_counted : (g : Tables) (P : ProgramTree) → IsGraphOf g P → edge_count g ≡ length (edge_list P)
-edges_counted g P h = edges_listed P g.1 h.points
 
 pub functions_counted : (g : Tables) (P : ProgramTree) → IsGraphOf g P → function_count g ≡ length P
 functions_counted g P h = sym (length-map g.0 (function_at P)) ∙ ap length h.functions ∙ length-map P graph_function_of

@@ -1,14 +1,13 @@
-pub mod Same
-pub mod Keys
-pub mod Enters
-pub mod Adds
-pub mod MomentLemmas
-pub mod RunLemmas
-pub mod EdgeLemmas
-pub mod RowLemmas
-pub mod FrameLemmas
-pub mod ExitsOnce
-pub mod Once
-pub mod BeginLemmas
-pub mod GraphLemmas
-pub mod WholeLemmas
+mod Same
+mod Keys
+mod Enters
+mod Adds
+mod MomentLemmas
+mod RunLemmas
+mod EdgeLemmas
+mod RowLemmas
+mod FrameLemmas
+mod Once
+mod BeginLemmas
+mod GraphLemmas
+mod WholeLemmas

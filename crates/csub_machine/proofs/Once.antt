@@ -1,18 +1,16 @@
 -- Each edge of a valid program has one number.
-use Rattle.std.proofs.Common.{◌≡◌, ◌≢◌, ◌⊎◌, inl, inr, ◌∙◌, ◌+◌, ℕ, suc, List, [], ◌∷◌, length, map, AllPairs, Some, refl, sym, ap, arith, get_or}
+use Rattle.std.proofs.Common.{◌≡◌, ◌⊎◌, inl, inr, ◌∙◌, ◌+◌, ℕ, suc, List, [], ◌∷◌, length, Some, refl, sym, ap}
 use Rattle.std.specs.List.{slice_get, flat_map}
-use Rattle.std.proofs.lemmas.Option.{same_Some, slice_get-map, slice_get_within, slice_get-get_or}
+use Rattle.std.proofs.lemmas.Option.{slice_get-map}
 use Rattle.csub_semantics.specs.Points.{PointTree}
-use Rattle.csub_semantics.specs.Syntax.{FunctionTree, ProgramTree}
+use Rattle.csub_semantics.specs.Syntax.{ProgramTree}
 use Rattle.csub_semantics.specs.Successors.{Way}
-use Rattle.csub_semantics.specs.Flows.{PlacedNode, placed, function_nodes, point_list, Edge, edges_from, edge_list}
+use Rattle.csub_semantics.specs.Flows.{PlacedNode, point_list, Edge, edges_from, edge_list}
 use Rattle.csub_semantics.specs.Numbers.{Site, site, site_of}
 use Rattle.csub_core.specs.Valid.{IsValid}
-use Rattle.flow_graph.specs.Numbers.{count_function}
-use Rattle.flow_graph.proofs.Lists.{slice_get_cases_append, made_of, range_at}
-use Rattle.flow_graph.proofs.Distinct.{number_of, function_places}
-use Rattle.flow_graph.proofs.Found.{point_placed}
-use Rattle.csub_machine.proofs.ExitsOnce.{ExitsOnce, exits_once}
+use Rattle.program_laws.proofs.LawsWays.{ExitsOnce, ways_differ}
+use Rattle.flow_graph.proofs.LawsLists.{slice_get_cases_append, made_of}
+use Rattle.flow_graph.proofs.LawsPlaces.{point_placed, points_once}
 use Rattle.csub_machine.proofs.RowLemmas.{Once}
 
 -- an element of two lists, one behind the other, stands in the one or in the other
@@ -71,37 +69,7 @@ edges_once_among (m ∷ ms) places ways i j d e g =
     step (inr h) (inl f) later = absurd (apart j h.0 f h.2)
     step (inr h) (inr f) later = h.1 ∙ ap (λ n. length (edges_from m) + n) (later h.0 f.0 d h.2 f.2) ∙ sym f.1
 
-first_differs : (f : FunctionTree) (rest : ProgramTree) (n : ℕ) (o : FunctionTree) → AllPairs (λ f g. f.name ≢ g.name) (f ∷ rest) → slice_get rest n ≡ Some o → f.name ≢ o.name
-first_differs f rest n o differ t =
-    let within = slice_get_within rest n o t in
-    let is : get_or rest n o ≡ o = same_Some _ _ (sym (slice_get-get_or rest n o within) ∙ t) in
-    λ e. differ 0 (suc n) o (omega arith) (omega arith) (e ∙ sym (ap (λ (x : FunctionTree). x.name) is))
-
--- no two points of a program are the same
-places_once : (P : ProgramTree) → AllPairs (λ f g. f.name ≢ g.name) P → PlacesOnce (point_list P)
-places_once [] differ i j a b e g h = absurd (let f : ⊥ = cc in f)
-places_once (f ∷ rest) differ i j a b e g h =
-    step (slice_get_cases_append (map (placed f.name) (function_nodes f)) (point_list rest) i a e) (slice_get_cases_append (map (placed f.name) (function_nodes f)) (point_list rest) j b g)
-    (places_once rest (λ k l x p q. differ (suc k) (suc l) x (omega arith) (omega arith)))
-  where
-    numbered : (k : ℕ) (x : PlacedNode) → slice_get (map (placed f.name) (function_nodes f)) k ≡ Some x → (x.function ≡ f.name) × (number_of f.body x.node.point ≡ k)
-    numbered k x t =
-        let made = made_of (placed f.name) (slice_get (function_nodes f) k) x (sym (slice_get-map (placed f.name) (function_nodes f) k) ∙ t) in
-        let number = range_at (λ n. number_of f.body n.point) (function_nodes f) 0 (count_function f) k made.value (function_places f) made.is in
-        (sym (ap (λ (y : PlacedNode). y.function) made.gives), ap (λ (y : PlacedNode). number_of f.body y.node.point) (sym made.gives) ∙ number ∙ omega arith)
-
-    apart : (x y : PlacedNode) (k l : ℕ) → slice_get (map (placed f.name) (function_nodes f)) k ≡ Some x → slice_get (point_list rest) l ≡ Some y → x.function ≡ y.function → ⊥
-    apart x y k l t u s =
-        let is = point_placed rest l y u in
-        first_differs f rest is.place is.function differ is.there (sym (numbered k x t).0 ∙ s ∙ is.name)
-
-    step : Stands (map (placed f.name) (function_nodes f)) (point_list rest) i a → Stands (map (placed f.name) (function_nodes f)) (point_list rest) j b → PlacesOnce (point_list rest) → i ≡ j
-    step (inl t) (inl u) later = sym (numbered i a t).1 ∙ ap (λ (s : Site). number_of f.body s.point) h ∙ (numbered j b u).1
-    step (inl t) (inr u) later = absurd (apart a b i u.0 t u.2 (ap (λ (s : Site). s.function) h))
-    step (inr t) (inl u) later = absurd (apart b a j t.0 u t.2 (sym (ap (λ (s : Site). s.function) h)))
-    step (inr t) (inr u) later = t.1 ∙ ap (λ n. length (map (placed f.name) (function_nodes f)) + n) (later t.0 u.0 a b t.2 u.2 h) ∙ sym u.1
-
 pub edges_once : (P : ProgramTree) → IsValid P → Once (edge_list P)
 edges_once P valid =
-    edges_once_among (point_list P) (places_once P valid.distinct)
-    (λ i a e. let is = point_placed P i a e in exits_once is.function is.index a.node is.node)
+    edges_once_among (point_list P) (points_once P valid.distinct)
+    (λ i a e. let is = point_placed P i a e in ways_differ P valid is.place is.function is.there is.index a.node is.node)

@@ -13,7 +13,10 @@ use crate::cells::{CellName, Content, Root, drop_frame, set_content};
 use crate::eval::{eval, eval_into};
 use crate::stop::Stop;
 use crate::store::{Store, fetch_temporary, locate_object};
-use csub_semantics::{Answer, CType, CallLabel, EndRule, ExitLabel, IntKind, Label, Member, Owner, RArg, RInit, Status, Text, Trap};
+use csub_semantics::{
+    Answer, CType, CallLabel, EndRule, ExitLabel, IntKind, Label, Member, Owner, RArg, RInit,
+    Status, Text, Trap,
+};
 use csub_types::kind::convert;
 use std::alloc::{AllocError, Global};
 use std::collections::BTreeMap;

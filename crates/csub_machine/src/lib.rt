@@ -1,6 +1,6 @@
 //! Runs of valid programs, turn by turn.
 //!
-//! A [`Machine`] runs a program on an input as the definitions of `csub_core` say (`specs/Memory`, `Evaluation`,
+//! A [`Machine`] runs a program on an input as the definitions of `csub_semantics` say (`specs/Memory`, `Evaluation`,
 //! `Cells`, `Acts` and `Runs` there). What is promised stands in the contracts of its calls:
 //!
 //! - [`Machine::run`]: the status that it answers, and the output, the turns and the crossed edges that the machine

@@ -1,2 +1,4 @@
-pub mod StmtRows
-pub mod Threads
+pub mod LawsLabels
+pub mod LawsLists
+pub mod LawsRows
+pub mod LawsThreads

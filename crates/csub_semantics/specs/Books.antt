@@ -1,8 +1,8 @@
 -- Walking two programs together: books of facts, reached pairs and dangerous edges (Rothermel and Harrold, ACM TOSEM
 -- 6(2), 1997), and claims that are closed.
-use Rattle.std.specs.Prelude.{ℕ, ◌≡◌, ◌⊎◌, List, Some, slice_get, take}
+use Rattle.std.specs.Prelude.{ℕ, ◌≡◌, ◌⊎◌, List, Some, None, slice_get, take}
 use Rattle.csub_semantics.specs.Types.{Name}
-use Rattle.csub_semantics.specs.Labels.{CallTree, calls, PointLabel}
+use Rattle.csub_semantics.specs.Labels.{CallTree, call_of, PointLabel}
 use Rattle.csub_semantics.specs.Points.{PointTree, entry, exit, ExitTree, next}
 use Rattle.csub_semantics.specs.Flows.{Flow, Edge, start_name}
 
@@ -32,14 +32,14 @@ pub record CallsAt (P : Flow) (f : Name) (p : PointTree) (g : Name) : Type 0 whe
   pub label : PointLabel
   pub labelled : P.label f p ≡ Some label
   pub call : CallTree
-  pub is : label.tree ≡ calls call
+  pub is : call_of label.tree ≡ Some call
   pub callee : call.callee ≡ g
 
 -- the point is there and calls nothing
 pub record IsNoCallAt (P : Flow) (f : Name) (p : PointTree) : Type 0 where
   pub label : PointLabel
   pub labelled : P.label f p ≡ Some label
-  pub none : (call : CallTree) → label.tree ≡ calls call → ⊥
+  pub none : call_of label.tree ≡ None
 
 -- the reason of a fact, by the places of earlier facts
 pub data Reason : Type 0 where
@@ -96,7 +96,8 @@ pub record Closed (P P' : Flow) (C : Name → PointTree → PointTree → Type 0
   pub same : (f : Name) (p p' : PointTree) → C f p p' → SameLabel P P' f p p'
   pub steps : (f : Name) (p p' q : PointTree) (x : ExitTree) → C f p p' → IsNoCallAt P f p → P.succ f p x ≡ Some q → E f p x ⊎ GoesOn P' C f p' x q
   pub enters : (f : Name) (p p' : PointTree) (g : Name) → C f p p' → CallsAt P f p g → C g entry entry
-  pub over : (f : Name) (p p' q : PointTree) (g : Name) → C f p p' → CallsAt P f p g → C g exit exit → P.succ f p next ≡ Some q → E f p next ⊎ GoesOn P' C f p' next q
+  pub over : (f : Name) (p p' q : PointTree) (g : Name) → C f p p' → CallsAt P f p g → C g exit exit
+      → P.succ f p next ≡ Some q → E f p next ⊎ GoesOn P' C f p' next q
 
 -- the new edge is an image of the old one: the same way out of a point that is claimed with the old one
 pub record IsImage (C : Name → PointTree → PointTree → Type 0) (old new : Edge) : Type 0 where

@@ -10,7 +10,8 @@ use Rattle.csub_types.specs.declared.kind.IntKind.{IntKind}
 use Rattle.csub_types.specs.Kinds.{convert, promote}
 use Rattle.csub_types.specs.Arithmetic.{unary, binary}
 use Rattle.csub_types.specs.Settled.{truth}
-use Rattle.csub_semantics.specs.Trees.{PlaceTree, variable, ExprTree, constant, reading, unary_operation, conversion, stepping, operation, conjunction, disjunction, choice, assignment, update, input_byte, output_byte}
+use Rattle.csub_semantics.specs.Trees.{PlaceTree, variable, ExprTree, constant, reading, unary_operation, conversion, stepping, operation}
+use Rattle.csub_semantics.specs.Trees.{conjunction, disjunction, choice, assignment, update, input_byte, output_byte}
 use Rattle.csub_semantics.specs.Memory.{State, Answer, value, then_do, given, found, Memory, get_byte, put_byte, low_byte}
 
 -- a right operand in its kind; the count of a shift stays as it is (C11 6.5.7)

@@ -1,5 +1,5 @@
 -- Labels: what is done at a point. Two statements count as the same exactly where their labels are equal.
-use Rattle.std.specs.Prelude.{ℕ, ℤ, List, map, Option}
+use Rattle.std.specs.Prelude.{ℕ, ℤ, List, map, Option, Some, None}
 use Rattle.std.specs.Option.{option_map}
 use Rattle.csub_types.specs.declared.kind.IntKind.{IntKind}
 use Rattle.csub_semantics.specs.Types.{Name, TypeTree, type_tree, MemberTree, member_tree}
@@ -38,6 +38,11 @@ pub data LabelTree : Type 0 where
   branches : NamedExpr → LabelTree
   returns : Option AnswerTree → LabelTree
   calls : CallTree → LabelTree
+
+-- the call that a label makes
+abbrev pub call_of : LabelTree → Option CallTree
+call_of (calls c) = Some c
+call_of label = None
 
 -- a global that a tree names, with the initial contents of its cells
 pub record Initial : Type 0 where

@@ -5,7 +5,7 @@ use Rattle.std.specs.Ordering.{int_eq}
 use Rattle.csub_semantics.specs.declared.status.Status.{Status}
 use Rattle.csub_semantics.specs.declared.status.Status.TheVariants.{Turns}
 use Rattle.csub_semantics.specs.Types.{Name}
-use Rattle.csub_semantics.specs.Labels.{LabelTree, enters, exits, evaluates, initialises, branches, returns, calls, PointLabel}
+use Rattle.csub_semantics.specs.Labels.{CallTree, call_of, PointLabel}
 use Rattle.csub_semantics.specs.Points.{PointTree, entry, ExitTree, next, on_case, on_default}
 use Rattle.csub_semantics.specs.Flows.{Flow, Edge, start_name}
 use Rattle.csub_semantics.specs.Cells.{Cells, Inner, Root, global_root, local_root, temp_root, Content, number, written}
@@ -49,18 +49,13 @@ put_result h (Some k) None s = s
 put_result h (Some k) (Some v) s = record s { cells = written s.cells (record { root = temp_root h k; path = [] }) (number v) }
 
 -- a result comes back to a frame that stands at a call: its Next edge is crossed as the callee's exit is executed
-abbrev pub come_back_to : Frame → List Frame → Option ℤ → Store → LabelTree → Option PointTree → Turn
-come_back_to f below r s (calls c) to = cross f below next f.result (put_result (length below) c.temp r s) to
-come_back_to f below r s enters to = lost
-come_back_to f below r s (exits rule) to = lost
-come_back_to f below r s (evaluates e) to = lost
-come_back_to f below r s (initialises owner t init) to = lost
-come_back_to f below r s (branches e) to = lost
-come_back_to f below r s (returns answer) to = lost
+abbrev pub come_back_to : Frame → List Frame → Option ℤ → Store → Option CallTree → Option PointTree → Turn
+come_back_to f below r s None to = lost
+come_back_to f below r s (Some c) to = cross f below next f.result (put_result (length below) c.temp r s) to
 
 abbrev pub come_back : Frame → List Frame → Option ℤ → Store → Option PointLabel → Option PointTree → Turn
 come_back f below r s None to = lost
-come_back f below r s (Some l) to = come_back_to f below r s l.tree to
+come_back f below r s (Some l) to = come_back_to f below r s (call_of l.tree) to
 
 abbrev pub pop : Flow → List Frame → Option ℤ → Store → Turn
 pop P [] r s = lost

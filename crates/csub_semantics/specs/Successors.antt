@@ -4,7 +4,8 @@ use Rattle.std.specs.Prelude.{ℕ, ◌+◌, List, [], ◌∷◌, ◌++◌, lengt
 use Rattle.csub_text.specs.declared.span.Span.{Span}
 use Rattle.csub_semantics.specs.Labels.{LabelTree, returns}
 use Rattle.csub_semantics.specs.Points.{ExitTree, next, on_true, on_false}
-use Rattle.csub_semantics.specs.Syntax.{PartTree, StmtTree, StmtTrees, ElseTree, parts, block, conditional, while_loop, do_loop, for_loop, breaks, continues, no_stmt, more_stmts, no_else, else_stmt}
+use Rattle.csub_semantics.specs.Syntax.{PartTree, StmtTree, StmtTrees, ElseTree, parts, block, conditional, while_loop, do_loop, for_loop, breaks}
+use Rattle.csub_semantics.specs.Syntax.{continues, no_stmt, more_stmts, no_else, else_stmt}
 
 -- a way out with the point to which it leads
 pub record Way (X : Type 0) : Type 0 where

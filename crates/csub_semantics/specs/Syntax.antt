@@ -7,7 +7,8 @@ use Rattle.csub_semantics.specs.Types.{Name, TypeTree, type_tree, MemberTree, me
 use Rattle.csub_semantics.specs.Labels.{LabelTree, calls, label_tree, call_tree}
 use Rattle.csub_semantics.specs.declared.function.RCall.{RCall}
 use Rattle.csub_semantics.specs.declared.function.RPart.{RPart}
-use Rattle.csub_semantics.specs.declared.function.RStmt.{RStmt, Parts, Block', If', While', Do', For', Break, Continue, Row_of-RStmt, end_of-RStmt, more_of-RStmt, Held-RStmt-If-2, None', Some'}
+use Rattle.csub_semantics.specs.declared.function.RStmt.{RStmt, Parts, Block', If', While', Do', For', Break, Continue, Row_of-RStmt, end_of-RStmt}
+use Rattle.csub_semantics.specs.declared.function.RStmt.{more_of-RStmt, Held-RStmt-If-2, None', Some'}
 use Rattle.csub_semantics.specs.declared.function.LocalVar.{LocalVar}
 use Rattle.csub_semantics.specs.declared.function.Function.{Function}
 

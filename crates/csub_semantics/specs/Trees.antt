@@ -13,7 +13,8 @@ use Rattle.csub_semantics.specs.declared.expression.Place.{Place}
 use Rattle.csub_semantics.specs.declared.expression.Place.TheVariants.{Var}
 use Rattle.csub_semantics.specs.declared.expression.RArg.{RArg}
 use Rattle.csub_semantics.specs.declared.expression.RArg.TheVariants.{Value}
-use Rattle.csub_semantics.specs.declared.expression.RExpr.{RExpr, Const, Read, Temp, Unary', Cast', Step, Binary', And', Or', Choose', Assign', Update', Getchar, Putchar'}
+use Rattle.csub_semantics.specs.declared.expression.RExpr.{RExpr, Const, Read, Temp, Unary', Cast', Step, Binary', And', Or', Choose', Assign'}
+use Rattle.csub_semantics.specs.declared.expression.RExpr.{Update', Getchar, Putchar'}
 
 -- a place that holds a number (an lvalue, C11 6.3.2.1)
 pub data PlaceTree (V I M : Type 0) : Type 0 where

@@ -6,7 +6,9 @@
 //! turns and runs (`Runs`); numbers of functions, points and edges (`Numbers`); the walk of two programs together
 //! (`Books`). Which programs are valid stands in `csub_core`.
 //!
-//! What is promised of the code: the copies of [`copy`] are equal to what they copy.
+//! What is promised of the code: the copies of [`copy`] are equal to what they copy. Laws for proofs above stand in
+//! `proofs/`: `LawsLabels` (labels that call), `LawsLists` and `LawsRows` (what the elements of lists stand for), and
+//! `LawsThreads` (functions may cross threads).
 #![tactic(auto)]
 
 pub mod copy;

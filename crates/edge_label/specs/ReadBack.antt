@@ -1,5 +1,6 @@
 -- A label can be read back from its code, whatever follows the code. This is a proof, and nothing in it has to be believed.
-use Rattle.std.proofs.Common.{◌≡◌, ℕ, zero, suc, ℤ, pos, negsuc, List, [], ◌∷◌, ◌++◌, length, take, drop, Option, Some, None, refl, sym, ap, ap₂, ◌∙◌, append_assoc, append-nil, subst}
+use Rattle.std.proofs.Common.{◌≡◌, ℕ, zero, suc, ℤ, pos, negsuc, List, [], ◌∷◌, ◌++◌, length, take, drop, Option, Some, None, refl, sym, ap, ap₂, ◌∙◌}
+use Rattle.std.proofs.Common.{append_assoc, append-nil, subst}
 use Rattle.std.specs.List.{flat_map}
 use Rattle.csub_text.specs.declared.operator.UnaryOp.{UnaryOp}
 use Rattle.csub_text.specs.declared.operator.UnaryOp.TheVariants.{Plus, Minus, Not, Flip}
@@ -12,18 +13,27 @@ use Rattle.csub_types.specs.declared.kind.IntKind.TheVariants.{Char, Int, Unsign
 use Rattle.csub_semantics.specs.declared.label.EndRule.{EndRule}
 use Rattle.csub_semantics.specs.declared.label.EndRule.TheVariants as rule
 use Rattle.csub_semantics.specs.Types.{Name, TypeTree, number_type, MemberTree}
-use Rattle.csub_semantics.specs.Trees.{variable, constant, reading, unary_operation, conversion, stepping, operation, conjunction, disjunction, choice, assignment, update, input_byte, output_byte, value_argument, OwnerTree, global_owner, local_owner, Variable, object, temporary, NamedPlace, NamedExpr, NamedArg}
-use Rattle.csub_semantics.specs.Labels.{AnswerTree, CallTree, InitTree, one_value, LabelTree, enters, exits, evaluates, initialises, branches, returns, calls, Initial, PointLabel}
-use Rattle.edge_label.specs.Codes.{number_code, integer_code, name_code, list_code, option_code, kind_number, kind_code, unary_number, step_number, operator_number, rule_number, type_code, member_code, owner_code, variable_code, place_code, expr_code, arg_code, answer_code, call_code, init_code, label_code, initial_code, point_code}
-use Rattle.edge_label.specs.Readers.{Reader, then, read_number, read_integer, read_name, read_times, read_list, read_option, read_kind, read_unary, read_step, read_operator, read_rule, read_type, read_member, read_owner, read_variable, read_place, read_levels, read_expr, read_arg, read_answer, read_call, read_init, read_tree, read_initial, read_label, label_of}
+use Rattle.csub_semantics.specs.Trees.{variable, constant, reading, unary_operation, conversion, stepping, operation, conjunction, disjunction}
+use Rattle.csub_semantics.specs.Trees.{choice, assignment, update, input_byte, output_byte, value_argument, OwnerTree, global_owner, local_owner}
+use Rattle.csub_semantics.specs.Trees.{Variable, object, temporary, NamedPlace, NamedExpr, NamedArg}
+use Rattle.csub_semantics.specs.Labels.{AnswerTree, CallTree, InitTree, one_value, LabelTree, enters, exits, evaluates, initialises, branches}
+use Rattle.csub_semantics.specs.Labels.{returns, calls, Initial, PointLabel}
+use Rattle.edge_label.specs.Codes.{number_code, integer_code, name_code, list_code, option_code, kind_number, kind_code, unary_number, step_number}
+use Rattle.edge_label.specs.Codes.{operator_number, rule_number, type_code, member_code, owner_code, variable_code, place_code, expr_code, arg_code}
+use Rattle.edge_label.specs.Codes.{answer_code, call_code, init_code, label_code, initial_code, point_code}
+use Rattle.edge_label.specs.Readers.{Reader, then, read_number, read_integer, read_name, read_times, read_list, read_option, read_kind, read_unary}
+use Rattle.edge_label.specs.Readers.{read_step, read_operator, read_rule, read_type, read_member, read_owner, read_variable, read_place, read_levels}
+use Rattle.edge_label.specs.Readers.{read_expr, read_arg, read_answer, read_call, read_init, read_tree, read_initial, read_label, label_of}
 
 -- what a reader and the one behind it give
-then_back : {A B : Type 0} (read : Reader A) (next : A → Reader B) {codes rest : List ℕ} {x : A} {given : B × List ℕ} → read codes ≡ (x, rest) → next x rest ≡ given → then read next codes ≡ given
+then_back : {A B : Type 0} (read : Reader A) (next : A → Reader B) {codes rest : List ℕ} {x : A} {given : B × List ℕ}
+    → read codes ≡ (x, rest) → next x rest ≡ given → then read next codes ≡ given
 unfolding then
 then_back read next first second = ap (λ r. next r.0 r.1) first ∙ second
 
 -- the same where the codes of the two stand one behind the other
-then_append : {A B : Type 0} (read : Reader A) (next : A → Reader B) (a b s : List ℕ) {x : A} {given : B × List ℕ} → ((t : List ℕ) → read (a ++ t) ≡ (x, t)) → next x (b ++ s) ≡ given
+then_append : {A B : Type 0} (read : Reader A) (next : A → Reader B) (a b s : List ℕ) {x : A} {given : B × List ℕ}
+    → ((t : List ℕ) → read (a ++ t) ≡ (x, t)) → next x (b ++ s) ≡ given
     → then read next ((a ++ b) ++ s) ≡ given
 then_append read next a b s first second = ap (then read next) (append_assoc a b s) ∙ then_back read next (first (b ++ s)) second
 
@@ -148,12 +158,16 @@ levels_before [] codes e h = h
 levels_before (x ∷ before) codes e h = levels_more _ e (levels_before before codes e h)
 
 -- the same of two codes behind others, for the first and for the second
-levels_first : (before code s : List ℕ) (e : NamedExpr) → HasLevels (length (expr_code e ++ (code ++ s))) e → HasLevels (length (before ++ ((expr_code e ++ code) ++ s))) e
-levels_first before code s e h = subst (λ codes. HasLevels (length (before ++ codes)) e) (sym (append_assoc (expr_code e) code s)) (levels_before before (expr_code e ++ (code ++ s)) e h)
+levels_first : (before code s : List ℕ) (e : NamedExpr) → HasLevels (length (expr_code e ++ (code ++ s))) e
+    → HasLevels (length (before ++ ((expr_code e ++ code) ++ s))) e
+levels_first before code s e h =
+    subst (λ codes. HasLevels (length (before ++ codes)) e) (sym (append_assoc (expr_code e) code s))
+    (levels_before before (expr_code e ++ (code ++ s)) e h)
 
 levels_second : (before first code s : List ℕ) (e : NamedExpr) → HasLevels (length (code ++ s)) e → HasLevels (length (before ++ ((first ++ code) ++ s))) e
 levels_second before first code s e h =
-    subst (λ codes. HasLevels (length (before ++ codes)) e) (sym (append_assoc first code s)) (levels_before before (first ++ (code ++ s)) e (levels_before first (code ++ s) e h))
+    subst (λ codes. HasLevels (length (before ++ codes)) e) (sym (append_assoc first code s))
+    (levels_before before (first ++ (code ++ s)) e (levels_before first (code ++ s) e h))
 
 -- no expression has more levels than its code has numbers
 levels_of : (e : NamedExpr) (s : List ℕ) → HasLevels (length (expr_code e ++ s)) e
@@ -165,8 +179,14 @@ levels_of (conversion kind a) s = levels_before (kind_number kind ∷ []) (expr_
 levels_of (operation op kind a b) s =
     let before = operator_number op ∷ kind_number kind ∷ [] in
     (levels_first before (expr_code b) s a (levels_of a (expr_code b ++ s)), levels_second before (expr_code a) (expr_code b) s b (levels_of b s))
-levels_of (conjunction a b) s = (levels_first [] (expr_code b) s a (levels_of a (expr_code b ++ s)), levels_second [] (expr_code a) (expr_code b) s b (levels_of b s))
-levels_of (disjunction a b) s = (levels_first [] (expr_code b) s a (levels_of a (expr_code b ++ s)), levels_second [] (expr_code a) (expr_code b) s b (levels_of b s))
+levels_of (conjunction a b) s = (
+  levels_first [] (expr_code b) s a (levels_of a (expr_code b ++ s)),
+  levels_second [] (expr_code a) (expr_code b) s b (levels_of b s),
+)
+levels_of (disjunction a b) s = (
+  levels_first [] (expr_code b) s a (levels_of a (expr_code b ++ s)),
+  levels_second [] (expr_code a) (expr_code b) s b (levels_of b s),
+)
 levels_of (choice kind c a b) s =
     let before = kind_number kind ∷ [] in
     let both = expr_code a ++ expr_code b in (
@@ -185,13 +205,16 @@ levels_back : (e : NamedExpr) (n : ℕ) (s : List ℕ) → HasLevels n e → rea
 unfolding HasLevels
 levels_back (constant kind value) (suc n) s h = then_back _ _ (kind_back kind _) (then_back _ _ (integer_back value s) refl)
 levels_back (reading place) (suc n) s h = then_back _ _ (place_back place s) refl
-levels_back (unary_operation op kind a) (suc n) s h = then_back _ _ (unary_back op _) (then_back _ _ (kind_back kind _) (then_back _ _ (levels_back a n s h) refl))
+levels_back (unary_operation op kind a) (suc n) s h =
+    then_back _ _ (unary_back op _) (then_back _ _ (kind_back kind _) (then_back _ _ (levels_back a n s h) refl))
 levels_back (conversion kind a) (suc n) s h = then_back _ _ (kind_back kind _) (then_back _ _ (levels_back a n s h) refl)
 levels_back (operation op kind a b) (suc n) s h =
     then_back _ _ (operator_back op _) (then_back _ _ (kind_back kind _)
     (then_append _ _ (expr_code a) (expr_code b) s (λ t. levels_back a n t h.0) (then_back _ _ (levels_back b n s h.1) refl)))
-levels_back (conjunction a b) (suc n) s h = then_append _ _ (expr_code a) (expr_code b) s (λ t. levels_back a n t h.0) (then_back _ _ (levels_back b n s h.1) refl)
-levels_back (disjunction a b) (suc n) s h = then_append _ _ (expr_code a) (expr_code b) s (λ t. levels_back a n t h.0) (then_back _ _ (levels_back b n s h.1) refl)
+levels_back (conjunction a b) (suc n) s h =
+    then_append _ _ (expr_code a) (expr_code b) s (λ t. levels_back a n t h.0) (then_back _ _ (levels_back b n s h.1) refl)
+levels_back (disjunction a b) (suc n) s h =
+    then_append _ _ (expr_code a) (expr_code b) s (λ t. levels_back a n t h.0) (then_back _ _ (levels_back b n s h.1) refl)
 levels_back (choice kind c a b) (suc n) s h =
     then_back _ _ (kind_back kind _)
     (then_append _ _ (expr_code c) (expr_code a ++ expr_code b) s (λ t. levels_back c n t h.0)
@@ -243,7 +266,8 @@ tree_back (initialises owner ctype init) s =
 
 initial_back : (initial : Initial) (s : List ℕ) → read_initial (initial_code initial ++ s) ≡ (initial, s)
 initial_back initial s =
-    then_append _ _ (name_code initial.name) _ s (name_back initial.name) (then_back _ _ (list_back integer_code read_integer integer_back initial.contents s) refl)
+    then_append _ _ (name_code initial.name) _ s (name_back initial.name)
+    (then_back _ _ (list_back integer_code read_integer integer_back initial.contents s) refl)
 
 label_back : (label : PointLabel) (s : List ℕ) → read_label (point_code label ++ s) ≡ (label, s)
 label_back label s =

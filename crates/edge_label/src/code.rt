@@ -6,7 +6,10 @@ ghost use Rattle.csub_semantics.specs.Labels.{answer_tree, call_tree, init_tree,
 ghost use Rattle.edge_label.specs.Codes.{integer_code, name_code, list_code, option_code, number_code, kind_code, kind_number, unary_number, step_number, operator_number, rule_number, type_code, member_code, owner_code, place_code, expr_code, arg_code, answer_code, call_code, init_code, label_code, point_code};
 ghost use Rattle.edge_label.specs.Numbers.{bare};
 
-use csub_semantics::{Answer, BinOp, CType, CallLabel, EndRule, IntKind, Label, Member, Owner, Place, RArg, RExpr, RInit, StepOp, UnaryOp};
+use csub_semantics::{
+    Answer, BinOp, CType, CallLabel, EndRule, IntKind, Label, Member, Owner, Place, RArg, RExpr,
+    RInit, StepOp, UnaryOp,
+};
 use std::alloc::AllocError;
 
 /// Appends the code of a label whose tree names no global. An `Err` is want of memory.

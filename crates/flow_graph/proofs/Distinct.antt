@@ -8,7 +8,7 @@ use Rattle.csub_semantics.specs.Successors as points
 use Rattle.csub_semantics.specs.Successors.{Way, Node, Around}
 use Rattle.csub_semantics.specs.Flows.{function_nodes, to_exit}
 use Rattle.flow_graph.specs.Numbers.{count, count_list, count_else, count_parts, count_head, count_function}
-use Rattle.flow_graph.proofs.Lists.{range-plus}
+use Rattle.flow_graph.proofs.LawsLists.{range-plus}
 
 -- how many points of a statement stand before stage k of part i of the statement at a path
 abbrev pub place_parts : List PartTree → ℕ → ℕ → ℕ

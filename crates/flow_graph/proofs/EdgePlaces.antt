@@ -8,7 +8,7 @@ use Rattle.std.proofs.lemmas.Option.{slice_get_within, same_Some}
 use Rattle.csub_semantics.specs.Flows.{PlacedNode, Edge, edges_from}
 use Rattle.flow_graph.specs.declared.node.GraphPoint.{GraphPoint}
 use Rattle.flow_graph.specs.Graph.{way_count, firsts_of, sources_of}
-use Rattle.flow_graph.proofs.Lists.{slice_get-left, slice_get-right, slice_get_cases_append, rest_of, head_or}
+use Rattle.flow_graph.proofs.LawsLists.{slice_get-left, slice_get-right, slice_get_cases_append, rest_of, head_or}
 
 pub firsts-length : (ps : List GraphPoint) (e : ℕ) → length (firsts_of ps e) ≡ length ps
 firsts-length [] e = refl

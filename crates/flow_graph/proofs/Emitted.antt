@@ -5,7 +5,7 @@ use Rattle.std.proofs.lemmas.List.{reverse-append}
 use Rattle.csub_text.specs.declared.span.Span.{Span}
 use Rattle.csub_semantics.specs.declared.function.RPart.{RPart}
 use Rattle.csub_semantics.specs.declared.function.RCall.{RCall}
-use Rattle.csub_semantics.specs.Labels.{LabelTree, enters, exits, evaluates, initialises, branches, returns, calls, label_tree}
+use Rattle.csub_semantics.specs.Labels.{LabelTree, returns, label_tree}
 use Rattle.csub_semantics.specs.Points.{at, next}
 use Rattle.csub_semantics.specs.Syntax.{Stage, PartTree, StmtTree, for_loop, part_tree, call_stage, own_stage}
 use Rattle.csub_semantics.specs.Successors.{Way, Around, way, looping, own_ways, last_ways}
@@ -50,13 +50,8 @@ last_call c [] past returned = refl
 last_call c (d ∷ cs) past returned = last_call d cs past returned
 
 own_way : (label : LabelTree) (past returned : ℕ) → own_ways label past returned ≡ way next (past_label (Some label) past returned) ∷ []
-own_way enters past returned = refl
-own_way (exits r) past returned = refl
-own_way (evaluates e) past returned = refl
-own_way (initialises o t i) past returned = refl
-own_way (branches e) past returned = refl
 own_way (returns a) past returned = refl
-own_way (calls c) past returned = refl
+own_way _ past returned = refl
 
 nothing_after : (cs : List RCall) → map call_stage cs ++ [] ≡ map call_stage cs
 nothing_after [] = refl

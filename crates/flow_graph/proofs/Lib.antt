@@ -1,12 +1,11 @@
-pub mod Rows
-pub mod Emitted
-pub mod Lengths
-pub mod Listed
-pub mod Numbering
-pub mod Lists
-pub mod Distinct
-pub mod Whole
-pub mod Found
-pub mod Exits
-pub mod EdgePlaces
-pub mod Looked
+pub mod LawsLists
+pub mod LawsPlaces
+mod Rows
+mod Emitted
+mod Lengths
+mod Listed
+mod Numbering
+mod Distinct
+mod Whole
+mod EdgePlaces
+mod Looked

@@ -18,9 +18,10 @@ use Rattle.flow_graph.specs.declared.node.GraphWay.{GraphWay}
 use Rattle.flow_graph.specs.declared.node.GraphPoint.{GraphPoint}
 use Rattle.flow_graph.specs.declared.node.GraphFunction.{GraphFunction}
 use Rattle.flow_graph.specs.Graph.{Tables, NamedPoint, NamedFunction, way_at, point_at, function_at, way_of, point_of, function_of, way_count, edge_count, point_count, function_count, IsGraphOf, firsts_of, sources_of}
-use Rattle.flow_graph.proofs.Lists.{find-map, Made, made_of}
-use Rattle.flow_graph.proofs.Found.{found, point_placed}
-use Rattle.flow_graph.proofs.Exits.{exit_same, AllFound-at, function_ways_found}
+use Rattle.flow_graph.proofs.LawsLists.{find-map, Made, made_of}
+use Rattle.flow_graph.proofs.LawsPlaces.{found, point_placed}
+use Rattle.program_laws.proofs.LawsNames.{same_exit}
+use Rattle.program_laws.proofs.LawsWays.{found_by_exit, ways_differ}
 use Rattle.flow_graph.proofs.EdgePlaces.{edge_place, firsts-length, sources-length, source}
 
 -- an element that was read
@@ -187,7 +188,7 @@ module _ (P : ProgramTree) (t : Tables) (g : IsGraphOf t P) where
       let mine : Edge = record { function = node.function; from = node.node.point; exit = v.exit } in
       let same = same_Some mine e (sym is.edge ∙ edge) in
       let placed = point_placed P n node is.is_node in
-      let first_found = AllFound-at (flows.function_nodes placed.function) placed.index node.node (function_ways_found placed.function) placed.node i v is.is_way in
+      let first_found = found_by_exit node.node.ways (ways_differ P g.valid placed.place placed.function placed.there placed.index node.node placed.node) i v is.is_way in
       record {
         from = ap (option_map site_of) is.is_node ∙ ap (λ (x : Edge). Some (site x.function x.from)) same;
         exit = sym (ap (λ (x : Way (Option Site)). x.exit) is.same_way) ∙ ap (λ (x : Edge). x.exit) same;
@@ -211,7 +212,7 @@ module _ (P : ProgramTree) (t : Tables) (g : IsGraphOf t P) where
       let is = edge_is n i first k p w a f h at_k in
       let node = is.node in
       let v = is.taken in
-      let exits : v.exit ≡ x = ap (λ (y : Way (Option Site)). y.exit) is.same_way ∙ exit_same (exit_tree w.exit) x (passes (λ (u : GraphWay). exit_eq (exit_tree u.exit) x) p.node.ways.items w (sym is_first ∙ h)) in
+      let exits : v.exit ≡ x = ap (λ (y : Way (Option Site)). y.exit) is.same_way ∙ same_exit (exit_tree w.exit) x (passes (λ (u : GraphWay). exit_eq (exit_tree u.exit) x) p.node.ways.items w (sym is_first ∙ h)) in
       let there = made_of (way_of node.function) (find (λ u. exit_eq u.exit x) node.node.ways) (way_at P w) (sym (ways_same p node x (sym is.same)) ∙ ap (option_map (way_at P)) (sym is_first ∙ h)) in
       let succ = succ_is n node x is.is_node ∙ ap (option_map (λ (u : Way PointTree). u.to)) there.is in
       let same = same_Some (site_of node) s (sym (ap (option_map site_of) is.is_node) ∙ is_site) in

@@ -3,7 +3,7 @@
 use Rattle.std.proofs.Common.{◌≡◌, List, [], ◌∷◌, ◌++◌, ◌∙◌, arith, map, refl, ap, sym, subst, ℕ, ◌+◌, length, Option, Some, append_assoc, append-nil}
 use Rattle.std.proofs.lemmas.List.{map-append}
 use Rattle.csub_semantics.specs.Types.{Name}
-use Rattle.csub_semantics.specs.Labels.{LabelTree, enters, exits, evaluates, initialises, branches, returns, calls}
+use Rattle.csub_semantics.specs.Labels.{LabelTree, enters, exits, returns}
 use Rattle.csub_semantics.specs.Points.{PointTree, entry, exit, at, next, on_true, on_false}
 use Rattle.csub_semantics.specs.Syntax.{Stage, PartTree, StmtTree, StmtTrees, ElseTree, parts, block, conditional, while_loop, do_loop, for_loop, breaks, continues, no_stmt, more_stmts, no_else, else_stmt, FunctionTree}
 use Rattle.csub_semantics.specs.Successors as points
@@ -71,13 +71,8 @@ module _ (at_number : ℕ → Option Site) (f : Name) where
   enter_part_same (s ∷ rest) i first past past' name ways' e h = part_head s rest 0 first (λ k. name [] i k) ways' h
 
   own_same : (label : LabelTree) (past returned : ℕ) (past' returned' : PointTree) → at_number past ≡ Some (site f past') → at_number returned ≡ Some (site f returned') → map way_named (own_ways label past returned) ≡ map (way_of f) (own_ways label past' returned')
-  own_same enters past returned past' returned' e g = ap (λ x. way next x ∷ []) e
-  own_same (exits r) past returned past' returned' e g = ap (λ x. way next x ∷ []) e
-  own_same (evaluates t) past returned past' returned' e g = ap (λ x. way next x ∷ []) e
-  own_same (initialises o t i) past returned past' returned' e g = ap (λ x. way next x ∷ []) e
-  own_same (branches t) past returned past' returned' e g = ap (λ x. way next x ∷ []) e
   own_same (returns a) past returned past' returned' e g = ap (λ x. way next x ∷ []) g
-  own_same (calls c) past returned past' returned' e g = ap (λ x. way next x ∷ []) e
+  own_same _ past returned past' returned' e g = ap (λ x. way next x ∷ []) e
 
   pub last_same : (p : PartTree) (past returned : ℕ) (past' returned' : PointTree) → at_number past ≡ Some (site f past') → at_number returned ≡ Some (site f returned') → map way_named (last_ways p past returned) ≡ map (way_of f) (last_ways p past' returned')
   last_same [] past returned past' returned' e g = refl

@@ -1,14 +1,10 @@
 -- What a vector of statements, parts or calls stands for from a place on.
 use Rattle.std.proofs.Common.{◌≡◌, List, [], ◌∷◌, ◌∙◌, zero, suc, arith, map, refl, ap, sym, ℕ, ◌+◌, ◌-◌, ◌<◌, ◌≤◌, length, get_or, drop, add-one, add-zero, drop-cons}
 use Rattle.std.proofs.Math.ListN.{drop_of_length-le}
-use Rattle.csub_semantics.specs.declared.function.RStmt.{RStmt, Row_of-RStmt, end_of-RStmt, more_of-RStmt, items-the_row-RStmt}
+use Rattle.csub_semantics.specs.declared.function.RStmt.{RStmt}
 use Rattle.csub_semantics.specs.declared.function.RPart.{RPart}
-use Rattle.csub_semantics.specs.Syntax.{PartTree, StmtTrees, more_stmts, no_stmt, stmt_tree, row_trees, stmts_of, part_tree}
+use Rattle.csub_semantics.specs.Syntax.{PartTree, StmtTrees, more_stmts, no_stmt, stmt_tree, stmts_of, part_tree}
 use Rattle.flow_graph.specs.Numbers.{count, count_parts, count_list, enter_parts}
-
-pub row_trees-list : {m : _} (row : Row_of-RStmt m) → row_trees row ≡ stmts_of (map stmt_tree (items-the_row-RStmt m row))
-row_trees-list end_of-RStmt = refl
-row_trees-list (more_of-RStmt e rest) = ap (λ t. more_stmts (stmt_tree e) t) (row_trees-list rest)
 
 -- the lines from a place on
 abbrev pub lines_from : List RStmt → ℕ → StmtTrees

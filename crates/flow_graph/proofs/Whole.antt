@@ -22,7 +22,7 @@ use Rattle.flow_graph.specs.Numbers.{Numbered, NumberedPoint, NumberedFunction, 
 use Rattle.flow_graph.specs.Graph.{NamedNode, NamedPoint, NamedFunction, way_at, point_at, function_at, way_of, node_of, point_of, function_of, way_count, IsGraphOf, IsClosed}
 use Rattle.flow_graph.proofs.Lengths.{function_nodes-length}
 use Rattle.flow_graph.proofs.Numbering.{way_named, node_named, Held, function_same}
-use Rattle.flow_graph.proofs.Lists.{slice_get-left, slice_get-right}
+use Rattle.flow_graph.proofs.LawsLists.{slice_get-left, slice_get-right}
 
 pub held_from : (at_number : ℕ → Option Site) (f : Name) (ns : List (Node PointTree)) (first : ℕ) → ((k : ℕ) (n : Node PointTree) → slice_get ns k ≡ Some n → at_number (first + k) ≡ Some (site f n.point)) → Held at_number f first ns
 held_from at_number f [] first h = tt

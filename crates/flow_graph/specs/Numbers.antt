@@ -5,7 +5,8 @@ use Rattle.csub_text.specs.declared.span.Span.{Span}
 use Rattle.csub_semantics.specs.Types.{Name}
 use Rattle.csub_semantics.specs.Labels.{LabelTree, enters, exits, label_tree, returns}
 use Rattle.csub_semantics.specs.Points.{PointTree, entry, exit, at, point_tree, exit_tree, next}
-use Rattle.csub_semantics.specs.Syntax.{PartTree, StmtTree, StmtTrees, ElseTree, parts, block, conditional, while_loop, do_loop, for_loop, breaks, continues, no_stmt, more_stmts, no_else, else_stmt, FunctionTree, ProgramTree}
+use Rattle.csub_semantics.specs.Syntax.{PartTree, StmtTree, StmtTrees, ElseTree, parts, block, conditional, while_loop, do_loop, for_loop, breaks}
+use Rattle.csub_semantics.specs.Syntax.{continues, no_stmt, more_stmts, no_else, else_stmt, FunctionTree, ProgramTree}
 use Rattle.csub_semantics.specs.Successors.{Way, Around, way, leaving, looping, last_ways, test_ways}
 use Rattle.csub_semantics.specs.Flows.{end_rule}
 use Rattle.flow_graph.specs.declared.node.GraphWay.{GraphWay}

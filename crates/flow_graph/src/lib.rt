@@ -1,9 +1,11 @@
 //! The numbered control-flow graph of a program.
 //!
 //! `Graph::build` gives the graph, and its contract says that it is the program's: the points are those of
-//! `csub_core`'s `point_list` and the edges those of its `edge_list`, each by its place there. The contracts of
+//! `csub_semantics`' `point_list` and the edges those of its `edge_list`, each by its place there. The contracts of
 //! [`Graph::follow`], [`Graph::edge_number`], [`Graph::edge_at`], [`Graph::label_at`] and the others say what that is at
 //! a number, in the words of the record `flow_of` between a program and all that runs or walks it.
+//!
+//! Proofs above cite `proofs/LawsPlaces`, where points stand, and `proofs/LawsLists`, lists read by place.
 #![tactic(auto)]
 
 mod begin;

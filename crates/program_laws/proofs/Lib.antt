@@ -1,10 +1,12 @@
-pub mod Lists
-pub mod Names
-pub mod Fitting
-pub mod Nodes
-pub mod Standing
-pub mod Labelled
-pub mod Turns
-pub mod Written
-pub mod Decided
-pub mod Numbered
+pub mod LawsLists
+pub mod LawsNames
+pub mod LawsNodes
+pub mod LawsStanding
+pub mod LawsWays
+pub mod LawsFlows
+pub mod LawsOutcomes
+pub mod LawsLabels
+mod Turns
+mod Written
+mod Decided
+mod Numbered

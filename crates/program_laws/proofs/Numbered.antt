@@ -2,27 +2,13 @@
 use Rattle.std.proofs.Common.{◌≡◌, ℕ, zero, suc, List, [], ◌∷◌, ◌++◌, ◌⊎◌, inl, inr, map, Bool, true, false, cond, Option, Some, None, find, refl, ap, sym, subst}
 use Rattle.std.specs.Option.{option_map}
 use Rattle.std.specs.List.{slice_get, flat_map}
-use Rattle.std.specs.Cmp.{signed_Decides}
-use Rattle.std.specs.Cmp.Rules.{signed_items}
 use Rattle.csub_semantics.specs.Types.{Name}
-use Rattle.csub_semantics.specs.Points.{PointTree, point_eq, ExitTree, next, on_true, on_false, on_case, on_default, exit_eq}
+use Rattle.csub_semantics.specs.Points.{PointTree, point_eq, ExitTree, exit_eq}
 use Rattle.csub_semantics.specs.Syntax.{FunctionTree, ProgramTree}
 use Rattle.csub_semantics.specs.Successors.{Way, Node}
 use Rattle.csub_semantics.specs.Flows.{name_eq, function_nodes, placed, point_list, Edge, edges_from, edge_list, function_of, node_of, node_in, way_of, way_in}
-use Rattle.program_laws.proofs.Names.{same_name, same_point}
+use Rattle.program_laws.proofs.LawsNames.{same_name, same_point, same_exit}
 use Rattle.program_laws.specs.Numbered.{EdgesHaveNumbers}
-
-same_exit : (x y : ExitTree) → exit_eq x y ≡ true → x ≡ y
-same_exit next next e = refl
-same_exit next _ e = cc
-same_exit on_true on_true e = refl
-same_exit on_true _ e = cc
-same_exit on_false on_false e = refl
-same_exit on_false _ e = cc
-same_exit (on_case v) (on_case w) e = ap on_case ((signed_Decides v w).0 e)
-same_exit (on_case v) _ e = cc
-same_exit (on_default vs) (on_default ws) e = ap on_default ((signed_items vs ws).0 e)
-same_exit (on_default vs) _ e = cc
 
 -- x stands in the list
 abbrev Has : {X : Type 0} → List X → X → Type 0

@@ -1,49 +1,40 @@
 -- No turn of a valid program is lost.
-use Rattle.std.proofs.Common.{◌≡◌, ◌≢◌, ℕ, zero, suc, ◌+◌, ℤ, List, [], ◌∷◌, length, Option, IsSome, inl, inr, refl, sym, ap, ◌∙◌, subst}
+use Rattle.std.proofs.Common.{◌≡◌, ◌≢◌, ℕ, zero, suc, ◌+◌, ℤ, List, [], ◌∷◌, length, Option, Some, IsSome, refl, sym, ap, ◌∙◌, subst}
 use Rattle.csub_semantics.specs.declared.label.EndRule.{EndRule}
 use Rattle.csub_semantics.specs.declared.label.EndRule.TheVariants.{Start}
 use Rattle.csub_semantics.specs.Types.{Name}
-use Rattle.csub_semantics.specs.Labels.{LabelTree, enters, exits, evaluates, initialises, branches, returns, calls, CallTree}
+use Rattle.csub_semantics.specs.Labels.{CallTree, call_of}
 use Rattle.csub_semantics.specs.Syntax.{ProgramTree}
 use Rattle.csub_semantics.specs.Points.{PointTree, entry, ExitTree, next}
-use Rattle.csub_semantics.specs.Flows.{Flow, Edge, start_name, end_rule, function_nodes, flow_of}
+use Rattle.csub_semantics.specs.Flows.{Flow, Edge, start_name, end_rule, function_of, function_nodes, flow_of}
 use Rattle.csub_semantics.specs.Acts.{Store, Outcome, leaves, gives, pushes, pops, ends, act}
 use Rattle.csub_semantics.specs.Runs.{Frame, Standing, Turn, goes, stops, lost, cross, put_result, come_back, come_back_to, pop, follow, turn_at, turn_of, turn, Moment, running, ended, nowhere, after_turn, go_on, after, results_at}
-use Rattle.csub_core.specs.Valid.{IsValid}
-use Rattle.program_laws.specs.Outcomes.{IsOfTest, Fits}
+use Rattle.csub_core.specs.Valid.{IsDefinedAs, IsValid}
+use Rattle.program_laws.specs.Outcomes.{Fits}
 use Rattle.program_laws.specs.Lost.{NeverLost, HasResults}
-use Rattle.program_laws.proofs.Nodes.{LeadsBy, Leads}
-use Rattle.program_laws.proofs.Fitting.{fits}
-use Rattle.program_laws.proofs.Standing.{IsPoint, Stands, label_at, goes_on, stands_next, name_is, fine, at_entry, callee_defined, start_defined}
-
--- no label gives a value that decides a way out
-no_gift : (l : LabelTree) (v : ℤ) (s : Store) → Fits l (gives v s) → ⊥
-no_gift enters v s fit = fit
-no_gift (exits rule) v s fit = fit
-no_gift (evaluates e) v s fit = fit
-no_gift (initialises owner t init) v s fit = fit
-no_gift (branches e) v s fit = fit
-no_gift (returns answer) v s fit = fit
-no_gift (calls c) v s fit = fit
+use Rattle.program_laws.proofs.LawsNodes.{LeadsBy}
+use Rattle.program_laws.proofs.LawsOutcomes.{fits, none_gives, pushes_by_call, pops_by_exit}
+use Rattle.program_laws.proofs.LawsStanding.{IsPoint, Stands, label_at, goes_on, stands_next, name_is, node_is, at_entry, callee_defined, start_defined}
+use Rattle.program_laws.proofs.LawsWays.{call_goes_on, exit_ends, leads_on}
 
 module _ (P : ProgramTree) (valid : IsValid P) where
   -- the flow of the program
   abbrev pub F : Flow
   F = flow_of P
 
-  -- what the label at a point asks of its ways out
-  abbrev Follows : (g : Name) (p : PointTree) → Stands P g p → LabelTree → Type 0
-  Follows g p s l = Leads (IsPoint (function_nodes s.function)) P s.function s.node.point l s.node.ways
+  -- where the points of a function lead
+  abbrev pub Among : (g : Name) (p : PointTree) → Stands P g p → PointTree → Type 0
+  Among g p s = IsPoint (function_nodes s.function)
 
-  -- the ways out that a label asks for, where its label is known
-  follows_as : (g : Name) (p : PointTree) (s : Stands P g p) (l : LabelTree) → s.node.label ≡ l → Follows g p s l
-  follows_as g p s l is = subst (Follows g p s) is (fine P g p valid s).leads
+  -- a call at a point: its callee is defined, and control goes on behind it
+  called_at : (g : Name) (p : PointTree) (s : Stands P g p) (c : CallTree) → call_of s.node.label ≡ Some c → IsDefinedAs (function_of P c.callee) c × LeadsBy (Among g p s) next s.node.ways
+  called_at g p s c is = call_goes_on P s.function (Among g p s) s.node.point s.node.label s.node.ways c (node_is P g p valid s) is
 
   -- a frame that waits for the function above it stands at a call
   pub record WaitsAt (f : Frame) : Type 0 where
     pub stands : Stands P f.function f.point
     pub call : CallTree
-    pub calls_it : stands.node.label ≡ calls call
+    pub calls_it : call_of stands.node.label ≡ Some call
 
   -- below a frame of a function: frames that wait, and below the lowest, which is of `#start`, none
   abbrev pub Waits : List Frame → Name → Type 0
@@ -61,7 +52,7 @@ module _ (P : ProgramTree) (valid : IsValid P) where
   Keeps (stops t s) = Unit {0}
   Keeps lost = ⊥
 
-  crosses : (top : Frame) (below : List Frame) (x : ExitTree) (r : Option ℤ) (t : Store) (s : Stands P top.function top.point) → LeadsBy (IsPoint (function_nodes s.function)) x s.node.ways → Waits below top.function → Keeps (cross top below x r t (F.succ top.function top.point x))
+  crosses : (top : Frame) (below : List Frame) (x : ExitTree) (r : Option ℤ) (t : Store) (s : Stands P top.function top.point) → LeadsBy (Among top.function top.point s) x s.node.ways → Waits below top.function → Keeps (cross top below x r t (F.succ top.function top.point x))
   crosses top below x r t s l w = subst (λ o. Keeps (cross top below x r t o)) (sym (goes_on P top.function top.point s x l)) (stands_next P top.function top.point s x l, w)
 
   -- a frame that waits goes on behind its call
@@ -69,41 +60,19 @@ module _ (P : ProgramTree) (valid : IsValid P) where
   comes_back f below r t h w =
       let along = F.succ f.function f.point next in
       subst (λ o. Keeps (come_back f below r t o along)) (sym (label_at P f.function f.point h.stands))
-      (subst (λ l. Keeps (come_back_to f below r t l along)) (sym h.calls_it)
-      (crosses f below next f.result (put_result (length below) h.call.temp r t) h.stands (follows_as f.function f.point h.stands (calls h.call) h.calls_it).1 w))
+      (subst (λ call. Keeps (come_back_to f below r t call along)) (sym h.calls_it)
+      (crosses f below next f.result (put_result (length below) h.call.temp r t) h.stands (called_at f.function f.point h.stands h.call h.calls_it).1 w))
 
   popped : (g : Name) (below : List Frame) (r : Option ℤ) (t : Store) → (g ≢ start_name) → Waits below g → Keeps (pop F below r t)
   popped g [] r t other w = absurd (other w)
   popped g (f ∷ below) r t other w = comes_back f below r t w.0 w.1
 
   module _ (top : Frame) (below : List Frame) (s : Stands P top.function top.point) (w : Waits below top.function) where
-    abbrev Out : ExitTree → Type 0
-    Out x = LeadsBy (IsPoint (function_nodes s.function)) x s.node.ways
-
-    out_along : (l : LabelTree) → s.node.label ≡ l → (x : ExitTree) (r : Option ℤ) (t : Store) → Fits l (leaves x r t) → Out x
-    out_along enters is x r t fit = subst Out (sym fit) (follows_as top.function top.point s enters is)
-    out_along (exits rule) is x r t fit = absurd fit
-    out_along (evaluates e) is x r t fit = subst Out (sym fit) (follows_as top.function top.point s (evaluates e) is)
-    out_along (initialises owner u init) is x r t fit = subst Out (sym fit) (follows_as top.function top.point s (initialises owner u init) is)
-    out_along (branches e) is x r t fit = pick fit
-      where
-        pick : IsOfTest x → Out x
-        pick (inl same) = subst Out (sym same) (follows_as top.function top.point s (branches e) is).0
-        pick (inr same) = subst Out (sym same) (follows_as top.function top.point s (branches e) is).1
-    out_along (returns answer) is x r t fit = subst Out (sym fit) (follows_as top.function top.point s (returns answer) is)
-    out_along (calls c) is x r t fit = absurd fit
-
-    pushed : (l : LabelTree) → s.node.label ≡ l → (g : Name) (t : Store) → Fits l (pushes g t) → Keeps (follow F top below (pushes g t))
-    pushed enters is g t fit = absurd fit
-    pushed (exits rule) is g t fit = absurd fit
-    pushed (evaluates e) is g t fit = absurd fit
-    pushed (initialises owner u init) is g t fit = absurd fit
-    pushed (branches e) is g t fit = absurd fit
-    pushed (returns answer) is g t fit = absurd fit
-    pushed (calls c) is g t fit = (
-      subst (λ n. Stands P n entry) (sym fit) (at_entry P c.callee (callee_defined P c.callee c (follows_as top.function top.point s (calls c) is).0)),
-      (record { stands = s; call = c; calls_it = is }, w),
-    )
+    pushed : (g : Name) (t : Store) → Fits s.node.label (pushes g t) → Keeps (follow F top below (pushes g t))
+    pushed g t fit =
+        let by = pushes_by_call s.node.label g t fit in
+        let callee = callee_defined P by.0.callee by.0 (called_at top.function top.point s by.0 by.1).0 in
+        (subst (λ n. Stands P n entry) (sym by.2) (at_entry P by.0.callee callee), (record { stands = s; call = by.0; calls_it = by.1 }, w))
 
     -- a frame of `#start` is never popped
     not_start : (rule : EndRule) → rule ≡ end_rule s.function.name s.function.result → (rule ≢ Start) → top.function ≢ start_name
@@ -111,27 +80,25 @@ module _ (P : ProgramTree) (valid : IsValid P) where
         let name : s.function.name ≡ start_name = name_is P top.function top.point valid s ∙ e in
         other (is ∙ ap (λ n. end_rule n s.function.result) name)
 
-    pops_on : (l : LabelTree) → s.node.label ≡ l → (r : Option ℤ) (t : Store) → Fits l (pops r t) → Keeps (pop F below r t)
-    pops_on enters is r t fit = absurd fit
-    pops_on (exits rule) is r t fit = popped top.function below r t (not_start rule (follows_as top.function top.point s (exits rule) is).1 fit) w
-    pops_on (evaluates e) is r t fit = absurd fit
-    pops_on (initialises owner u init) is r t fit = absurd fit
-    pops_on (branches e) is r t fit = absurd fit
-    pops_on (returns answer) is r t fit = absurd fit
-    pops_on (calls c) is r t fit = absurd fit
+    pops_on : (r : Option ℤ) (t : Store) → Fits s.node.label (pops r t) → Keeps (pop F below r t)
+    pops_on r t fit =
+        let by = pops_by_exit s.node.label r t fit in
+        let ends = exit_ends P s.function (Among top.function top.point s) s.node.point s.node.label s.node.ways by.0 (node_is P top.function top.point valid s) by.1 in
+        popped top.function below r t (not_start by.0 ends.1 by.2) w
 
-    followed : (l : LabelTree) → s.node.label ≡ l → (o : Outcome) → Fits l o → Keeps (follow F top below o)
-    followed l is (leaves x r t) fit = crosses top below x r t s (out_along l is x r t fit) w
-    followed l is (gives v t) fit = absurd (no_gift l v t fit)
-    followed l is (pushes g t) fit = pushed l is g t fit
-    followed l is (pops r t) fit = pops_on l is r t fit
-    followed l is (ends u t) fit = tt
+    followed : (o : Outcome) → Fits s.node.label o → Keeps (follow F top below o)
+    followed (leaves x r t) fit =
+        crosses top below x r t s (leads_on P s.function (Among top.function top.point s) s.node.point s.node.label s.node.ways x r t (node_is P top.function top.point valid s) fit) w
+    followed (gives v t) fit = absurd (none_gives s.node.label v t fit)
+    followed (pushes g t) fit = pushed g t fit
+    followed (pops r t) fit = pops_on r t fit
+    followed (ends u t) fit = tt
 
   pub turn_keeps : (frames : List Frame) (t : Store) → AreReady frames → Keeps (turn_of F frames t)
   turn_keeps [] t h = absurd h
   turn_keeps (top ∷ below) t h =
       subst (λ o. Keeps (turn_at F top below t o)) (sym (label_at P top.function top.point h.0))
-      (followed top below h.0 h.1 h.0.node.label refl (act h.0.node.label (length below + 1) top.result t) (fits h.0.node.label (length below + 1) top.result t))
+      (followed top below h.0 h.1 (act h.0.node.label (length below + 1) top.result t) (fits h.0.node.label (length below + 1) top.result t))
 
   -- and so does a moment that isn't nowhere
   abbrev pub Stays : Moment → Type 0

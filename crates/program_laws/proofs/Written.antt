@@ -12,7 +12,7 @@ use Rattle.csub_semantics.specs.declared.label.EndRule.TheVariants.{Nothing, Val
 use Rattle.csub_semantics.specs.declared.status.Status.TheVariants.{Trap, Turns}
 use Rattle.csub_semantics.specs.Types.{Name, MemberTree}
 use Rattle.csub_semantics.specs.Trees.{NamedPlace, NamedExpr, NamedArg, constant, reading, variable, object, temporary, unary_operation, conversion, stepping, operation, conjunction, disjunction, choice, assignment, update, input_byte, output_byte, value_argument}
-use Rattle.csub_semantics.specs.Labels.{LabelTree, enters, exits, evaluates, initialises, branches, returns, calls, one_value, PointLabel}
+use Rattle.csub_semantics.specs.Labels.{LabelTree, enters, exits, evaluates, initialises, branches, returns, calls, one_value, CallTree, call_of, PointLabel}
 use Rattle.csub_semantics.specs.Points.{PointTree, ExitTree, next}
 use Rattle.csub_semantics.specs.Flows.{Flow, Edge}
 use Rattle.csub_semantics.specs.Memory.{Answer, value, trapped, then_do, given, found, get_byte, put_byte, low_byte, most_output}
@@ -175,19 +175,14 @@ short_result h None r s short = short
 short_result h (Some k) None s short = short
 short_result h (Some k) (Some v) s short = short
 
-short_back_to : (f : Frame) (below : List Frame) (r : Option ℤ) (s : Store) (l : LabelTree) (to : Option PointTree) → IsShort s → TurnsShort (come_back_to f below r s l to)
-short_back_to f below r s (calls c) to short =
+short_back_to : (f : Frame) (below : List Frame) (r : Option ℤ) (s : Store) (call : Option CallTree) (to : Option PointTree) → IsShort s → TurnsShort (come_back_to f below r s call to)
+short_back_to f below r s None to short = tt
+short_back_to f below r s (Some c) to short =
     short_cross f below next f.result (put_result (length below) c.temp r s) to (short_result (length below) c.temp r s short)
-short_back_to f below r s enters to short = tt
-short_back_to f below r s (exits rule) to short = tt
-short_back_to f below r s (evaluates e) to short = tt
-short_back_to f below r s (initialises owner t init) to short = tt
-short_back_to f below r s (branches e) to short = tt
-short_back_to f below r s (returns answer) to short = tt
 
 short_back : (f : Frame) (below : List Frame) (r : Option ℤ) (s : Store) (l : Option PointLabel) (to : Option PointTree) → IsShort s → TurnsShort (come_back f below r s l to)
 short_back f below r s None to short = tt
-short_back f below r s (Some l) to short = short_back_to f below r s l.tree to short
+short_back f below r s (Some l) to short = short_back_to f below r s (call_of l.tree) to short
 
 short_pop : (P : Flow) (below : List Frame) (r : Option ℤ) (s : Store) → IsShort s → TurnsShort (pop P below r s)
 short_pop P [] r s short = tt

@@ -4,7 +4,7 @@ use Rattle.std.specs.List.{list_any}
 use Rattle.std.specs.Ordering.{int_eq}
 use Rattle.csub_semantics.specs.declared.label.EndRule.{EndRule}
 use Rattle.csub_semantics.specs.Types.{Name}
-use Rattle.csub_semantics.specs.Labels.{enters, exits, calls, CallTree, PointLabel}
+use Rattle.csub_semantics.specs.Labels.{enters, exits, CallTree, call_of, PointLabel}
 use Rattle.csub_semantics.specs.Points.{PointTree, entry, exit, on_case, on_default}
 use Rattle.csub_semantics.specs.Flows.{Flow, start_name}
 
@@ -16,7 +16,8 @@ pub record IsFlow (P : Flow) : Type 0 where
   -- a run begins at the entry of `#start`
   pub starts : P.label start_name entry ≡ Some entry_label
   -- a call's callee is defined
-  pub called : (f : Name) (p : PointTree) (l : PointLabel) (c : CallTree) → P.label f p ≡ Some l → l.tree ≡ calls c → P.label c.callee entry ≡ Some entry_label
+  pub called : (f : Name) (p : PointTree) (l : PointLabel) (c : CallTree)
+      → P.label f p ≡ Some l → call_of l.tree ≡ Some c → P.label c.callee entry ≡ Some entry_label
   -- frames are left at exits alone
   pub leaves : (f : Name) (p : PointTree) (l : PointLabel) (rule : EndRule) → P.label f p ≡ Some l → l.tree ≡ exits rule → p ≡ exit
   -- a case that leads on is a case of its switch

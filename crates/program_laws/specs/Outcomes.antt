@@ -3,7 +3,7 @@ use Rattle.std.specs.Prelude.{◌≡◌, ◌≢◌, ◌⊎◌}
 use Rattle.csub_semantics.specs.declared.label.EndRule.{EndRule}
 use Rattle.csub_semantics.specs.declared.label.EndRule.TheVariants.{Start}
 use Rattle.csub_semantics.specs.Types.{Name}
-use Rattle.csub_semantics.specs.Labels.{LabelTree, enters, exits, evaluates, initialises, branches, returns, calls}
+use Rattle.csub_semantics.specs.Labels.{LabelTree, exits, branches, calls}
 use Rattle.csub_semantics.specs.Points.{ExitTree, next, on_true, on_false}
 use Rattle.csub_semantics.specs.Acts.{Outcome, leaves, pushes, pops, ends}
 
@@ -38,10 +38,7 @@ IsOfTest x = (x ≡ on_true) ⊎ (x ≡ on_false)
 -- a call pushes its callee, an exit pops its frame (that of `#start` ends the run), a test leaves along true or false,
 -- and all others leave along next
 abbrev pub Fits : LabelTree → Outcome → Type 0
-Fits enters o = LeavesBy IsNext o
-Fits (exits rule) o = Pops rule o
-Fits (evaluates e) o = LeavesBy IsNext o
-Fits (initialises owner t init) o = LeavesBy IsNext o
-Fits (branches e) o = LeavesBy IsOfTest o
-Fits (returns answer) o = LeavesBy IsNext o
 Fits (calls c) o = Pushes c.callee o
+Fits (exits rule) o = Pops rule o
+Fits (branches e) o = LeavesBy IsOfTest o
+Fits l o = LeavesBy IsNext o

@@ -1,9 +1,13 @@
-//! Laws of the definitions of `csub_core`: what holds of every valid program, of every act and of every label.
+//! Laws of the definitions of `csub_semantics` and of validity: what holds of every valid program, of every act and of every label.
 //!
 //! Each law is the contract of a function without parameters, whose body does nothing: [`never_lost`] says that a run
 //! of a valid program never gets stuck, [`bounds`] what bounds its results, [`flows`] what lockstep asks of a program,
 //! [`edges`] that what a run crosses has a number, [`outcomes`] which outcomes a label may have, and [`decided_labels`]
 //! that labels can be compared.
+//!
+//! Proofs above cite the files `proofs/Laws*`: `LawsNodes`, what a point of a valid program may be, by one induction over
+//! its statements; `LawsStanding` and `LawsWays`, what follows for a point, its label and its ways out; `LawsFlows` and
+//! `LawsOutcomes`, the laws above; `LawsLabels`, `LawsNames` and `LawsLists`, equality of labels and names, and lists.
 #![tactic(auto)]
 
 ghost use Rattle.std.specs.Prelude.{ℕ, ℤ, Option};

@@ -1,14 +1,14 @@
-pub mod Readings
-pub mod Took
-pub mod Complete
-pub mod Sound
-pub mod Whole
-pub mod Many
-pub mod Blocks
-pub mod Spellings
-pub mod Cutting
-pub mod OneProgram
-pub mod Steps
-pub mod Weights
-pub mod Counts
-pub mod Validity
+mod Readings
+mod Took
+mod Complete
+mod Sound
+mod Whole
+mod Many
+mod Blocks
+mod Spellings
+mod Cutting
+mod OneProgram
+mod Steps
+mod Weights
+mod Counts
+mod Validity

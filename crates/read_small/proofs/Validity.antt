@@ -1,5 +1,5 @@
 -- The program of a small source is valid.
-use Rattle.std.proofs.Common.{◌≡◌, ◌≢◌, ℕ, ◌+◌, ◌≤◌, List, [], ◌∷◌, ◌++◌, length, Option, Some, None, refl, sym, ap, subst, arith, length-append, pos}
+use Rattle.std.proofs.Common.{◌≡◌, ◌≢◌, ℕ, ◌+◌, ◌≤◌, List, [], ◌∷◌, ◌++◌, length, Option, Some, None, inl, refl, sym, ap, subst, arith, length-append, pos}
 use Rattle.std.specs.Prelude.{map, All, AllPairs}
 use Rattle.std.specs.List.{flat_map}
 use Rattle.std.proofs.lemmas.List.{length-map}
@@ -16,7 +16,7 @@ use Rattle.csub_semantics.specs.Points as points
 use Rattle.csub_semantics.specs.Labels.{exits}
 use Rattle.csub_semantics.specs.Successors.{Node, nodes_list}
 use Rattle.csub_semantics.specs.Flows.{to_exit, end_rule, function_nodes, PlacedNode, placed, point_list, edges_from, edge_list}
-use Rattle.csub_core.specs.Valid.{IsPart, no_loop, IsStmt, AreStmts, IsElse, objects_of, AreOther, frame_cells, IsValid}
+use Rattle.csub_core.specs.Valid.{IsPart, AreParts, most_entries, stmt_count, no_loop, IsStmt, AreStmts, IsElse, objects_of, AreOther, frame_cells, IsValid}
 use Rattle.csub_core.specs.declared.valid.role.Role.TheVariants.{Whole}
 use Rattle.read_small.specs.declared.plain.Plain.{Plain}
 use Rattle.read_small.specs.declared.plain.Plain.TheVariants.{Writes, Gives}
@@ -33,8 +33,30 @@ byte_int n h = (omega (arith, ints), omega (arith, ints))
 
 -- ---- the statements
 
-one_part : (P : ProgramTree) (f : FunctionTree) (p : PartTree) → IsPart P f Whole p → All (λ q. IsPart P f Whole q) (p ∷ [])
-one_part P f p h = All-cons (λ q. IsPart P f Whole q) p [] h (All-nil (λ q. IsPart P f Whole q))
+one_part : (P : ProgramTree) (f : FunctionTree) (p : PartTree) → IsPart P f Whole p → AreParts P f Whole (p ∷ [])
+one_part P f p h = record {
+  few = omega arith;
+  one = inl (omega arith);
+  each = All-cons (λ q. IsPart P f Whole q) p [] h (All-nil (λ q. IsPart P f Whole q));
+}
+
+-- lines are no more than their bytes
+few_lines : {L : Type 0} (words : L → List Word) (stmt : L → StmtTree) → ((x : L) → 1 ≤ weight (words x)) → (xs : List L) → stmt_count (stmts_of (map stmt xs)) ≤ weight (flat_map words xs)
+few_lines words stmt one [] = omega arith
+few_lines words stmt one (x ∷ xs) =
+    omega (arith, one x, few_lines words stmt one xs, weight-append (words x) (flat_map words xs))
+
+plain_weight : (p : Plain) → 1 ≤ weight (plain_words p)
+plain_weight (Writes at n) = omega arith
+plain_weight (Gives at n) = omega arith
+
+line_weight : (l : Line) → 1 ≤ weight (line_words l)
+line_weight (plain p) = plain_weight p
+line_weight (test at n ps other) = omega arith
+
+-- a text of a small source is short
+abbrev IsShort : List Word → Type 0
+IsShort ws = weight ws ≤ 65536
 
 module _ (P : ProgramTree) (span : Span) (body : List StmtTree) where
   abbrev own : FunctionTree
@@ -44,22 +66,30 @@ module _ (P : ProgramTree) (span : Span) (body : List StmtTree) where
   valid_plain (Writes at n) h = one_part P own _ (byte_int n h.1.1.0)
   valid_plain (Gives at n) h = one_part P own _ (refl, byte_int n h.1.0)
 
-  valid_many : {L : Type 0} (words : L → List Word) (stmt : L → StmtTree) → ((x : L) → AreKinds (words x) → IsStmt P own no_loop (stmt x)) → (xs : List L) → AreKinds (flat_map words xs) → AreStmts P own no_loop (stmts_of (map stmt xs))
-  valid_many words stmt one [] h = tt
-  valid_many words stmt one (x ∷ xs) h = let kinds = kinds_split (words x) (flat_map words xs) h in (one x kinds.0, valid_many words stmt one xs kinds.1)
+  valid_many : {L : Type 0} (words : L → List Word) (stmt : L → StmtTree) → ((x : L) → AreKinds (words x) → IsShort (words x) → IsStmt P own no_loop (stmt x)) → (xs : List L) → AreKinds (flat_map words xs) → IsShort (flat_map words xs) → AreStmts P own no_loop (stmts_of (map stmt xs))
+  valid_many words stmt one [] h b = tt
+  valid_many words stmt one (x ∷ xs) h b =
+      let kinds = kinds_split (words x) (flat_map words xs) h in
+      let bytes = weight-append (words x) (flat_map words xs) in
+      (one x kinds.0 (omega (arith, bytes, b)), valid_many words stmt one xs kinds.1 (omega (arith, bytes, b)))
 
-  valid_block : (ps : List Plain) → AreKinds (braced_words ps) → IsStmt P own no_loop (block_of ps)
-  valid_block ps h = valid_many plain_words plain_stmt valid_plain ps (kinds_split (flat_map plain_words ps) (word CloseBrace ∷ []) h.1).0
+  valid_block : (ps : List Plain) → AreKinds (braced_words ps) → IsShort (braced_words ps) → IsStmt P own no_loop (block_of ps)
+  valid_block ps h b =
+      let bytes = weight-append (flat_map plain_words ps) (word CloseBrace ∷ []) in
+      let kinds = (kinds_split (flat_map plain_words ps) (word CloseBrace ∷ []) h.1).0 in
+      let short : IsShort (flat_map plain_words ps) = omega (arith, bytes, b) in
+      (omega (arith, few_lines plain_words plain_stmt plain_weight ps, short), valid_many plain_words plain_stmt (λ p k s. valid_plain p k) ps kinds short)
 
-  valid_else : (other : Option (List Plain)) → AreKinds (else_words other) → IsElse P own no_loop (else_of other)
-  valid_else None h = tt
-  valid_else (Some ps) h = valid_block ps h.1
+  valid_else : (other : Option (List Plain)) → AreKinds (else_words other) → IsShort (else_words other) → IsElse P own no_loop (else_of other)
+  valid_else None h b = tt
+  valid_else (Some ps) h b = valid_block ps h.1 (omega (arith, b))
 
-  valid_line : (l : Line) → AreKinds (line_words l) → IsStmt P own no_loop (line_stmt l)
-  valid_line (plain p) h = valid_plain p h
-  valid_line (test at n ps other) h =
+  valid_line : (l : Line) → AreKinds (line_words l) → IsShort (line_words l) → IsStmt P own no_loop (line_stmt l)
+  valid_line (plain p) h b = valid_plain p h
+  valid_line (test at n ps other) h b =
       let rest = kinds_split (braced_words ps) (else_words other) h.1.1.1.1.1.1.1.1 in
-      ((refl, tt, byte_int n h.1.1.1.1.1.1.0), valid_block ps rest.0, valid_else other rest.1)
+      let bytes = weight-append (braced_words ps) (else_words other) in
+      ((refl, tt, byte_int n h.1.1.1.1.1.1.0), valid_block ps rest.0 (omega (arith, bytes, b)), valid_else other rest.1 (omega (arith, bytes, b)))
 
 -- ---- points and edges
 
@@ -111,19 +141,21 @@ valid_program place lines kinds fits =
     let inner = kinds_split (flat_map line_words lines) (word CloseBrace ∷ []) kinds.1.1.1.1.1.1 in
     let counted : Counted (nodes_list (stmts_of (map line_stmt lines)) 0 points.at to_exit) (weight (flat_map line_words lines)) = counted_many line_words line_stmt counted_line lines 0 points.at to_exit inner.0 in
     let bytes = weight-append (flat_map line_words lines) (word CloseBrace ∷ []) in
+    let short : IsShort (flat_map line_words lines) = omega (arith, bytes, fits) in
     record {
       start = record { name = refl; params = refl; result = refl; body = refl; locals = refl; temps = refl };
       main = (refl, refl);
       distinct = AllPairs-cons (λ a b. a.name ≢ b.name) f (g ∷ []) (All-cons (λ b. f.name ≢ b.name) g [] (λ same. omega (arith, ap length same)) (All-nil (λ b. f.name ≢ b.name)))
           (AllPairs-cons (λ a b. a.name ≢ b.name) g [] (All-nil (λ b. g.name ≢ b.name)) (λ i j d lt none. absurd (omega arith)));
       bodies = two (λ h. AreStmts P h no_loop h.body) f g (one_part P f _ (record { defined = (refl, refl); args = tt; temp = refl; few = omega arith }), tt)
-          (valid_many P (span_at place Main) (map line_stmt lines) line_words line_stmt (valid_line P (span_at place Main) (map line_stmt lines)) lines inner.0);
+          (valid_many P (span_at place Main) (map line_stmt lines) line_words line_stmt (valid_line P (span_at place Main) (map line_stmt lines)) lines inner.0 short);
       objects = two (λ h. AllPairs AreOther (objects_of h)) f g (λ i j d less below. absurd (omega (arith, below))) (λ i j d less below. absurd (omega (arith, below)));
       functions = omega arith;
       points = omega (arith, points_of place lines, counted.points, bytes, fits);
       edges = omega (arith, edges_of place lines, counted.ways, bytes, fits);
       frames = two (λ h. frame_cells h ≤ 4096) f g (omega arith) (omega arith);
       parameters = two (λ h. length h.params ≤ 16) f g (omega arith) (omega arith);
+      lists = two (λ h. stmt_count h.body ≤ most_entries) f g (omega arith) (omega (arith, few_lines line_words line_stmt line_weight lines, short));
     }
 
 pub small_valid : (source : List ℕ) (P : ProgramTree) → IsSmall source P → IsValid P

@@ -4,7 +4,8 @@ use Rattle.std.specs.Prelude.{ℕ, zero, suc, ◌≡◌, List, [], ◌∷◌, le
 use Rattle.csub_semantics.specs.Syntax.{StmtTree, block, conditional, ElseTree, no_else, else_stmt, stmts_of, ProgramTree, stmt_tree}
 use Rattle.csub_semantics.specs.declared.function.RStmt.{RStmt}
 use Rattle.read_small.specs.declared.token.Fixed.{Fixed}
-use Rattle.read_small.specs.declared.token.Fixed.TheVariants.{Int, Main, Void, If, Else, Getchar, Putchar, Return, Open, Close, OpenBrace, CloseBrace, Semicolon, Equal}
+use Rattle.read_small.specs.declared.token.Fixed.TheVariants.{Int, Main, Void, If, Else, Getchar, Putchar, Return, Open, Close, OpenBrace, CloseBrace}
+use Rattle.read_small.specs.declared.token.Fixed.TheVariants.{Semicolon, Equal}
 use Rattle.read_small.specs.declared.token.Kind.{Kind}
 use Rattle.read_small.specs.declared.token.Kind.TheVariants as kinds
 use Rattle.read_small.specs.declared.token.Token.{Token}

@@ -6,7 +6,8 @@
 use Rattle.std.specs.Prelude.{ℕ, ◌≡◌, List, [], ◌∷◌, ◌++◌, Option, Some, None}
 use Rattle.std.specs.List.{flat_map}
 use Rattle.read_small.specs.declared.token.Fixed.{Fixed}
-use Rattle.read_small.specs.declared.token.Fixed.TheVariants.{Int, Main, Void, If, Else, Getchar, Putchar, Return, Open, Close, OpenBrace, CloseBrace, Semicolon, Equal}
+use Rattle.read_small.specs.declared.token.Fixed.TheVariants.{Int, Main, Void, If, Else, Getchar, Putchar, Return, Open, Close, OpenBrace, CloseBrace}
+use Rattle.read_small.specs.declared.token.Fixed.TheVariants.{Semicolon, Equal}
 use Rattle.read_small.specs.declared.token.Kind.{Kind}
 use Rattle.read_small.specs.declared.token.Kind.TheVariants as kinds
 use Rattle.read_small.specs.declared.token.Token.{Token}

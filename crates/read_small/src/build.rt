@@ -6,7 +6,9 @@ ghost use Rattle.read_small.specs.Meaning.{own_part, plain_stmt, test_part, star
 ghost use Rattle.read_small.specs.Descent.{else_view};
 
 use crate::plain::Plain;
-use csub_semantics::{Answer, BinOp, CallLabel, Function, IntKind, Label, RCall, RExpr, RPart, RStmt, Span, Text};
+use csub_semantics::{
+    Answer, BinOp, CallLabel, Function, IntKind, Label, RCall, RExpr, RPart, RStmt, Span, Text,
+};
 use std::alloc::{AllocError, Global};
 
 /// The place of a token of so many bytes.

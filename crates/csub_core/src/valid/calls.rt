@@ -9,9 +9,9 @@ ghost use Rattle.csub_semantics.specs.Flows.{function_of, name_eq};
 ghost use Rattle.csub_core.specs.Valid.{scope_of, IsDefinedAs, AreArgs, IsCall, temp_of};
 ghost use Rattle.csub_core.specs.Checks.{scope_at, IsValue, AreCalls};
 
-use csub_semantics::{CType, CallLabel, Function, Member, RArg, RPart};
 use crate::valid::expressions::is_expr;
 use crate::valid::role::Site;
+use csub_semantics::{CType, CallLabel, Function, Member, RArg, RPart};
 use csub_types::IntKind;
 
 /// Whether each of a part's calls, numbered from 1, fits its callee.

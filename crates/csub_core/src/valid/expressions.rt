@@ -9,9 +9,9 @@ ghost use Rattle.std.specs.Option.{option_map};
 ghost use Rattle.csub_semantics.specs.Labels.{label_tree};
 ghost use Rattle.csub_core.specs.Checks.{scope_at, own_result};
 
-use csub_semantics::{CType, Function, Label, Place, RExpr, RPart};
 use crate::valid::objects::is_object;
 use crate::valid::role::Site;
+use csub_semantics::{CType, Function, Label, Place, RExpr, RPart};
 use csub_text::{BinOp, UnaryOp};
 use csub_types::{IntKind, common, convert, promote};
 

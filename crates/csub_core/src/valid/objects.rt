@@ -10,8 +10,8 @@ ghost use Rattle.csub_semantics.specs.Syntax.{local_tree, function_tree};
 ghost use Rattle.csub_core.specs.Valid.{objects_of, parameter_object, type_in, IsObject, AreOther};
 ghost use Rattle.csub_core.specs.Checks.{AreApart};
 
-use csub_semantics::{CType, Function, LocalVar, Member, Owner};
 use crate::valid::calls::same_type;
+use csub_semantics::{CType, Function, LocalVar, Member, Owner};
 
 /// Whether an object stands in a function with the type that it is declared with. Its declaration is looked for from the
 /// front, so this takes at most as many comparisons of names as a frame has cells, which are at most 4,096.

@@ -6,8 +6,8 @@ ghost use Rattle.csub_semantics.specs.Syntax.{part_tree, stmt_tree, stmts_of, fu
 ghost use Rattle.csub_semantics.specs.Flows.{start_name, main_name, function_of};
 ghost use Rattle.csub_core.specs.Valid.{BeginsWithStart, IsStart, IsStartBody, IsStartPart, IsMain, start_call};
 
-use csub_semantics::{CallLabel, Function, Label, RPart, RStmt};
 use crate::valid::calls::{find_function, is_named, takes_nothing};
+use csub_semantics::{CallLabel, Function, Label, RPart, RStmt};
 use csub_types::IntKind;
 
 /// Whether `main` is defined as an `int` function without parameters (C11 5.1.2.2.1).

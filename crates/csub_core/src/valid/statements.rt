@@ -1,19 +1,22 @@
 //! Whether statements have a label only where there is a point of its kind.
-ghost use Rattle.std.specs.Prelude.{◌≡◌, ◌↔◌, ◌<◌, ◌+◌, ◌^◌, All, IsTrue, false, length, map};
+ghost use Rattle.std.specs.Prelude.{◌≡◌, ◌↔◌, ◌<◌, ◌≤◌, ◌+◌, ◌^◌, ◌⊎◌, All, IsTrue, true, false, length, map};
 ghost use Rattle.std.specs.Option.{option_map};
 ghost use Rattle.csub_semantics.specs.Types.{type_tree};
 ghost use Rattle.csub_semantics.specs.Trees.{owner_tree};
 ghost use Rattle.csub_semantics.specs.Labels.{answer_tree, init_tree, label_tree};
 ghost use Rattle.csub_semantics.specs.Syntax.{part_tree, stmt_tree, stmts_of, function_tree};
 ghost use Rattle.csub_core.specs.declared.valid.role.Role.TheVariants.{Effect};
-ghost use Rattle.csub_core.specs.Valid.{scope_of, declares, IsAnswer, IsInitialised, IsLast, IsPart, IsForHead, IsStmt};
-ghost use Rattle.csub_core.specs.Checks.{scope_at, declared_own, IsEnd};
+ghost use Rattle.csub_core.specs.Valid.{scope_of, declares, IsAnswer, IsInitialised, IsLast, IsPart, AreParts, IsForHead, IsStmt, stmt_count, most_entries};
+ghost use Rattle.csub_core.specs.Checks.{scope_at, declared_own, IsEnd, AreTogether, IsOneStep};
 
-use csub_semantics::{Answer, CType, Function, Label, Owner, RInit, RPart, RStmt};
 use crate::valid::calls::{are_calls, is_call};
 use crate::valid::expressions::is_expr;
 use crate::valid::objects::is_local;
 use crate::valid::role::{Role, Site, Targets};
+use csub_semantics::{Answer, CType, Function, Label, Owner, RInit, RPart, RStmt};
+
+/// The most statements of a list, and the most parts of a statement.
+const MOST_ENTRIES: usize = 1_048_576;
 
 /// Whether a statement of `function` is valid in the program of `functions`.
 #[cycle(stmts)]
@@ -27,7 +30,9 @@ pub(crate) fn is_stmt(
 {
     match stmt {
         RStmt::Parts(parts) => are_parts(functions, function, Role::Whole, parts),
-        RStmt::Block(stmts) => are_stmts(functions, function, targets, stmts),
+        RStmt::Block(stmts) => {
+            has_few_stmts(stmts) && are_stmts(functions, function, targets, stmts)
+        }
         RStmt::If(test, then, other) => {
             is_part(functions, function, Role::Test, test)
                 && is_stmt(functions, function, targets, then)
@@ -71,6 +76,13 @@ pub(crate) fn are_stmts(
     true
 }
 
+/// Whether a list of statements has at most 1,048,576.
+pub(crate) fn has_few_stmts(stmts: &[RStmt]) -> bool
+    ensures { IsTrue result ↔ (stmt_count (stmts_of (map stmt_tree stmts.now)) ≤ most_entries) }
+{
+    stmts.len() <= MOST_ENTRIES
+}
+
 /// Whether the parts of a `for` before its body are valid.
 fn is_for_head(
     functions: &[Function],
@@ -81,16 +93,24 @@ fn is_for_head(
 ) -> bool
     ensures { IsTrue result ↔ IsForHead (map function_tree functions.now) (function_tree function.now) (map part_tree first.now) (part_tree test.now) (map part_tree third.now) }
 {
-    are_effects(functions, function, first)
+    are_parts(functions, function, Role::Effect, first)
         && is_part(functions, function, Role::Test, test)
         && are_steps(functions, function, third)
 }
 
-/// Whether each of the parts is valid as an expression that is evaluated for its effects, and declares nothing.
+/// Whether there is at most one part, which is valid as an expression that is evaluated for its effects, and declares
+/// nothing.
 fn are_steps(functions: &[Function], function: &Function, parts: &[RPart]) -> bool
-    ensures { IsTrue result ↔ (All (λ p. IsPart (map function_tree functions.now) (function_tree function.now) Effect p) (map part_tree parts.now) × All (λ p. declares p ≡ false) (map part_tree parts.now)) }
+    ensures { IsTrue result ↔ (IsOneStep (map part_tree parts.now) × All (λ p. IsPart (map function_tree functions.now) (function_tree function.now) Effect p) (map part_tree parts.now)) }
 {
-    are_effects(functions, function, parts) && declare_nothing(parts)
+    is_one_step(parts) && are_effects(functions, function, parts)
+}
+
+/// Whether there is at most one part, and it declares nothing.
+fn is_one_step(parts: &[RPart]) -> bool
+    ensures { IsTrue result ↔ IsOneStep (map part_tree parts.now) }
+{
+    parts.len() <= 1 && declare_nothing(parts)
 }
 
 /// Whether none of the parts is an initialised declaration.
@@ -126,11 +146,37 @@ fn is_declared(main: &Option<Label>) -> bool
 fn are_effects(functions: &[Function], function: &Function, parts: &[RPart]) -> bool
     ensures { IsTrue result ↔ All (λ p. IsPart (map function_tree functions.now) (function_tree function.now) Effect p) (map part_tree parts.now) }
 {
-    are_parts(functions, function, Role::Effect, parts)
+    are_each(functions, function, Role::Effect, parts)
+}
+
+/// Whether the parts of a statement, or the first of a `for`, are valid in a role.
+fn are_parts(functions: &[Function], function: &Function, role: Role, parts: &[RPart]) -> bool
+    ensures { IsTrue result ↔ AreParts (map function_tree functions.now) (function_tree function.now) role (map part_tree parts.now) }
+{
+    are_together(parts) && are_each(functions, function, role, parts)
+}
+
+/// Whether there are at most 1,048,576 parts, and they are at most one, or each declares an object.
+fn are_together(parts: &[RPart]) -> bool
+    ensures { IsTrue result ↔ AreTogether (map part_tree parts.now) }
+{
+    parts.len() <= MOST_ENTRIES && (parts.len() <= 1 || all_declare(parts))
+}
+
+/// Whether each of the parts is an initialised declaration.
+fn all_declare(parts: &[RPart]) -> bool
+    ensures { IsTrue result ↔ All (λ p. declares (part_tree p) ≡ true) parts.now }
+{
+    for part in parts {
+        if !declares(part) {
+            return false;
+        }
+    }
+    true
 }
 
 /// Whether each of the parts is valid in a role.
-fn are_parts(functions: &[Function], function: &Function, role: Role, parts: &[RPart]) -> bool
+fn are_each(functions: &[Function], function: &Function, role: Role, parts: &[RPart]) -> bool
     ensures { IsTrue result ↔ All (λ p. IsPart (map function_tree functions.now) (function_tree function.now) role (part_tree p)) parts.now }
 {
     for part in parts {

@@ -1,6 +1,9 @@
 //! Programs that are valid, and programs that break one rule each.
-use csub_semantics::{Answer, CType, CallLabel, Function, Label, LocalVar, Member, Owner, Place, RArg, RCall, RExpr, RInit, RPart, RStmt};
 use crate::program::Program;
+use csub_semantics::{
+    Answer, CType, CallLabel, Function, Label, LocalVar, Member, Owner, Place, RArg, RCall, RExpr,
+    RInit, RPart, RStmt,
+};
 use csub_text::{Span, Text, UnaryOp};
 use csub_types::IntKind;
 use std::alloc::{AllocError, Global};

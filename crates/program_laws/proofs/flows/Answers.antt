@@ -1,4 +1,4 @@
-use Rattle.program_laws.proofs.Labelled.{is_flow}
+use Rattle.program_laws.proofs.LawsFlows.{is_flow}
 use Rattle.program_laws.proofs.flows.Goals as goal
 
 pub returns : goal.returns

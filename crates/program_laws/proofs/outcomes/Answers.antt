@@ -1,4 +1,4 @@
-use Rattle.program_laws.proofs.Fitting.{fits}
+use Rattle.program_laws.proofs.LawsOutcomes.{fits}
 use Rattle.program_laws.proofs.outcomes.Goals as goal
 
 pub returns : goal.returns

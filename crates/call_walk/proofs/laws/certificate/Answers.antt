@@ -1,5 +1,5 @@
 use Rattle.csub_semantics.specs.Flows.{flow_of}
-use Rattle.program_laws.proofs.Labelled.{is_flow}
+use Rattle.program_laws.proofs.LawsFlows.{is_flow}
 use Rattle.call_walk.specs.Lockstep.{claims, among}
 use Rattle.call_walk.proofs.Together.{in_lockstep, same_runs}
 use Rattle.call_walk.proofs.Respecting.{respects}

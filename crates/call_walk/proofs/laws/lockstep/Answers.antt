@@ -1,6 +1,6 @@
 use Rattle.csub_semantics.specs.Flows.{flow_of}
 use Rattle.csub_semantics.specs.Books.{Reached, Dangerous}
-use Rattle.program_laws.proofs.Labelled.{is_flow}
+use Rattle.program_laws.proofs.LawsFlows.{is_flow}
 use Rattle.call_walk.proofs.ReachedClosed.{reached_closed}
 use Rattle.call_walk.proofs.Together.{in_lockstep, same_runs}
 use Rattle.call_walk.proofs.Respecting.{respects}

@@ -1,5 +1,5 @@
 use Rattle.csub_semantics.specs.Flows.{flow_of}
-use Rattle.program_laws.proofs.Labelled.{is_flow}
+use Rattle.program_laws.proofs.LawsFlows.{is_flow}
 use Rattle.call_walk.proofs.ReachedClosed.{reached_closed}
 use Rattle.call_walk.proofs.laws.reached_is_closed.Goals as goal
 

@@ -1,6 +1,7 @@
 use Rattle.std.proofs.Common.{arith}
 use Rattle.csub_machine.specs.Places.{tree_of}
-use Rattle.csub_machine.proofs.GraphLemmas.{points_counted, functions_counted, found_at}
+use Rattle.flow_graph.proofs.LawsPlaces.{points_counted}
+use Rattle.csub_machine.proofs.GraphLemmas.{functions_counted, found_at}
 use Rattle.csub_machine.proofs.ways.entry_of.Goals as goal
 
 pub returns-clause-some : goal.returns-clause-some

@@ -1,6 +1,7 @@
 use Rattle.std.proofs.Common.{arith}
 use Rattle.csub_machine.specs.Places.{tree_of, place_of}
-use Rattle.csub_machine.proofs.GraphLemmas.{points_counted, place_is}
+use Rattle.flow_graph.proofs.LawsPlaces.{points_counted}
+use Rattle.csub_machine.proofs.GraphLemmas.{place_is}
 use Rattle.csub_machine.proofs.ways.label_of.Goals as goal
 
 pub label_at-requires : goal.label_at-requires

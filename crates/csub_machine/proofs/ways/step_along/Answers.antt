@@ -1,7 +1,8 @@
 use Rattle.std.proofs.Common.{arith}
 use Rattle.csub_semantics.specs.Points.{exit_tree}
 use Rattle.csub_machine.specs.Places.{tree_of, place_of}
-use Rattle.csub_machine.proofs.GraphLemmas.{points_counted, edges_counted, place_is, leads_nowhere, crosses_nothing, leads_to, if_none}
+use Rattle.flow_graph.proofs.LawsPlaces.{points_counted, edges_counted}
+use Rattle.csub_machine.proofs.GraphLemmas.{place_is, leads_nowhere, crosses_nothing, leads_to, if_none}
 use Rattle.csub_machine.proofs.ways.step_along.Goals as goal
 
 pub follow-requires : goal.follow-requires

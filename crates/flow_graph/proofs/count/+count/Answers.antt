@@ -1,6 +1,6 @@
 use Rattle.std.proofs.Common.{rules}
 use Rattle.csub_semantics.specs.declared.function.RStmt.{the_lemmas}
-use Rattle.flow_graph.proofs.Rows.{row_trees-list}
+use Rattle.csub_semantics.proofs.LawsRows.{row_trees-list}
 use Rattle.flow_graph.proofs.count.+count.Goals as goal
 
 pub count_of-count_all-requires : goal.count_of-count_all-requires

@@ -5,7 +5,8 @@ use Rattle.csub_semantics.proofs.function.RStmt.TheLaws.{the_size}
 use Rattle.csub_semantics.specs.Syntax.{part_tree, stmt_tree}
 use Rattle.flow_graph.specs.Numbers.{around, count_parts, count_head, enter_part, enter_parts}
 use Rattle.flow_graph.proofs.Emitted.{for_emitted}
-use Rattle.flow_graph.proofs.Rows.{row_trees-list, room_back}
+use Rattle.csub_semantics.proofs.LawsRows.{row_trees-list}
+use Rattle.flow_graph.proofs.Rows.{room_back}
 use Rattle.flow_graph.proofs.emit.+emit.Goals as goal
 
 pub emit-emit_list-requires : goal.emit-emit_list-requires

@@ -1,6 +1,6 @@
 use Rattle.std.proofs.Common.{◌∙◌, sym}
 use Rattle.csub_semantics.specs.Flows.{name_eq}
-use Rattle.flow_graph.proofs.Lists.{find_here}
+use Rattle.flow_graph.proofs.LawsLists.{find_here}
 use Rattle.flow_graph.proofs.search.find_function.Goals as goal
 
 pub returns-then-eq-clause-found : goal.returns-then-eq-clause-found

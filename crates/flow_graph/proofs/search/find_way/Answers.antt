@@ -1,6 +1,6 @@
 use Rattle.std.proofs.Common.{◌∙◌, sym}
 use Rattle.csub_semantics.specs.Points.{exit_tree, exit_eq}
-use Rattle.flow_graph.proofs.Lists.{find_here}
+use Rattle.flow_graph.proofs.LawsLists.{find_here}
 use Rattle.flow_graph.proofs.search.find_way.Goals as goal
 
 pub returns-then-same_exit-clause-found : goal.returns-then-same_exit-clause-found

@@ -1,5 +1,5 @@
 use Rattle.std.proofs.Common.{arith, ◌<◌, length}
-use Rattle.csub_core.proofs.ValidLists.{map_at}
+use Rattle.csub_semantics.proofs.LawsLists.{map_at}
 use Rattle.csub_core.proofs.valid.calls.same_members.Goals as goal
 
 pub returns-then-not-same_member : goal.returns-then-not-same_member

@@ -6,4 +6,4 @@ use Rattle.csub_core.proofs.valid.statements.are_effects.Goals as goal
 pub returns : goal.returns
 returns c =
     let each = effects_of_map (map function_tree c.args.functions.now) (function_tree c.args.function.now) c.args.parts.now in
-    (λ h. each.1 (c.are_parts.ensures.0 h), λ h. c.are_parts.ensures.1 (each.0 h))
+    (λ h. each.1 (c.are_each.ensures.0 h), λ h. c.are_each.ensures.1 (each.0 h))

@@ -1,5 +1,5 @@
--- The outcome of an act fits its label.
-use Rattle.std.proofs.Common.{ℕ, ◌-◌, ℤ, pos, Bool, true, false, Option, Some, None, nat_le, int_eq, refl, inl, inr, if◌then◌else◌}
+-- The outcome of an act fits its label, and what a fitting outcome says of its label.
+use Rattle.std.proofs.Common.{◌≡◌, ◌≢◌, ℕ, ◌-◌, ℤ, pos, Bool, true, false, Option, Some, None, nat_le, int_eq, refl, inl, inr, if◌then◌else◌}
 use Rattle.csub_semantics.specs.declared.label.EndRule.{EndRule}
 use Rattle.csub_semantics.specs.declared.label.EndRule.TheVariants.{Nothing, Value, Main, Start}
 use Rattle.csub_types.specs.declared.trap.Trap.TheVariants.{Depth}
@@ -8,12 +8,12 @@ use Rattle.csub_semantics.specs.declared.status.Status.{Status}
 use Rattle.csub_semantics.specs.declared.status.Status.TheVariants.{Exit, Trap}
 use Rattle.csub_semantics.specs.Types.{Name}
 use Rattle.csub_semantics.specs.Trees.{reading, assignment, variable, object, temporary}
-use Rattle.csub_semantics.specs.Labels.{LabelTree, enters, exits, evaluates, initialises, branches, returns, calls, one_value}
-use Rattle.csub_semantics.specs.Points.{on_true, on_false}
+use Rattle.csub_semantics.specs.Labels.{LabelTree, enters, exits, evaluates, initialises, branches, returns, calls, one_value, CallTree, call_of}
+use Rattle.csub_semantics.specs.Points.{ExitTree, on_true, on_false}
 use Rattle.csub_semantics.specs.Memory.{Answer, value, trapped, low_byte}
 use Rattle.csub_semantics.specs.Evaluation.{eval}
 use Rattle.csub_semantics.specs.Cells.{named, entered}
-use Rattle.csub_semantics.specs.Acts.{Store, Outcome, pushes, ends, after_value, argument_contents, most_frames, act_exit, act}
+use Rattle.csub_semantics.specs.Acts.{Store, Outcome, leaves, gives, pushes, pops, ends, after_value, argument_contents, most_frames, act_exit, act}
 use Rattle.program_laws.specs.Outcomes.{LeavesBy, Pushes, Pops, IsNext, IsOfTest, Fits}
 
 -- where all that may follow a value fits, and the end by a trap does, all fits
@@ -37,6 +37,7 @@ fits_end Main n None s = λ e. cc
 fits_end Main n (Some v) s = λ e. cc
 fits_end Start n r s = fits_after (Pops Start) (eval (named (n - 1)) (reading (variable (temporary 1 Int))) s) (λ v t. ends (Exit (low_byte v)) t) (λ v t. tt) (λ t u. tt)
 
+-- the outcome of an act fits its label
 pub fits : (l : LabelTree) (n : ℕ) (r : Option ℤ) (s : Store) → Fits l (act l n r s)
 fits enters n r s = refl
 fits (exits rule) n r s = fits_end rule n r s
@@ -47,3 +48,30 @@ fits (branches e) n r s = fits_after (LeavesBy IsOfTest) (eval (named (n - 1)) e
 fits (returns None) n r s = refl
 fits (returns (Some a)) n r s = fits_after (LeavesBy IsNext) (eval (named (n - 1)) a.value s) _ (λ v t. refl) (λ t u. tt)
 fits (calls c) n r s = fits_after (Pushes c.callee) (argument_contents (n - 1) c.params c.args s) _ (λ cs t. pushed c.callee (nat_le most_frames n) t (record t { cells = entered n c.params cs t.cells })) (λ t u. tt)
+
+-- no label gives a value that decides a way out
+pub none_gives : (l : LabelTree) (v : ℤ) (s : Store) → Fits l (gives v s) → ⊥
+none_gives (calls c) v s fit = fit
+none_gives (exits rule) v s fit = fit
+none_gives (branches e) v s fit = fit
+none_gives _ v s fit = fit
+
+-- what control leaves along a way out calls nothing
+pub leaves_no_call : (l : LabelTree) (x : ExitTree) (r : Option ℤ) (s : Store) → Fits l (leaves x r s) → call_of l ≡ None
+leaves_no_call (calls c) x r s fit = absurd fit
+leaves_no_call _ x r s fit = refl
+
+-- and neither does what gives a value
+pub gives_no_call : (l : LabelTree) (v : ℤ) (s : Store) → Fits l (gives v s) → call_of l ≡ None
+gives_no_call (calls c) v s fit = absurd fit
+gives_no_call _ v s fit = refl
+
+-- a frame comes on top by a call of its function alone
+pub pushes_by_call : (l : LabelTree) (g : Name) (s : Store) → Fits l (pushes g s) → (c : CallTree) × (call_of l ≡ Some c) × (g ≡ c.callee)
+pushes_by_call (calls c) g s fit = (c, refl, fit)
+pushes_by_call _ g s fit = absurd fit
+
+-- and the top frame goes by an exit alone, which isn't that of `#start`
+pub pops_by_exit : (l : LabelTree) (r : Option ℤ) (s : Store) → Fits l (pops r s) → (rule : EndRule) × (l ≡ exits rule) × (rule ≢ Start)
+pops_by_exit (exits rule) r s fit = (rule, refl, fit)
+pops_by_exit _ r s fit = absurd fit

@@ -5,15 +5,15 @@ use Rattle.std.specs.Ordering.{int_eq}
 use Rattle.std.proofs.lemmas.List.Elements.{All-nil}
 use Rattle.csub_semantics.specs.declared.label.EndRule.{EndRule}
 use Rattle.csub_semantics.specs.Types.{Name}
-use Rattle.csub_semantics.specs.Labels.{exits, calls, CallTree, Initial, PointLabel}
+use Rattle.csub_semantics.specs.Labels.{exits, CallTree, call_of, Initial, PointLabel}
 use Rattle.csub_semantics.specs.Syntax.{FunctionTree, ProgramTree}
 use Rattle.csub_semantics.specs.Points.{PointTree, entry, exit, ExitTree, on_case, on_default}
 use Rattle.csub_semantics.specs.Successors.{Way, Node}
 use Rattle.csub_semantics.specs.Flows.{start_name, function_nodes, function_of, node_in, node_of, way_in, way_of, labelled, flow_of}
 use Rattle.csub_core.specs.Valid.{IsValid}
 use Rattle.program_laws.specs.Flows.{entry_label, IsFlow}
-use Rattle.program_laws.proofs.Nodes.{Leads}
-use Rattle.program_laws.proofs.Standing.{IsPoint, Stands, label_at, succ_at, cases_at, point_is, fine, entry_is, callee_defined, start_defined}
+use Rattle.program_laws.proofs.LawsStanding.{IsPoint, Stands, label_at, succ_at, cases_at, point_is, node_is, entry_is, callee_defined, start_defined}
+use Rattle.program_laws.proofs.LawsWays.{AreCases, call_goes_on, exit_ends, are_cases}
 
 module _ (P : ProgramTree) (g : Name) (p : PointTree) where
   stands_or_not : Stands P g p ⊎ (node_of (function_of P g) p ≡ None)
@@ -57,26 +57,30 @@ module _ (P : ProgramTree) (g : Name) (p : PointTree) where
       pick (inr n) = let none : ◌≡◌ {A = Option PointTree} None (Some q) = sym (ap (λ o. option_map (λ (w : Way PointTree). w.to) (way_of o x)) n) ∙ e in cc
 
 module _ (P : ProgramTree) (valid : IsValid P) where
-  called : (g : Name) (p : PointTree) (l : PointLabel) (c : CallTree) → (flow_of P).label g p ≡ Some l → l.tree ≡ calls c → (flow_of P).label c.callee entry ≡ Some entry_label
+  called : (g : Name) (p : PointTree) (l : PointLabel) (c : CallTree) → (flow_of P).label g p ≡ Some l → call_of l.tree ≡ Some c → (flow_of P).label c.callee entry ≡ Some entry_label
   called g p l c e is =
       let h = labelled_at P g p l e in
-      let label : h.stands.node.label ≡ calls c = ap (λ (m : PointLabel). m.tree) h.is ∙ is in
-      let leads = subst (λ t. Leads (IsPoint (function_nodes h.stands.function)) P h.stands.function h.stands.node.point t h.stands.node.ways) label (fine P g p valid h.stands).leads in
+      let n = h.stands.node in
+      let label : call_of n.label ≡ Some c = ap (λ (m : PointLabel). call_of m.tree) h.is ∙ is in
+      let leads = call_goes_on P h.stands.function (IsPoint (function_nodes h.stands.function)) n.point n.label n.ways c (node_is P g p valid h.stands) label in
       entry_is P c.callee (callee_defined P c.callee c leads.0)
 
   exited : (g : Name) (p : PointTree) (l : PointLabel) (rule : EndRule) → (flow_of P).label g p ≡ Some l → l.tree ≡ exits rule → p ≡ exit
   exited g p l rule e is =
       let h = labelled_at P g p l e in
-      let label : h.stands.node.label ≡ exits rule = ap (λ (m : PointLabel). m.tree) h.is ∙ is in
-      let leads = subst (λ t. Leads (IsPoint (function_nodes h.stands.function)) P h.stands.function h.stands.node.point t h.stands.node.ways) label (fine P g p valid h.stands).leads in
-      sym (point_is P g p valid h.stands) ∙ leads.0
+      let n = h.stands.node in
+      let label : n.label ≡ exits rule = ap (λ (m : PointLabel). m.tree) h.is ∙ is in
+      sym (point_is P g p valid h.stands) ∙ (exit_ends P h.stands.function (IsPoint (function_nodes h.stands.function)) n.point n.label n.ways rule (node_is P g p valid h.stands) label).0
+
+  cased_at : (g : Name) (p : PointTree) (s : Stands P g p) → AreCases s.node.ways
+  cased_at g p s = are_cases P s.function (IsPoint (function_nodes s.function)) s.node.point s.node.label s.node.ways (node_is P g p valid s)
 
   pub is_flow : IsFlow (flow_of P)
   is_flow = record {
     starts = entry_is P start_name (start_defined P valid.start);
     called = called;
     leaves = exited;
-    cased = λ g p q v e. let h = leaving_at P g p (on_case v) q e in subst (λ vs. IsTrue (list_any (λ w. int_eq w v) vs)) (sym (cases_at P g p h.stands)) ((fine P g p valid h.stands).cases.cased v h.along h.is);
-    defaulted = λ g p q vs e. let h = leaving_at P g p (on_default vs) q e in (fine P g p valid h.stands).cases.defaulted vs h.along h.is ∙ sym (cases_at P g p h.stands);
+    cased = λ g p q v e. let h = leaving_at P g p (on_case v) q e in subst (λ vs. IsTrue (list_any (λ w. int_eq w v) vs)) (sym (cases_at P g p h.stands)) ((cased_at g p h.stands).cased v h.along h.is);
+    defaulted = λ g p q vs e. let h = leaving_at P g p (on_default vs) q e in (cased_at g p h.stands).defaulted vs h.along h.is ∙ sym (cases_at P g p h.stands);
     named = λ g p l e. subst (λ (m : PointLabel). All (λ (i : Initial). (flow_of P).initial i.name ≡ Some i.contents) m.globals) (labelled_at P g p l e).is (All-nil (λ (i : Initial). (flow_of P).initial i.name ≡ Some i.contents));
   }

@@ -10,9 +10,9 @@ use Rattle.csub_semantics.specs.Successors.{Way, Node, way, enter_list}
 use Rattle.csub_semantics.specs.Flows.{name_eq, start_name, to_exit, function_nodes, function_of, node_in, node_of, way_in, way_of, cases_in, cases_of, labelled, flow_of}
 use Rattle.csub_core.specs.Valid.{IsDefinedAs, AreStmts, no_loop, BeginsWithStart, IsValid}
 use Rattle.program_laws.specs.Flows.{entry_label}
-use Rattle.program_laws.proofs.Lists.{each_weaker, found_each}
-use Rattle.program_laws.proofs.Names.{same_name, same_point, point_itself}
-use Rattle.program_laws.proofs.Nodes.{LeadsBy, IsFine, function_fine}
+use Rattle.program_laws.proofs.LawsLists.{each_weaker, found_each}
+use Rattle.program_laws.proofs.LawsNames.{same_name, same_point, point_itself}
+use Rattle.program_laws.proofs.LawsNodes.{IsNode, LeadsBy, function_are}
 
 -- a point is found in a list
 pub record IsPoint (ns : List (Node PointTree)) (p : PointTree) : Type 0 where
@@ -27,7 +27,7 @@ one_more n ns p h = pick (point_eq n.point p) refl
     pick false e = record { node = h.node; found = ap (λ b. cond b (Some n) (node_in ns p)) e ∙ h.found }
 
 -- each point of a list is found there
-each_found : (ns : List (Node PointTree)) → AllByRecursion (λ (n : Node PointTree). IsPoint ns n.point) ns
+pub each_found : (ns : List (Node PointTree)) → AllByRecursion (λ (n : Node PointTree). IsPoint ns n.point) ns
 each_found [] = tt
 each_found (n ∷ ns) = (record { node = n; found = ap (λ b. cond b (Some n) (node_in ns n.point)) (point_itself n.point) }, each_weaker (λ (m : Node PointTree). IsPoint ns m.point) (λ (m : Node PointTree). IsPoint (n ∷ ns) m.point) (λ m h. one_more n ns m.point h) ns (each_found ns))
 
@@ -69,11 +69,12 @@ module _ (P : ProgramTree) (g : Name) (p : PointTree) where
     pub point_is : (s : Stands P g p) → s.node.point ≡ p
     point_is s = same_point s.node.point p (found_each (λ (n : Node PointTree). point_eq n.point p) (λ (n : Node PointTree). IsPoint (function_nodes s.function) n.point) (function_nodes s.function) s.node s.found (each_found (function_nodes s.function))).1
 
-    pub fine : (s : Stands P g p) → IsFine (IsPoint (function_nodes s.function)) P s.function s.node
-    fine s =
-        let whole = (found_each (λ (f : FunctionTree). name_eq f.name g) HasValidBody P s.function s.defined bodies).0 in
-        let each = function_fine (IsPoint (function_nodes s.function)) P s.function whole (each_found (function_nodes s.function)) in
-        (found_each (λ (n : Node PointTree). point_eq n.point p) (IsFine (IsPoint (function_nodes s.function)) P s.function) (function_nodes s.function) s.node s.found each).0
+    -- what the point may be
+    pub node_is : (s : Stands P g p) → IsNode P s.function (IsPoint (function_nodes s.function)) s.node.point s.node.label s.node.ways
+    node_is s =
+        let body = (found_each (λ (f : FunctionTree). name_eq f.name g) HasValidBody P s.function s.defined bodies).0 in
+        let each = function_are (IsPoint (function_nodes s.function)) P s.function body (each_found (function_nodes s.function)) in
+        (found_each (λ (n : Node PointTree). point_eq n.point p) (λ n. IsNode P s.function (IsPoint (function_nodes s.function)) n.point n.label n.ways) (function_nodes s.function) s.node s.found each).0
 
 abbrev entry_node : FunctionTree → Node PointTree
 entry_node f = record { point = entry; label = enters; span = f.span; ways = way next (enter_list f.body 0 at to_exit) ∷ [] }

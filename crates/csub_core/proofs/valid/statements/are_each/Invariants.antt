@@ -2,7 +2,7 @@ use Rattle.std.proofs.Common.{ℕ, ◌<◌, map, get_or}
 use Rattle.csub_semantics.specs.declared.function.RPart.{RPart}
 use Rattle.csub_semantics.specs.Syntax.{part_tree, function_tree}
 use Rattle.csub_core.specs.Valid.{IsPart}
-use Rattle.csub_core.proofs.valid.statements.are_parts.Given as goal
+use Rattle.csub_core.proofs.valid.statements.are_each.Given as goal
 
 abbrev pub invariant-loop-part : goal.invariant-loop-part
 invariant-loop-part l =

@@ -1,0 +1,279 @@
+-- What a point of a valid program may be: the entry, the exit, a test, or a stage that control leaves along Next alone.
+use Rattle.std.proofs.Common.{◌≡◌, ℕ, ◌+◌, List, [], ◌∷◌, ◌++◌, length, Some, All, IsTrue}
+use Rattle.std.specs.List.{AllByRecursion}
+use Rattle.std.proofs.lemmas.List.Elements.{All-head, All-tail, All-weaker}
+use Rattle.csub_semantics.specs.Labels.{LabelTree, enters, exits, evaluates, initialises, returns, calls}
+use Rattle.csub_semantics.specs.Syntax.{Stage, PartTree, StmtTree, StmtTrees, ElseTree, parts, block, conditional, while_loop, do_loop, for_loop, breaks, continues, no_stmt, more_stmts, no_else, else_stmt, FunctionTree, ProgramTree}
+use Rattle.csub_semantics.specs.Points.{PointTree, entry, exit, at, ExitTree, next}
+use Rattle.csub_semantics.specs.Successors.{Way, Node, Around, way, leaving, looping, enter_part, enter_parts, enter, enter_list, enter_else, own_ways, test_ways, part_nodes, last_ways, parts_nodes, nodes, nodes_list, nodes_else}
+use Rattle.csub_semantics.specs.Flows.{end_rule, to_exit, function_nodes, way_in}
+use Rattle.csub_core.specs.declared.valid.role.Role.{Role}
+use Rattle.csub_core.specs.declared.valid.role.Role.TheVariants.{Whole, Test, Effect}
+use Rattle.csub_core.specs.declared.valid.role.Targets.{Targets}
+use Rattle.csub_core.specs.Valid.{no_loop, in_loop, Scope, scope_of, IsLast, IsEarlier, AreStages, IsPart, IsStmt, AreStmts, IsElse}
+use Rattle.program_laws.proofs.LawsLists.{each_append, each_left, each_right}
+
+-- validity lets a label stand last in a part with a role
+pub record MayStand (P : ProgramTree) (f : FunctionTree) (role : Role) (l : LabelTree) : Type 0 where
+  pub scope : Scope
+  pub stage : ℕ
+  pub last : IsLast P f scope role stage l
+
+-- what a point of a function may be, by its name, its label and its ways out, each of which leads to a point of T
+pub data IsNode (P : ProgramTree) (f : FunctionTree) (T : PointTree → Type 0) : PointTree → LabelTree → List (Way PointTree) → Type 0 where
+  begins : (to : PointTree) → T to → IsNode P f T entry enters (way next to ∷ [])
+  ends : IsNode P f T exit (exits (end_rule f.name f.result)) []
+  goes_on : (p : PointTree) (l : LabelTree) (to : PointTree) → MayStand P f Whole l → T to → IsNode P f T p l (way next to ∷ [])
+  tests : (p : PointTree) (l : LabelTree) (a b : PointTree) → MayStand P f Test l → T a → T b → IsNode P f T p l (test_ways a b)
+
+-- there is a way out along x, and it leads to a point of T
+abbrev pub LeadsBy : (PointTree → Type 0) → ExitTree → List (Way PointTree) → Type 0
+LeadsBy T x ws = (w : Way PointTree) × (way_in ws x ≡ Some w) × T w.to
+
+-- how the points inside a statement are named: by path, part and stage
+abbrev Naming : Type 0
+Naming = List ℕ → ℕ → ℕ → PointTree
+
+-- the points to which ways may lead
+module _ (T : PointTree → Type 0) where
+  abbrev InT : Node PointTree → Type 0
+  InT n = T n.point
+
+  abbrev pub Among : List (Node PointTree) → Type 0
+  Among ns = AllByRecursion InT ns
+
+  -- each part of a statement leads to points that are among those of the statement, or past its end
+  first_point : (s : Stage) (rest : PartTree) (k : ℕ) (name : ℕ → PointTree) (ways : List (Way PointTree)) → Among (part_nodes (s ∷ rest) k name ways) → T (name k)
+  first_point s [] k name ways h = h.0
+  first_point s (t ∷ rest) k name ways h = h.0
+
+  parts_begin : (ps : List PartTree) (i : ℕ) (name : Naming) (around : Around PointTree) → T around.leave → Among (parts_nodes ps i name around) → T (enter_parts ps i name around.leave)
+  parts_begin [] i name around out h = out
+  parts_begin ([] ∷ rest) i name around out h = parts_begin rest (i + 1) name around out h
+  parts_begin ((s ∷ more) ∷ rest) i name around out h =
+      let past = enter_parts rest (i + 1) name around.leave in
+      let ways = last_ways (s ∷ more) past around.returned in
+      first_point s more 0 (λ k. name [] i k) ways (each_left InT (part_nodes (s ∷ more) 0 (λ k. name [] i k) ways) (parts_nodes rest (i + 1) name around) h)
+
+  part_begins : (p : PartTree) (i : ℕ) (name : Naming) (past : PointTree) (ways : List (Way PointTree)) → T past → Among (part_nodes p 0 (λ k. name [] i k) ways) → T (enter_part p i name past)
+  part_begins [] i name past ways out h = out
+  part_begins (s ∷ rest) i name past ways out h = first_point s rest 0 (λ k. name [] i k) ways h
+
+  record Round (to : Targets) (around : Around PointTree) : Type 0 where
+    leave_in : T around.leave
+    returned_in : T around.returned
+    broken_in : IsTrue to.of_break → T around.broken
+    continued_in : IsTrue to.of_continue → T around.continued
+
+  looped : (to : Targets) (around : Around PointTree) (onward : PointTree) → T onward → Round to around → Round in_loop (looping onward around)
+  looped to around onward h r = record { leave_in = h; returned_in = r.returned_in; broken_in = λ e. r.leave_in; continued_in = λ e. h }
+
+  left_to : (to : Targets) (around : Around PointTree) (onward : PointTree) → T onward → Round to around → Round to (leaving onward around)
+  left_to to around onward h r = record { leave_in = h; returned_in = r.returned_in; broken_in = r.broken_in; continued_in = r.continued_in }
+
+  module _ (P : ProgramTree) (f : FunctionTree) where
+    abbrev Holds : Node PointTree → Type 0
+    Holds n = IsNode P f T n.point n.label n.ways
+
+    abbrev pub AreNodes : List (Node PointTree) → Type 0
+    AreNodes ns = AllByRecursion Holds ns
+
+    -- the labels that may stand before the last of a part, last in a whole part, and last in a test
+    earlier_is : (sc : Scope) (j : ℕ) (p to : PointTree) (l : LabelTree) → IsEarlier P f sc j l → T to → IsNode P f T p l (way next to ∷ [])
+    earlier_is sc j p to (calls c) h out = goes_on p (calls c) to (record { scope = sc; stage = j; last = h }) out
+    earlier_is sc j p to _ h out = absurd h
+
+    own_is : (sc : Scope) (j : ℕ) (p past returned : PointTree) (l : LabelTree) → IsLast P f sc Whole j l → T past → T returned → IsNode P f T p l (own_ways l past returned)
+    own_is sc j p past returned (returns answer) h out back = goes_on p (returns answer) returned (record { scope = sc; stage = j; last = h }) back
+    own_is sc j p past returned l h out back = goes_on p l past (record { scope = sc; stage = j; last = h }) out
+
+    -- and so the points of a part, of a statement and of a list
+    whole_are : (sc : Scope) (ps : PartTree) (j k : ℕ) (name : ℕ → PointTree) (past returned : PointTree) → AreStages P f sc Whole j ps → T past → T returned → Among (part_nodes ps k name (last_ways ps past returned)) → AreNodes (part_nodes ps k name (last_ways ps past returned))
+    whole_are sc [] j k name past returned h out back all = tt
+    whole_are sc (s ∷ []) j k name past returned h out back all = (own_is sc j (name k) past returned s.label h out back, tt)
+    whole_are sc (s ∷ t ∷ rest) j k name past returned h out back all = (
+      earlier_is sc j (name k) (name (k + 1)) s.label h.0 (first_point t rest (k + 1) name (last_ways (t ∷ rest) past returned) all.1),
+      whole_are sc (t ∷ rest) (j + 1) (k + 1) name past returned h.1 out back all.1,
+    )
+
+    test_are : (sc : Scope) (ps : PartTree) (j k : ℕ) (name : ℕ → PointTree) (a b : PointTree) → AreStages P f sc Test j ps → T a → T b → Among (part_nodes ps k name (test_ways a b)) → AreNodes (part_nodes ps k name (test_ways a b))
+    test_are sc [] j k name a b h out back all = tt
+    test_are sc (s ∷ []) j k name a b h out back all = (tests (name k) s.label a b (record { scope = sc; stage = j; last = h }) out back, tt)
+    test_are sc (s ∷ t ∷ rest) j k name a b h out back all = (
+      earlier_is sc j (name k) (name (k + 1)) s.label h.0 (first_point t rest (k + 1) name (test_ways a b) all.1),
+      test_are sc (t ∷ rest) (j + 1) (k + 1) name a b h.1 out back all.1,
+    )
+
+    parts_are : (ps : List PartTree) (i : ℕ) (name : Naming) (around : Around PointTree) → All (λ p. IsPart P f Whole p) ps → T around.leave → T around.returned → Among (parts_nodes ps i name around) → AreNodes (parts_nodes ps i name around)
+    parts_are [] i name around h out back all = tt
+    parts_are (p ∷ rest) i name around h out back all =
+        let past = enter_parts rest (i + 1) name around.leave in
+        let here = part_nodes p 0 (λ k. name [] i k) (last_ways p past around.returned) in
+        let below = parts_nodes rest (i + 1) name around in
+        let later = each_right InT here below all in
+        each_append Holds here below
+        (whole_are (scope_of f p) p 1 0 (λ k. name [] i k) past around.returned (All-head (λ q. IsPart P f Whole q) p rest h) (parts_begin rest (i + 1) name around out later) back (each_left InT here below all))
+        (parts_are rest (i + 1) name around (All-tail (λ q. IsPart P f Whole q) p rest h) out back later)
+
+    for_parts : (first third : List PartTree) (p : PartTree) (s : StmtTree) (name : Naming) (around : Around PointTree) → T around.leave → Among (nodes (for_loop first p third s) name around) → T (enter_part p (length first) name around.leave)
+    for_parts first third p s name around out all =
+        let m = length first in
+        let test = enter_part p m name around.leave in
+        let inside = looping (enter_parts third (m + 1) name test) around in
+        let ways = test_ways (enter s (λ q. name (0 ∷ q)) inside) around.leave in
+        let one = parts_nodes first 0 name (leaving test around) in
+        let two = part_nodes p 0 (λ k. name [] m k) ways in
+        let rest = parts_nodes third (m + 1) name (leaving test around) ++ nodes s (λ q. name (0 ∷ q)) inside in
+        part_begins p m name around.leave ways out (each_left InT two rest (each_right InT one (two ++ rest) all))
+
+    mutual
+      stmt_begins : (s : StmtTree) (to : Targets) (name : Naming) (around : Around PointTree) → IsStmt P f to s → Round to around → Among (nodes s name around) → T (enter s name around)
+      stmt_begins (parts ps) to name around h r all = parts_begin ps 0 name around r.leave_in all
+      stmt_begins (block stmts) to name around h r all = list_begins stmts 0 to name around h.1 r all
+      stmt_begins (conditional p t e) to name around h r all =
+          let ways = test_ways (enter t (λ q. name (0 ∷ q)) around) (enter_else e (λ q. name (1 ∷ q)) around) in
+          part_begins p 0 name around.leave ways r.leave_in (each_left InT (part_nodes p 0 (λ k. name [] 0 k) ways) (nodes t (λ q. name (0 ∷ q)) around ++ nodes_else e (λ q. name (1 ∷ q)) around) all)
+      stmt_begins (while_loop p s) to name around h r all =
+          let inside = looping (enter_part p 0 name around.leave) around in
+          let ways = test_ways (enter s (λ q. name (0 ∷ q)) inside) around.leave in
+          part_begins p 0 name around.leave ways r.leave_in (each_left InT (part_nodes p 0 (λ k. name [] 0 k) ways) (nodes s (λ q. name (0 ∷ q)) inside) all)
+      stmt_begins (do_loop s p) to name around h r all =
+          let onward = enter_part p 0 name around.leave in
+          let inside = looping onward around in
+          let here = nodes s (λ q. name (0 ∷ q)) inside in
+          let ways = test_ways (enter s (λ q. name (0 ∷ q)) inside) around.leave in
+          let below = part_nodes p 0 (λ k. name [] 0 k) ways in
+          stmt_begins s in_loop (λ q. name (0 ∷ q)) inside h.0 (looped to around onward (part_begins p 0 name around.leave ways r.leave_in (each_right InT here below all)) r) (each_left InT here below all)
+      stmt_begins (for_loop first p third s) to name around h r all =
+          let m = length first in
+          let test = enter_part p m name around.leave in
+          let inside = looping (enter_parts third (m + 1) name test) around in
+          let ways = test_ways (enter s (λ q. name (0 ∷ q)) inside) around.leave in
+          let one = parts_nodes first 0 name (leaving test around) in
+          let rest = part_nodes p 0 (λ k. name [] m k) ways ++ (parts_nodes third (m + 1) name (leaving test around) ++ nodes s (λ q. name (0 ∷ q)) inside) in
+          parts_begin first 0 name (leaving test around) (for_parts first third p s name around r.leave_in all) (each_left InT one rest all)
+      stmt_begins breaks to name around h r all = r.broken_in h
+      stmt_begins continues to name around h r all = r.continued_in h
+
+      list_begins : (stmts : StmtTrees) (i : ℕ) (to : Targets) (name : Naming) (around : Around PointTree) → AreStmts P f to stmts → Round to around → Among (nodes_list stmts i name around) → T (enter_list stmts i name around)
+      list_begins no_stmt i to name around h r all = r.leave_in
+      list_begins (more_stmts s rest) i to name around h r all =
+          let onward = enter_list rest (i + 1) name around in
+          let past = leaving onward around in
+          let here = nodes s (λ q. name (i ∷ q)) past in
+          let below = nodes_list rest (i + 1) name around in
+          stmt_begins s to (λ q. name (i ∷ q)) past h.0 (left_to to around onward (list_begins rest (i + 1) to name around h.1 r (each_right InT here below all)) r) (each_left InT here below all)
+
+    else_begins : (e : ElseTree) (to : Targets) (name : Naming) (around : Around PointTree) → IsElse P f to e → Round to around → Among (nodes_else e name around) → T (enter_else e name around)
+    else_begins no_else to name around h r all = r.leave_in
+    else_begins (else_stmt s) to name around h r all = stmt_begins s to name around h r all
+
+    -- what is evaluated for its effects might be a whole part
+    effect_whole : (sc : Scope) (j : ℕ) (l : LabelTree) → IsLast P f sc Effect j l → IsLast P f sc Whole j l
+    effect_whole sc j (evaluates e) h = h
+    effect_whole sc j (initialises owner t init) h = h
+    effect_whole sc j (calls c) h = h
+    effect_whole sc j _ h = absurd h
+
+    effect_stages : (sc : Scope) (ps : PartTree) (j : ℕ) → AreStages P f sc Effect j ps → AreStages P f sc Whole j ps
+    effect_stages sc [] j h = absurd h
+    effect_stages sc (s ∷ []) j h = effect_whole sc j s.label h
+    effect_stages sc (s ∷ t ∷ rest) j h = (h.0, effect_stages sc (t ∷ rest) (j + 1) h.1)
+
+    whole_parts : (ps : List PartTree) → All (λ p. IsPart P f Effect p) ps → All (λ p. IsPart P f Whole p) ps
+    whole_parts ps h = All-weaker (λ p. IsPart P f Effect p) (λ p. IsPart P f Whole p) (λ p. effect_stages (scope_of f p) p 1) ps h
+
+    mutual
+      stmt_are : (s : StmtTree) (to : Targets) (name : Naming) (around : Around PointTree) → IsStmt P f to s → Round to around → Among (nodes s name around) → AreNodes (nodes s name around)
+      stmt_are (parts ps) to name around h r all = parts_are ps 0 name around h.each r.leave_in r.returned_in all
+      stmt_are (block stmts) to name around h r all = list_are stmts 0 to name around h.1 r all
+      stmt_are (conditional p t e) to name around h r all =
+          let when_true = enter t (λ q. name (0 ∷ q)) around in
+          let when_false = enter_else e (λ q. name (1 ∷ q)) around in
+          let here = part_nodes p 0 (λ k. name [] 0 k) (test_ways when_true when_false) in
+          let first = nodes t (λ q. name (0 ∷ q)) around in
+          let second = nodes_else e (λ q. name (1 ∷ q)) around in
+          let both = each_right InT here (first ++ second) all in
+          let left = each_left InT first second both in
+          let right = each_right InT first second both in
+          each_append Holds here (first ++ second)
+          (test_are (scope_of f p) p 1 0 (λ k. name [] 0 k) when_true when_false h.0 (stmt_begins t to (λ q. name (0 ∷ q)) around h.1 r left) (else_begins e to (λ q. name (1 ∷ q)) around h.2 r right) (each_left InT here (first ++ second) all))
+          (each_append Holds first second (stmt_are t to (λ q. name (0 ∷ q)) around h.1 r left) (else_are e to (λ q. name (1 ∷ q)) around h.2 r right))
+      stmt_are (while_loop p s) to name around h r all =
+          let onward = enter_part p 0 name around.leave in
+          let inside = looping onward around in
+          let ways = test_ways (enter s (λ q. name (0 ∷ q)) inside) around.leave in
+          let here = part_nodes p 0 (λ k. name [] 0 k) ways in
+          let below = nodes s (λ q. name (0 ∷ q)) inside in
+          let left = each_left InT here below all in
+          let right = each_right InT here below all in
+          let round = looped to around onward (part_begins p 0 name around.leave ways r.leave_in left) r in
+          each_append Holds here below
+          (test_are (scope_of f p) p 1 0 (λ k. name [] 0 k) (enter s (λ q. name (0 ∷ q)) inside) around.leave h.0 (stmt_begins s in_loop (λ q. name (0 ∷ q)) inside h.1 round right) r.leave_in left)
+          (stmt_are s in_loop (λ q. name (0 ∷ q)) inside h.1 round right)
+      stmt_are (do_loop s p) to name around h r all =
+          let onward = enter_part p 0 name around.leave in
+          let inside = looping onward around in
+          let ways = test_ways (enter s (λ q. name (0 ∷ q)) inside) around.leave in
+          let here = nodes s (λ q. name (0 ∷ q)) inside in
+          let below = part_nodes p 0 (λ k. name [] 0 k) ways in
+          let left = each_left InT here below all in
+          let right = each_right InT here below all in
+          let round = looped to around onward (part_begins p 0 name around.leave ways r.leave_in right) r in
+          each_append Holds here below
+          (stmt_are s in_loop (λ q. name (0 ∷ q)) inside h.0 round left)
+          (test_are (scope_of f p) p 1 0 (λ k. name [] 0 k) (enter s (λ q. name (0 ∷ q)) inside) around.leave h.1 (stmt_begins s in_loop (λ q. name (0 ∷ q)) inside h.0 round left) r.leave_in right)
+      stmt_are (for_loop first p third s) to name around h r all =
+          let m = length first in
+          let test = enter_part p m name around.leave in
+          let onward = enter_parts third (m + 1) name test in
+          let inside = looping onward around in
+          let ways = test_ways (enter s (λ q. name (0 ∷ q)) inside) around.leave in
+          let one = parts_nodes first 0 name (leaving test around) in
+          let two = part_nodes p 0 (λ k. name [] m k) ways in
+          let three = parts_nodes third (m + 1) name (leaving test around) in
+          let body = nodes s (λ q. name (0 ∷ q)) inside in
+          let rest = each_right InT one (two ++ (three ++ body)) all in
+          let last = each_right InT two (three ++ body) rest in
+          let in_three = each_left InT three body last in
+          let in_body = each_right InT three body last in
+          let test_in = for_parts first third p s name around r.leave_in all in
+          let round = looped to around onward (parts_begin third (m + 1) name (leaving test around) test_in in_three) r in
+          each_append Holds one (two ++ (three ++ body))
+          (parts_are first 0 name (leaving test around) (whole_parts first h.0.begins.each) test_in r.returned_in (each_left InT one (two ++ (three ++ body)) all))
+          (each_append Holds two (three ++ body)
+          (test_are (scope_of f p) p 1 0 (λ k. name [] m k) (enter s (λ q. name (0 ∷ q)) inside) around.leave h.0.tests (stmt_begins s in_loop (λ q. name (0 ∷ q)) inside h.1 round in_body) r.leave_in (each_left InT two (three ++ body) rest))
+          (each_append Holds three body
+          (parts_are third (m + 1) name (leaving test around) (whole_parts third h.0.steps) test_in r.returned_in in_three)
+          (stmt_are s in_loop (λ q. name (0 ∷ q)) inside h.1 round in_body)))
+      stmt_are breaks to name around h r all = tt
+      stmt_are continues to name around h r all = tt
+
+      list_are : (stmts : StmtTrees) (i : ℕ) (to : Targets) (name : Naming) (around : Around PointTree) → AreStmts P f to stmts → Round to around → Among (nodes_list stmts i name around) → AreNodes (nodes_list stmts i name around)
+      list_are no_stmt i to name around h r all = tt
+      list_are (more_stmts s rest) i to name around h r all =
+          let onward = enter_list rest (i + 1) name around in
+          let past = leaving onward around in
+          let here = nodes s (λ q. name (i ∷ q)) past in
+          let below = nodes_list rest (i + 1) name around in
+          let later = each_right InT here below all in
+          each_append Holds here below
+          (stmt_are s to (λ q. name (i ∷ q)) past h.0 (left_to to around onward (list_begins rest (i + 1) to name around h.1 r later) r) (each_left InT here below all))
+          (list_are rest (i + 1) to name around h.1 r later)
+
+      else_are : (e : ElseTree) (to : Targets) (name : Naming) (around : Around PointTree) → IsElse P f to e → Round to around → Among (nodes_else e name around) → AreNodes (nodes_else e name around)
+      else_are no_else to name around h r all = tt
+      else_are (else_stmt s) to name around h r all = stmt_are s to name around h r all
+
+    -- all points of a valid function, if ways may lead to these
+    pub function_are : AreStmts P f no_loop f.body → Among (function_nodes f) → AreNodes (function_nodes f)
+    function_are h all =
+        let body = nodes_list f.body 0 at to_exit in
+        let last : Node PointTree = record { point = exit; label = exits (end_rule f.name f.result); span = f.span; ways = [] } in
+        let out = (each_right InT body (last ∷ []) all.1).0 in
+        let round : Round no_loop to_exit = record { leave_in = out; returned_in = out; broken_in = λ e. out; continued_in = λ e. out } in
+        let inside = each_left InT body (last ∷ []) all.1 in
+        let onward = enter_list f.body 0 at to_exit in (
+          begins onward (list_begins f.body 0 no_loop at to_exit h round inside),
+          each_append Holds body (last ∷ []) (list_are f.body 0 no_loop at to_exit h round inside) (ends, tt),
+        )
