@@ -37,8 +37,9 @@ impl Program {
     /// is stands in `specs/Valid`.
     ///
     /// The limits on functions, points and edges are looked at first. Beside a few passes over the program this takes a
-    /// comparison of names for each two functions, and for each call and each function: at most some five million in
-    /// all. It takes no memory.
+    /// comparison of names for each two functions, for each two objects of a function, for each call and function, and
+    /// for each use of an object and object of its function: up to some 8 million for a function with 4,096 cells. It
+    /// takes no memory.
     pub fn make(functions: Vec<Function>) -> Option<Program>
         ensures exact { IsSome result ↔ IsValid (map function_tree functions.items) }
         ensures value { IfSome result (λ program. program ≡ functions.items) }

@@ -35,7 +35,8 @@ const MOST_PARAMETERS: usize = 16;
 const MOST_CELLS: usize = 4096;
 
 /// Whether the functions are a valid program. Beside a few passes over the program this takes a comparison of names for
-/// each two functions, and for each call and each function: at most some five million in all.
+/// each two functions, for each two objects of a function, for each call and function, and for each use of an object
+/// and object of its function.
 pub(crate) fn is_valid(functions: &[Function]) -> bool
     ensures { IsTrue result ↔ IsValid (map function_tree functions.now) }
 {
