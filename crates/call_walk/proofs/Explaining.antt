@@ -61,12 +61,12 @@ module _ (P P' : ProgramTree) where
       let n = (each at from stands).named in
       let named = next_named from (Over at back) f p p' next pair n is t in
       let one : over'.call ≡ from = same_Some over'.call from (sym over'.stands ∙ stands) in
-      let same = one_at P P' from.old from.new over'.function f over'.point over'.other p p' (subst (λ (d : Fact). AreAt P P' d.old d.new over'.function over'.point over'.other) one over'.at) is in
-      let called : CallsAt (flow_of P) f p over'.callee = subst₂ (λ g q. CallsAt (flow_of P) g q over'.callee) same.function same.old over'.calls in
+      let same = one_at P P' from.old from.new over'.comes.function f over'.comes.point over'.comes.other p p' (subst (λ (d : Fact). AreAt P P' d.old d.new over'.comes.function over'.comes.point over'.comes.other) one over'.comes.at) is in
+      let called : CallsAt (flow_of P) f p over'.comes.callee = subst₂ (λ g q. CallsAt (flow_of P) g q over'.comes.callee) same.function same.old over'.comes.calls in
       record {
         named = named;
         justified = reasoned (named_facts P P' facts) c named (over at back)
-            (p, p', over'.callee, get_named P P' facts at from f p p' stands n is, get_named P P' facts back over'.back over'.callee exit exit over'.stands' (each back over'.back over'.stands').named over'.at', called, t.both);
+            (p, p', over'.comes.callee, get_named P P' facts at from f p p' stands n is, get_named P P' facts back over'.back over'.comes.callee exit exit over'.stands' (each back over'.back over'.stands').named over'.comes.exits, called, t.both);
         along = tt;
       }
 

@@ -9,14 +9,14 @@ use Rattle.csub_semantics.specs.Points.{PointTree, entry, exit, ExitTree, next}
 use Rattle.csub_semantics.specs.Syntax.{ProgramTree}
 use Rattle.csub_semantics.specs.Flows.{flow_of, start_name}
 use Rattle.csub_semantics.specs.Numbers.{site, site_at}
-use Rattle.csub_semantics.specs.Books.{Together, CallsAt, IsNoCallAt, Reached, SameLabel}
+use Rattle.csub_semantics.specs.Books.{IsNoCallAt, Reached, SameLabel}
 use Rattle.csub_core.specs.Valid.{IsValid}
 use Rattle.flow_graph.specs.Graph.{Tables, IsGraphOf, point_count}
 use Rattle.call_walk.specs.declared.fact.Fact.{Fact}
 use Rattle.call_walk.specs.declared.ask.Callee.{Callee}
 use Rattle.call_walk.specs.declared.pairs.Pairs.{Pairs}
 use Rattle.call_walk.specs.Walks.{IsNamed}
-use Rattle.call_walk.specs.Moments.{Lists, AreAt, HasPair, IsHeld, IsMoment, Extends, WaitsFor, AreWaiting, IsCallee, IsCalledAt, IsPassed, HoldsNext, PassesOver, IsDone, AreDone, IsFollowed, AreResumed}
+use Rattle.call_walk.specs.Moments.{Lists, AreAt, HasPair, IsHeld, IsMoment, Extends, WaitsFor, AreWaiting, IsCallee, IsCalledAt, IsPassed, HoldsNext, PassesOver, LeadsOn, ComesBackAt, IsDone, AreDone, IsFollowed, AreResumed}
 use Rattle.call_walk.proofs.ReachedClosed.{one_callee, calls_or_not}
 use Rattle.call_walk.proofs.Reaching.{every_reached}
 use Rattle.call_walk.proofs.Indexed.{get_extends, get_back, extends_more, extends_long, lists_long, lists_cases, lists_none}
@@ -72,15 +72,17 @@ module _ (g g' : Tables) (pairs : Pairs) (ok : IsMoment g g' pairs) (P P' : Prog
       record {
         call = c;
         stands = stands;
-        function = n.name;
-        point = n.point;
-        other = n.other;
-        at = at_named P P' c n;
-        callee = is.name;
-        calls = is.calls;
         back = d;
         stands' = at;
-        at' = record { old = ap (site_at P) o ∙ is.numbers.exits.old; new = ap (site_at P') n' ∙ is.numbers.exits.new };
+        comes = record {
+          function = n.name;
+          point = n.point;
+          other = n.other;
+          at = at_named P P' c n;
+          callee = is.name;
+          calls = is.calls;
+          exits = record { old = ap (site_at P) o ∙ is.numbers.exits.old; new = ap (site_at P') n' ∙ is.numbers.exits.new };
+        };
       }
 
 -- the pair of a function's numbers
@@ -104,23 +106,26 @@ held_pair P P' facts n n' f p p' valid valid' at h = record {
 -- a call that was entered
 pub entered : (P P' : ProgramTree) → IsValid P → (before after : List Fact) (waiting : List (List ℕ)) (at : ℕ) (c : Fact) (k : Callee) → ((f : Name) (p p' : PointTree) → AreAt P P' c.old c.new f p p' → IsCallee P P' f p k) → HasPair before k.entry.old k.entry.new → Extends before after → Lists waiting k.exit.old at → IsPassed P P' after c → IsFollowed P P' after waiting at c
 entered P P' valid before after waiting at c k called has grows listed passed = record {
-  steps = λ x f p p' q q' is plain both. absurd (calls_or_not (flow_of P) f p (called f p p' is).name plain (called f p p' is).calls);
-  enters = λ f g p p' is calls. let a = called f p p' is in
-      subst (λ h. IsHeld P P' after h entry entry) (one_callee (flow_of P) f p a.name g a.calls calls)
-      (held_extends P P' grows a.name entry entry (pair_held P P' before k.entry.old k.entry.new a.name entry entry a.numbers.entries has));
-  waits = λ n f g p p' is calls exits. let a = called f p p' is in
-      let same : site_at P k.exit.old ≡ Some (site g exit) = a.numbers.exits.old ∙ ap (λ h. Some (site h exit)) (one_callee (flow_of P) f p a.name g a.calls calls) in
-      subst (λ m. Lists waiting m at) (site_one P valid k.exit.old n (site g exit) same exits) listed;
+  leads = λ f p p' is. let a = called f p p' is in record {
+    steps = λ x q q' plain both. absurd (calls_or_not (flow_of P) f p a.name plain a.calls);
+    enters = λ g calls. subst (λ h. IsHeld P P' after h entry entry) (one_callee (flow_of P) f p a.name g a.calls calls)
+        (held_extends P P' grows a.name entry entry (pair_held P P' before k.entry.old k.entry.new a.name entry entry a.numbers.entries has));
+    waits = λ n g calls exits.
+        let same : site_at P k.exit.old ≡ Some (site g exit) = a.numbers.exits.old ∙ ap (λ h. Some (site h exit)) (one_callee (flow_of P) f p a.name g a.calls calls) in
+        subst (λ m. Lists waiting m at) (site_one P valid k.exit.old n (site g exit) same exits) listed;
+  };
   overs = passed;
 }
 
 -- a fact that is no call
 pub stepped : (P P' : ProgramTree) (after : List Fact) (waiting : List (List ℕ)) (at : ℕ) (c : Fact) → ((f : Name) (p p' : PointTree) → AreAt P P' c.old c.new f p p' → IsNoCallAt (flow_of P) f p) → ((x : ExitTree) → HoldsNext P P' after c x) → IsFollowed P P' after waiting at c
 stepped P P' after waiting at c plain held = record {
-  steps = λ x f p p' q q' is none both. held x f p p' q q' is both;
-  enters = λ f g p p' is calls. absurd (calls_or_not (flow_of P) f p g (plain f p p' is) calls);
-  waits = λ n f g p p' is calls exits. absurd (calls_or_not (flow_of P) f p g (plain f p p' is) calls);
-  overs = λ m d f g p p' at' is calls is'. absurd (calls_or_not (flow_of P) f p g (plain f p p' is) calls);
+  leads = λ f p p' is. let none = plain f p p' is in record {
+    steps = λ x q q' no_call both. held x f p p' q q' is both;
+    enters = λ g calls. absurd (calls_or_not (flow_of P) f p g none calls);
+    waits = λ n g calls exits. absurd (calls_or_not (flow_of P) f p g none calls);
+  };
+  overs = λ m d at' back. absurd (calls_or_not (flow_of P) back.function back.point back.callee (plain back.function back.point back.other back.at) back.calls);
 }
 
 -- one more fact has been followed
@@ -138,54 +143,60 @@ module _ (P P' : ProgramTree) (before mid after : List Fact) (waiting waiting' :
 
   pub done_more : IsDone P P' after waiting' (at + 1)
   done_more = record {
-    steps = λ j c x f p p' q q' l e is plain t. steps_case j c x f p p' q q' l e is plain t (cases_lt j at);
-    enters = λ j c f g p p' l e is calls. enters_case j c f g p p' l e is calls (cases_lt j at);
-    waits = λ j k c f g p p' l e is calls exits. waits_case j k c f g p p' l e is calls exits (cases_lt j at);
-    overs = λ j m lj lm c d f g p p' ej em is calls is'. overs_case j m lj lm c d f g p p' ej em is calls is' (cases_lt j at) (cases_lt m at);
+    leads = λ j c f p p' l e is. leads_case j c f p p' l e is (cases_lt j at);
+    overs = λ j m c d lj lm ej em back. overs_case j m c d lj lm ej em back (cases_lt j at) (cases_lt m at);
   }
     where
-      steps_case : (j : ℕ) (c : Fact) (x : ExitTree) (f : Name) (p p' q q' : PointTree) → j < at + 1 → slice_get after j ≡ Some c → AreAt P P' c.old c.new f p p' → IsNoCallAt (flow_of P) f p → Together (flow_of P) (flow_of P') f p p' x q q' → (j < at) ⊎ (at ≤ j) → IsHeld P P' after f q q'
-      steps_case j c x f p p' q q' l e is plain t (inl h) = held_extends P P' both f q q' (done.steps j c x f p p' q q' h (earlier j c h e) is plain t)
-      steps_case j c x f p p' q q' l e is plain t (inr h) = held_extends P P' second f q q' (own.steps x f p p' q q' (subst (λ (d : Fact). AreAt P P' d.old d.new f p p') (sym (is_from j c h l e)) is) plain t)
+      leads_case : (j : ℕ) (c : Fact) (f : Name) (p p' : PointTree) → j < at + 1 → slice_get after j ≡ Some c → AreAt P P' c.old c.new f p p' → (j < at) ⊎ (at ≤ j) → LeadsOn P P' after waiting' j f p p'
+      leads_case j c f p p' l e is (inl h) =
+          let then = done.leads j c f p p' h (earlier j c h e) is in record {
+            steps = λ x q q' plain t. held_extends P P' both f q q' (then.steps x q q' plain t);
+            enters = λ g calls. held_extends P P' both g entry entry (then.enters g calls);
+            waits = λ k g calls exits. kept k j (then.waits k g calls exits);
+          }
+      leads_case j c f p p' l e is (inr h) =
+          let now = own.leads f p p' (subst (λ (d : Fact). AreAt P P' d.old d.new f p p') (sym (is_from j c h l e)) is) in
+          let same : at ≡ j = omega arith in record {
+            steps = λ x q q' plain t. held_extends P P' second f q q' (now.steps x q q' plain t);
+            enters = λ g calls. held_extends P P' second g entry entry (now.enters g calls);
+            waits = λ k g calls exits. subst (λ n. Lists waiting' k n) same (now.waits k g calls exits);
+          }
 
-      enters_case : (j : ℕ) (c : Fact) (f g : Name) (p p' : PointTree) → j < at + 1 → slice_get after j ≡ Some c → AreAt P P' c.old c.new f p p' → CallsAt (flow_of P) f p g → (j < at) ⊎ (at ≤ j) → IsHeld P P' after g entry entry
-      enters_case j c f g p p' l e is calls (inl h) = held_extends P P' both g entry entry (done.enters j c f g p p' h (earlier j c h e) is calls)
-      enters_case j c f g p p' l e is calls (inr h) = held_extends P P' second g entry entry (own.enters f g p p' (subst (λ (d : Fact). AreAt P P' d.old d.new f p p') (sym (is_from j c h l e)) is) calls)
-
-      waits_case : (j k : ℕ) (c : Fact) (f g : Name) (p p' : PointTree) → j < at + 1 → slice_get after j ≡ Some c → AreAt P P' c.old c.new f p p' → CallsAt (flow_of P) f p g → site_at P k ≡ Some (site g exit) → (j < at) ⊎ (at ≤ j) → Lists waiting' k j
-      waits_case j k c f g p p' l e is calls exits (inl h) = kept k j (done.waits j k c f g p p' h (earlier j c h e) is calls exits)
-      waits_case j k c f g p p' l e is calls exits (inr h) =
-          let same : at ≡ j = omega arith in
-          subst (λ n. Lists waiting' k n) same (own.waits k f g p p' (subst (λ (d : Fact). AreAt P P' d.old d.new f p p') (sym (is_from j c h l e)) is) calls exits)
-
-      overs_case : (j m : ℕ) → j < at + 1 → m < at + 1 → (c d : Fact) (f g : Name) (p p' : PointTree) → slice_get after j ≡ Some c → slice_get after m ≡ Some d → AreAt P P' c.old c.new f p p' → CallsAt (flow_of P) f p g → AreAt P P' d.old d.new g exit exit → (j < at) ⊎ (at ≤ j) → (m < at) ⊎ (at ≤ m) → HoldsNext P P' after c next
-      overs_case j m lj lm c d f g p p' ej em is calls is' (inl hj) (inl hm) = holds_extends P P' c next both (done.overs j m hj hm c d f g p p' (earlier j c hj ej) (earlier m d hm em) is calls is')
-      overs_case j m lj lm c d f g p p' ej em is calls is' (inl hj) (inr hm) =
-          let back = subst (λ (b : Fact). AreAt P P' b.old b.new g exit exit) (sym (is_from m d hm lm em)) is' in
-          resumed g back j c (kept from.old j (done.waits j from.old c f g p p' hj (earlier j c hj ej) is calls back.old)) ej
-      overs_case j m lj lm c d f g p p' ej em is calls is' (inr hj) hm =
+      overs_case : (j m : ℕ) (c d : Fact) → j < at + 1 → m < at + 1 → slice_get after j ≡ Some c → slice_get after m ≡ Some d → ComesBackAt P P' c d → (j < at) ⊎ (at ≤ j) → (m < at) ⊎ (at ≤ m) → HoldsNext P P' after c next
+      overs_case j m c d lj lm ej em back (inl hj) (inl hm) = holds_extends P P' c next both (done.overs j m c d hj hm (earlier j c hj ej) (earlier m d hm em) back)
+      overs_case j m c d lj lm ej em back (inl hj) (inr hm) =
+          let exits = subst (λ (b : Fact). AreAt P P' b.old b.new back.callee exit exit) (sym (is_from m d hm lm em)) back.exits in
+          let then = done.leads j c back.function back.point back.other hj (earlier j c hj ej) back.at in
+          resumed back.callee exits j c (kept from.old j (then.waits from.old back.callee back.calls exits.old)) ej
+      overs_case j m c d lj lm ej em back (inr hj) hm =
           let one = is_from j c hj lj ej in
           let there = get_extends first m d (get_back both m d (omega arith) em) in
           holds_extends P P' c next second
-          (subst (λ (b : Fact). HoldsNext P P' mid b next) one (own.overs m d f g p p' there (subst (λ (b : Fact). AreAt P P' b.old b.new f p p') (sym one) is) calls is'))
+          (subst (λ (b : Fact). HoldsNext P P' mid b next) one (own.overs m d there (subst (λ (b : Fact). ComesBackAt P P' b d) (sym one) back)))
 
 -- where all facts have been followed, every reached pair is held
 pub done_all : (P P' : ProgramTree) (facts : List Fact) (waiting : List (List ℕ)) (n : ℕ) → length facts ≤ n → IsHeld P P' facts start_name entry entry → IsDone P P' facts waiting n → (f : Name) (p p' : PointTree) → Reached (flow_of P) (flow_of P') f p p' → IsHeld P P' facts f p p'
 done_all P P' facts waiting n long starts done = every_reached (flow_of P) (flow_of P') (IsHeld P P' facts) starts
-    (λ f p p' q q' x h plain t. done.steps h.place h.fact x f p p' q q' (below h.place h.fact h.stands) h.stands h.at plain t)
-    (λ f p p' g h calls. done.enters h.place h.fact f g p p' (below h.place h.fact h.stands) h.stands h.at calls)
-    (λ f p p' q q' g h calls e t. done.overs h.place e.place (below h.place h.fact h.stands) (below e.place e.fact e.stands) h.fact e.fact f g p p' h.stands e.stands h.at calls e.at f p p' q q' h.at t)
+    (λ f p p' q q' x h plain t. (led f p p' h).steps x q q' plain t)
+    (λ f p p' g h calls. (led f p p' h).enters g calls)
+    (λ f p p' q q' g h calls e t.
+    let back : ComesBackAt P P' h.fact e.fact = record { function = f; point = p; other = p'; at = h.at; callee = g; calls = calls; exits = e.at } in
+    done.overs h.place e.place h.fact e.fact (below h.place h.fact h.stands) (below e.place e.fact e.stands) h.stands e.stands back f p p' q q' h.at t)
   where
     below : (i : ℕ) (c : Fact) → slice_get facts i ≡ Some c → i < n
     below i c e = let w = slice_get_within facts i c e in omega (arith, w)
 
+    led : (f : Name) (p p' : PointTree) (h : IsHeld P P' facts f p p') → LeadsOn P P' facts waiting h.place f p p'
+    led f p p' h = done.leads h.place h.fact f p p' (below h.place h.fact h.stands) h.stands h.at
+
 pub passed_by : (P P' : ProgramTree) (facts : List Fact) (c : Fact) → HoldsNext P P' facts c next → IsPassed P P' facts c
-passed_by P P' facts c h m d f g p p' at is calls is' = h
+passed_by P P' facts c h m d at back = h
 
 pub none_back : (P P' : ProgramTree) → IsValid P → IsValid P' → (facts : List Fact) (c : Fact) (k : Callee) → ((f : Name) (p p' : PointTree) → AreAt P P' c.old c.new f p p' → IsCallee P P' f p k) → (HasPair facts k.exit.old k.exit.new → ⊥) → IsPassed P P' facts c
-none_back P P' valid valid' facts c k called none m d f g p p' at is calls is' =
-    let a = called f p p' is in
-    let held : IsHeld P P' facts a.name exit exit = subst (λ h. IsHeld P P' facts h exit exit) (sym (one_callee (flow_of P) f p a.name g a.calls calls)) (fact_held P P' facts m d g exit exit at is') in
+none_back P P' valid valid' facts c k called none m d at back =
+    let a = called back.function back.point back.other back.at in
+    let one = one_callee (flow_of P) back.function back.point a.name back.callee a.calls back.calls in
+    let held : IsHeld P P' facts a.name exit exit = subst (λ h. IsHeld P P' facts h exit exit) (sym one) (fact_held P P' facts m d back.callee exit exit at back.exits) in
     absurd (none (held_pair P P' facts k.exit.old k.exit.new a.name exit exit valid valid' a.numbers.exits held))
 
 -- no call waits, and nothing has been followed
@@ -202,9 +213,7 @@ waiting_none g g' facts waiting c is count = record {
 pub done_none : (g g' : Tables) (facts : List Fact) (waiting : List (List ℕ)) → AreDone g g' facts waiting 0
 done_none g g' facts waiting = record {
   each = λ P P' ok ok'. record {
-    steps = λ j c x f p p' q q' l e is plain t. absurd (omega arith);
-    enters = λ j c f g p p' l e is calls. absurd (omega arith);
-    waits = λ j k c f g p p' l e is calls exits. absurd (omega arith);
-    overs = λ j m l k c d f g p p' ej em is calls is'. absurd (omega arith);
+    leads = λ j c f p p' l e is. absurd (omega arith);
+    overs = λ j m c d l k ej em back. absurd (omega arith);
   };
 }

@@ -134,26 +134,39 @@ HoldsNext P P' facts from x =
     (f : Name) (p p' q q' : PointTree) → AreAt P P' from.old from.new f p p' →
     Together (flow_of P) (flow_of P') f p p' x q q' → IsHeld P P' facts f q q'
 
+-- a fact calls a function whose exits another fact holds
+pub record ComesBackAt (P P' : ProgramTree) (c d : Fact) : Type 0 where
+  pub function : Name
+  pub point : PointTree
+  pub other : PointTree
+  pub at : AreAt P P' c.old c.new function point other
+  pub callee : Name
+  pub calls : CallsAt (flow_of P) function point callee
+  pub exits : AreAt P P' d.old d.new callee exit exit
+
 -- the call at place j may be passed over by the fact at place m, of its callee's exits
 pub record PassesOver (P P' : ProgramTree) (facts : List Fact) (j m : ℕ) : Type 0 where
   pub call : Fact
   pub stands : slice_get facts j ≡ Some call
-  pub function : Name
-  pub point : PointTree
-  pub other : PointTree
-  pub at : AreAt P P' call.old call.new function point other
-  pub callee : Name
-  pub calls : CallsAt (flow_of P) function point callee
   pub back : Fact
   pub stands' : slice_get facts m ≡ Some back
-  pub at' : AreAt P P' back.old back.new callee exit exit
+  pub comes : ComesBackAt P P' call back
+
+-- what follows by steps and by its call from a fact at place j, whose numbers are those of p and p' in f
+pub record LeadsOn (P P' : ProgramTree) (facts : List Fact) (waiting : List (List ℕ)) (j : ℕ) (f : Name) (p p' : PointTree) : Type 0 where
+  -- the successors along each way out are held, where nothing is called
+  pub steps : (x : ExitTree) (q q' : PointTree) → IsNoCallAt (flow_of P) f p
+      → Together (flow_of P) (flow_of P') f p p' x q q' → IsHeld P P' facts f q q'
+  -- the entries of a callee are held, and the fact waits for its exits
+  pub enters : (g : Name) → CallsAt (flow_of P) f p g → IsHeld P P' facts g entry entry
+  pub waits : (k : ℕ) (g : Name) → CallsAt (flow_of P) f p g → site_at P k ≡ Some (site g exit) → Lists waiting k j
 
 -- what follows from the first n facts is held
 pub record IsDone (P P' : ProgramTree) (facts : List Fact) (waiting : List (List ℕ)) (n : ℕ) : Type 0 where
-  pub steps : (j : ℕ) (c : Fact) (x : ExitTree) (f : Name) (p p' q q' : PointTree) → j < n → slice_get facts j ≡ Some c → AreAt P P' c.old c.new f p p' → IsNoCallAt (flow_of P) f p → Together (flow_of P) (flow_of P') f p p' x q q' → IsHeld P P' facts f q q'
-  pub enters : (j : ℕ) (c : Fact) (f g : Name) (p p' : PointTree) → j < n → slice_get facts j ≡ Some c → AreAt P P' c.old c.new f p p' → CallsAt (flow_of P) f p g → IsHeld P P' facts g entry entry
-  pub waits : (j k : ℕ) (c : Fact) (f g : Name) (p p' : PointTree) → j < n → slice_get facts j ≡ Some c → AreAt P P' c.old c.new f p p' → CallsAt (flow_of P) f p g → site_at P k ≡ Some (site g exit) → Lists waiting k j
-  pub overs : (j m : ℕ) → j < n → m < n → (c d : Fact) (f g : Name) (p p' : PointTree) → slice_get facts j ≡ Some c → slice_get facts m ≡ Some d → AreAt P P' c.old c.new f p p' → CallsAt (flow_of P) f p g → AreAt P P' d.old d.new g exit exit → HoldsNext P P' facts c next
+  pub leads : (j : ℕ) (c : Fact) (f : Name) (p p' : PointTree) → j < n → slice_get facts j ≡ Some c
+      → AreAt P P' c.old c.new f p p' → LeadsOn P P' facts waiting j f p p'
+  pub overs : (j m : ℕ) (c d : Fact) → j < n → m < n → slice_get facts j ≡ Some c → slice_get facts m ≡ Some d
+      → ComesBackAt P P' c d → HoldsNext P P' facts c next
 
 -- whatever programs the graphs are of
 pub record AreDone (g g' : Tables) (facts : List Fact) (waiting : List (List ℕ)) (n : ℕ) : Type 0 where
@@ -162,24 +175,23 @@ pub record AreDone (g g' : Tables) (facts : List Fact) (waiting : List (List ℕ
 -- the fact at a place stands at a call of this function
 abbrev pub IsCalledAt : Tables → Tables → List Fact → ℕ → Callee → Type 0
 IsCalledAt g g' facts at k =
-    (P P' : ProgramTree) (f : Name) (p p' : PointTree) (c : Fact) → IsGraphOf g P → IsGraphOf g' P' → slice_get facts at ≡ Some c → AreAt P P' c.old c.new f p p' → IsCallee P P' f p k
+    (P P' : ProgramTree) (f : Name) (p p' : PointTree) (c : Fact) → IsGraphOf g P → IsGraphOf g' P'
+    → slice_get facts at ≡ Some c → AreAt P P' c.old c.new f p p' → IsCallee P P' f p k
 
 -- where the exits of the callee of a fact are held, the call is passed over
 abbrev pub IsPassed : ProgramTree → ProgramTree → List Fact → Fact → Type 0
-IsPassed P P' facts c =
-    (m : ℕ) (d : Fact) (f g : Name) (p p' : PointTree) → slice_get facts m ≡ Some d → AreAt P P' c.old c.new f p p' → CallsAt (flow_of P) f p g → AreAt P P' d.old d.new g exit exit → HoldsNext P P' facts c next
+IsPassed P P' facts c = (m : ℕ) (d : Fact) → slice_get facts m ≡ Some d → ComesBackAt P P' c d → HoldsNext P P' facts c next
 
 -- what follows from one fact by steps, by its call, and by the exits of its callee that are held, is held afterwards
 pub record IsFollowed (P P' : ProgramTree) (facts : List Fact) (waiting : List (List ℕ)) (at : ℕ) (c : Fact) : Type 0 where
-  pub steps : (x : ExitTree) (f : Name) (p p' q q' : PointTree) → AreAt P P' c.old c.new f p p' → IsNoCallAt (flow_of P) f p → Together (flow_of P) (flow_of P') f p p' x q q' → IsHeld P P' facts f q q'
-  pub enters : (f g : Name) (p p' : PointTree) → AreAt P P' c.old c.new f p p' → CallsAt (flow_of P) f p g → IsHeld P P' facts g entry entry
-  pub waits : (k : ℕ) (f g : Name) (p p' : PointTree) → AreAt P P' c.old c.new f p p' → CallsAt (flow_of P) f p g → site_at P k ≡ Some (site g exit) → Lists waiting k at
+  pub leads : (f : Name) (p p' : PointTree) → AreAt P P' c.old c.new f p p' → LeadsOn P P' facts waiting at f p p'
   pub overs : IsPassed P P' facts c
 
 -- the calls that wait for a fact of exits have been passed over
 abbrev pub AreResumed : ProgramTree → ProgramTree → List Fact → List (List ℕ) → Fact → Type 0
 AreResumed P P' facts waiting back =
-    (g : Name) → AreAt P P' back.old back.new g exit exit → (j : ℕ) (c : Fact) → Lists waiting back.old j → slice_get facts j ≡ Some c → HoldsNext P P' facts c next
+    (g : Name) → AreAt P P' back.old back.new g exit exit → (j : ℕ) (c : Fact) → Lists waiting back.old j
+    → slice_get facts j ≡ Some c → HoldsNext P P' facts c next
 
 -- every reached pair is held
 abbrev pub HoldsAll : Tables → Tables → List Fact → Type 0

@@ -77,4 +77,5 @@ pub record IsWalk (P P' : ProgramTree) (result : WalkResult) : Type 0 where
   pub all : (f : Name) (p p' : PointTree) → Reached (flow_of P) (flow_of P') f p p' → Contains (named_facts P P' result.facts.items) (books.fact f p p')
   -- a number for each edge, and just the dangerous ones are in the row
   pub edges : length result.danger ≡ length (edge_list P)
-  pub danger : (e : ℕ) (edge : Edge) → edge_at P e ≡ Some edge → IsTrue (has result.danger e) ↔ Dangerous (flow_of P) (flow_of P') edge.function edge.from edge.exit
+  pub danger : (e : ℕ) (edge : Edge) → edge_at P e ≡ Some edge
+      → IsTrue (has result.danger e) ↔ Dangerous (flow_of P) (flow_of P') edge.function edge.from edge.exit

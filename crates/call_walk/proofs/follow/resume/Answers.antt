@@ -21,15 +21,17 @@ waits_over P P' before after j at from grows stands n is is' w =
     record {
       call = w.fact;
       stands = get_extends grows j w.fact w.stands;
-      function = w.function;
-      point = w.point;
-      other = w.other;
-      at = w.at;
-      callee = w.callee;
-      calls = w.calls;
       back = from;
       stands' = get_extends grows at from stands;
-      at' = record { old = w.exit; new = n.new ∙ ap (λ q. Some (site n.name q)) is' ∙ ap (λ f. Some (site f exit)) same };
+      comes = record {
+        function = w.function;
+        point = w.point;
+        other = w.other;
+        at = w.at;
+        callee = w.callee;
+        calls = w.calls;
+        exits = record { old = w.exit; new = n.new ∙ ap (λ q. Some (site n.name q)) is' ∙ ap (λ f. Some (site f exit)) same };
+      };
     }
 
 pub pass_over-requires-clause-at : goal.pass_over-requires-clause-at
