@@ -19,6 +19,3 @@ mod walking;
 
 pub use fact::{Fact, WalkResult, Why};
 pub use walking::walk;
-
-#[cfg(test)]
-mod tests;
