@@ -1,5 +1,5 @@
 -- What the readers of expressions and initialisers are asked for.
-use Rattle.std.proofs.Common.{◌≡◌, ℕ, ◌<◌, ◌≤◌, List, ◌∷◌, ◌++◌, None, Ok, false, refl}
+use Rattle.std.proofs.Common.{◌≡◌, ℕ, ◌≤◌, List, ◌∷◌, ◌++◌, Ok, refl}
 use Rattle.csub_text.specs.declared.span.Span.{Span}
 use Rattle.csub_lex.specs.declared.token.Mark.TheVariants as marks
 use Rattle.csub_lex.specs.declared.token.Token.{Token}
@@ -7,7 +7,7 @@ use Rattle.csub_tree.specs.Expressions.{Expr}
 use Rattle.csub_tree.specs.Declarations.{Init}
 use Rattle.csub_tree.specs.Depth.{expr_depth, init_depth}
 use Rattle.csub_tree.specs.Tokens.{mark}
-use Rattle.csub_tree.specs.SpellsExpressions.{SpellsExpr, assignment, conditional, loosest}
+use Rattle.csub_tree.specs.SpellsExpressions.{SpellsExpr, assignment, conditional}
 use Rattle.csub_tree.specs.SpellsDeclarations.{SpellsInit}
 use Rattle.csub_expr.specs.Looks.{begins, op_at, assignment_at, tail_at}
 use Rattle.csub_expr.specs.Laws.{Ends}

@@ -9,6 +9,10 @@ mod statements;
 mod tokens;
 mod trees;
 
+ghost use Rattle.std.specs.Prelude.{◌≤◌};
+ghost use Rattle.csub_tree.specs.Units.{unit_tree};
+ghost use Rattle.csub_tree.specs.Depth.{unit_depth};
+
 use csub_lex::lex;
 use csub_parse::{ParseError, parse};
 use csub_tree::{Item, Stmt, StmtKind, Unit, depth};
@@ -54,7 +58,9 @@ fn push_item(text: &mut String, item: &Item) -> Result<(), AllocError> {
     }
 }
 
-fn shown_unit(alloc: Global, unit: &Unit) -> Result<String, AllocError> {
+fn shown_unit(alloc: Global, unit: &Unit) -> Result<String, AllocError>
+    requires { unit_depth (unit_tree unit.now) ≤ 256 }
+{
     let mut text = format!(in alloc; "{}", depth(unit))?;
     for item in &unit.items {
         push_item(&mut text, item)?;
