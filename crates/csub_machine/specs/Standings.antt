@@ -1,6 +1,7 @@
 -- Where the code stands, and what it answers for a turn.
-use Rattle.std.specs.Prelude.{ℕ, ◌≡◌, ◌<◌, ◌≤◌, ◌+◌, List, ◌∷◌, map, reverse, length, All, true, Option, Some, None}
+use Rattle.std.specs.Prelude.{ℕ, ℤ, ◌≡◌, ◌<◌, ◌≤◌, ◌+◌, List, ◌∷◌, map, reverse, length, All, true, Option, Some, None}
 use Rattle.csub_semantics.specs.Syntax.{ProgramTree}
+use Rattle.csub_semantics.specs.Points.{ExitTree}
 use Rattle.csub_semantics.specs.Flows.{point_list, edge_list, flow_of}
 use Rattle.csub_semantics.specs.Acts.{Store, most_frames}
 use Rattle.csub_semantics.specs.Runs as the
@@ -38,6 +39,22 @@ abbrev pub Moves : ProgramTree → the.Turn → Turn → the.Standing → Type 0
 Moves P t (Goes e) at = t ≡ the.goes (edge_of P e) at
 Moves P t (Stops status) at = t ≡ the.stops status at.store
 Moves P t Lost at = t ≡ the.lost
+
+-- the top frame crosses its edge along x, whatever frames stand below it and whatever is stored
+abbrev pub GoesAlong : ProgramTree → Frame → ExitTree → Option ℤ → Turn → Frame → Type 0
+GoesAlong P old x given to new =
+    (below : List the.Frame) (s : Store) → let here = place_of P old.point in
+    Moves P (the.cross (frame_of P old) below x given s ((flow_of P).succ here.function here.point x)) to (record { frames = frame_of P new ∷ below; store = s })
+
+-- the frame of a call goes on with the result of its callee, whatever frames stand below it, so many of them
+abbrev pub ComesBack : ProgramTree → ℕ → Frame → Option ℤ → Store → Turn → Frame → Store → Type 0
+ComesBack P height old given s to new t =
+    (below : List the.Frame) → length below ≡ height →
+    Moves P (the.pop (flow_of P) (frame_of P old ∷ below) given s) to (record { frames = frame_of P new ∷ below; store = t })
+
+-- one turn leads from these frames and this store to those
+abbrev pub TakesTurn : ProgramTree → Frames → Store → Turn → Frames → Store → Type 0
+TakesTurn P old s to new t = Moves P (the.turn (flow_of P) (standing_of P old s)) to (standing_of P new t)
 
 -- the edge that is crossed, if any, is one of the program
 abbrev pub IsOfProgram : ProgramTree → Option ℕ → Type 0

@@ -1,13 +1,11 @@
 //! One turn of a run.
-ghost use Rattle.std.specs.Prelude.{◌≡◌, ◌<◌, [], ◌∷◌, ◌++◌, length, List, IfOk, OnOk};
-ghost use Rattle.csub_semantics.specs.Flows.{flow_of, point_list};
+ghost use Rattle.std.specs.Prelude.{◌≡◌, ◌<◌, [], ◌∷◌, ◌++◌, length, IfOk, OnOk};
+ghost use Rattle.csub_semantics.specs.Flows.{point_list};
 ghost use Rattle.csub_semantics.specs.Points.{exit_tree};
-ghost use Rattle.csub_semantics.specs.Runs.{Frame as StandingFrame, turn, cross, pop};
-ghost use Rattle.csub_semantics.specs.Acts.{Store as Held};
 ghost use Rattle.flow_graph.specs.Graph.{IsGraphOf};
-ghost use Rattle.csub_machine.specs.Places.{tree_of, place_of};
+ghost use Rattle.csub_machine.specs.Places.{tree_of};
 ghost use Rattle.csub_machine.specs.States.{state_of, OnlyAdds};
-ghost use Rattle.csub_machine.specs.Standings.{frame_of, standing_of, AreFrames, Moves, CrossesOfProgram};
+ghost use Rattle.csub_machine.specs.Standings.{AreFrames, GoesAlong, ComesBack, TakesTurn, CrossesOfProgram};
 
 use crate::act::{Outcome, act};
 use crate::stop::Stop;
@@ -59,7 +57,7 @@ fn leave_by(
 ) -> Turn
     requires graph { IsGraphOf graph.now (tree_of program.now) }
     requires point { top.old.point < length (point_list (tree_of program.now)) }
-    ensures moves { (below : List StandingFrame) (s : Held) → let P = tree_of program.now in let here = place_of P top.old.point in Moves P (cross (frame_of P top.old) below (exit_tree exit.now) given s ((flow_of P).succ here.function here.point (exit_tree exit.now))) result (record { frames = frame_of P top.new ∷ below; store = s }) }
+    ensures moves { GoesAlong (tree_of program.now) top.old (exit_tree exit.now) given result top.new }
     ensures point { top.new.point < length (point_list (tree_of program.now)) }
     ensures edge { CrossesOfProgram (tree_of program.now) result }
 {
@@ -84,7 +82,7 @@ fn resume(
 ) -> Result<Turn, AllocError>
     requires graph { IsGraphOf graph.now (tree_of program.now) }
     requires point { top.old.point < length (point_list (tree_of program.now)) }
-    ensures moves { IfOk result (λ turn. (below : List StandingFrame) → length below ≡ height → let P = tree_of program.now in Moves P (pop (flow_of P) (frame_of P top.old ∷ below) given (state_of store.old)) turn (record { frames = frame_of P top.new ∷ below; store = state_of store.new })) }
+    ensures moves { IfOk result (λ to. ComesBack (tree_of program.now) height top.old given (state_of store.old) to top.new (state_of store.new)) }
     ensures point { IfOk result (λ _. top.new.point < length (point_list (tree_of program.now))) }
     ensures edge { IfOk result (CrossesOfProgram (tree_of program.now)) }
     ensures kept { OnlyAdds store.old store.new }
@@ -126,7 +124,7 @@ pub fn take_turn(
 ) -> Result<Turn, AllocError>
     requires graph { IsGraphOf graph.now (tree_of program.now) }
     requires frames { AreFrames (tree_of program.now) frames.old }
-    ensures moves { IfOk result (λ to. let P = tree_of program.now in Moves P (turn (flow_of P) (standing_of P frames.old (state_of store.old))) to (standing_of P frames.new (state_of store.new))) }
+    ensures moves { IfOk result (λ to. TakesTurn (tree_of program.now) frames.old (state_of store.old) to frames.new (state_of store.new)) }
     ensures frames { IfOk result (λ _. AreFrames (tree_of program.now) frames.new) }
     ensures edge { IfOk result (CrossesOfProgram (tree_of program.now)) }
     ensures kept { OnlyAdds store.old store.new }
