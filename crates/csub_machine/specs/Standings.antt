@@ -44,7 +44,8 @@ Moves P t Lost at = t ≡ the.lost
 abbrev pub GoesAlong : ProgramTree → Frame → ExitTree → Option ℤ → Turn → Frame → Type 0
 GoesAlong P old x given to new =
     (below : List the.Frame) (s : Store) → let here = place_of P old.point in
-    Moves P (the.cross (frame_of P old) below x given s ((flow_of P).succ here.function here.point x)) to (record { frames = frame_of P new ∷ below; store = s })
+    Moves P (the.cross (frame_of P old) below x given s ((flow_of P).succ here.function here.point x)) to
+    (record { frames = frame_of P new ∷ below; store = s })
 
 -- the frame of a call goes on with the result of its callee, whatever frames stand below it, so many of them
 abbrev pub ComesBack : ProgramTree → ℕ → Frame → Option ℤ → Store → Turn → Frame → Store → Type 0

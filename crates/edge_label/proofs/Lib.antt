@@ -1,2 +1,2 @@
-pub mod BookLemmas
-pub mod NumberLemmas
+mod BookLemmas
+mod NumberLemmas

@@ -4,6 +4,7 @@ use Rattle.std.specs.List.{slice_get, range_with_len, find}
 use Rattle.std.specs.Option.{option_map}
 use Rattle.std.proofs.lemmas.Option.{same_Some}
 
+-- an element of the first of two lists, and of the second
 pub slice_get-left : {A : Type 0} (xs ys : List A) (k : ℕ) (x : A) → slice_get xs k ≡ Some x → slice_get (xs ++ ys) k ≡ Some x
 slice_get-left [] ys k x e = absurd cc
 slice_get-left (y ∷ xs) ys zero x e = e
@@ -42,10 +43,12 @@ pub record Made {A : Type 0} {B : Type 0} (f : A → B) (o : Option A) (y : B) :
   pub is : o ≡ Some value
   pub gives : f value ≡ y
 
+-- where there is a value that is made, there is what it is made of
 pub made_of : {A : Type 0} {B : Type 0} (f : A → B) (o : Option A) (y : B) → option_map f o ≡ Some y → Made f o y
 made_of f None y e = absurd cc
 made_of f (Some x) y e = record { value = x; is = refl; gives = same_Some (f x) y e }
 
+-- a range in two pieces
 pub range-plus : (a m n : ℕ) → range_with_len a (m + n) ≡ range_with_len a m ++ range_with_len (a + m) n
 range-plus a zero n =
     let e : zero + n ≡ n = omega arith in

@@ -43,6 +43,7 @@ pub record IsPointOf (P : ProgramTree) (m : PlacedNode) : Type 0 where
   pub index : ℕ
   pub node : slice_get (function_nodes function) index ≡ Some m.node
 
+-- a point of the list stands in a function
 pub point_placed : (P : ProgramTree) (n : ℕ) (m : PlacedNode) → slice_get (point_list P) n ≡ Some m → IsPointOf P m
 point_placed [] n m e = absurd cc
 point_placed (f ∷ rest) n m e =

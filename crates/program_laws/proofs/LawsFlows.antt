@@ -32,6 +32,7 @@ module _ (P : ProgramTree) (g : Name) (p : PointTree) where
     pub stands : Stands P g p
     pub is : labelled stands.node ≡ l
 
+  -- the label of a flow is that of such a point
   pub labelled_at : (l : PointLabel) → (flow_of P).label g p ≡ Some l → Labelled l
   labelled_at l e = pick stands_or_not
     where
@@ -75,6 +76,7 @@ module _ (P : ProgramTree) (valid : IsValid P) where
   cased_at : (g : Name) (p : PointTree) (s : Stands P g p) → AreCases s.node.ways
   cased_at g p s = are_cases P s.function (IsPoint (function_nodes s.function)) s.node.point s.node.label s.node.ways (node_is P g p valid s)
 
+  -- a valid program has what lockstep asks of it
   pub is_flow : IsFlow (flow_of P)
   is_flow = record {
     starts = entry_is P start_name (start_defined P valid.start);

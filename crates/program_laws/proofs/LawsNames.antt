@@ -8,12 +8,14 @@ use Rattle.csub_semantics.specs.Types.{Name}
 use Rattle.csub_semantics.specs.Flows.{name_eq}
 use Rattle.csub_semantics.specs.Points.{PointTree, entry, exit, at, point_eq, ExitTree, next, on_true, on_false, on_case, on_default, exit_eq}
 
+-- names
 pub same_name : (a b : Name) → name_eq a b ≡ true → a ≡ b
 same_name a b e = (bytes_decides a b).0 e
 
 pub name_itself : (a : Name) → name_eq a a ≡ true
 name_itself a = (bytes_decides a a).1 refl
 
+-- points
 pub same_point : (p q : PointTree) → point_eq p q ≡ true → p ≡ q
 same_point entry entry e = refl
 same_point entry _ e = cc
@@ -32,6 +34,7 @@ point_itself entry = refl
 point_itself exit = refl
 point_itself (at q i k) = and_from (pointwise nat_eq q q) (nat_eq i i && nat_eq k k) (name_itself q) (and_from (nat_eq i i) (nat_eq k k) (eq-eqb i i refl) (eq-eqb k k refl))
 
+-- labels of ways out
 pub same_exit : (x y : ExitTree) → exit_eq x y ≡ true → x ≡ y
 same_exit next next e = refl
 same_exit next _ e = cc

@@ -11,7 +11,7 @@ use Rattle.csub_core.specs.declared.valid.role.Role.{Role}
 use Rattle.csub_core.specs.declared.valid.role.Role.TheVariants.{Whole, Test, Effect}
 use Rattle.csub_core.specs.declared.valid.role.Targets.{Targets}
 use Rattle.csub_core.specs.Valid.{no_loop, in_loop, Scope, scope_of, IsLast, IsEarlier, AreStages, IsPart, IsStmt, AreStmts, IsElse}
-use Rattle.program_laws.proofs.LawsLists.{each_append, each_left, each_right}
+use Rattle.program_laws.proofs.Lists.{each_append, each_left, each_right}
 
 -- validity lets a label stand last in a part with a role
 pub record MayStand (P : ProgramTree) (f : FunctionTree) (role : Role) (l : LabelTree) : Type 0 where

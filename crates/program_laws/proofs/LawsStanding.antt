@@ -10,7 +10,7 @@ use Rattle.csub_semantics.specs.Successors.{Way, Node, way, enter_list}
 use Rattle.csub_semantics.specs.Flows.{name_eq, start_name, to_exit, function_nodes, function_of, node_in, node_of, way_in, way_of, cases_in, cases_of, labelled, flow_of}
 use Rattle.csub_core.specs.Valid.{IsDefinedAs, AreStmts, no_loop, BeginsWithStart, IsValid}
 use Rattle.program_laws.specs.Flows.{entry_label}
-use Rattle.program_laws.proofs.LawsLists.{each_weaker, found_each}
+use Rattle.program_laws.proofs.Lists.{each_weaker, found_each}
 use Rattle.program_laws.proofs.LawsNames.{same_name, same_point, point_itself}
 use Rattle.program_laws.proofs.LawsNodes.{IsNode, LeadsBy, function_are}
 
@@ -43,9 +43,11 @@ module _ (P : ProgramTree) (g : Name) (p : PointTree) where
   pub label_at : (s : Stands P g p) → (flow_of P).label g p ≡ Some (labelled s.node)
   label_at s = ap (λ o. option_map labelled (node_of o p)) s.defined ∙ ap (option_map labelled) s.found
 
+  -- where a way out leads
   pub succ_at : (s : Stands P g p) (x : ExitTree) → (flow_of P).succ g p x ≡ option_map (λ (w : Way PointTree). w.to) (way_in s.node.ways x)
   succ_at s x = ap (λ o. option_map (λ (w : Way PointTree). w.to) (way_of (node_of o p) x)) s.defined ∙ ap (λ o. option_map (λ (w : Way PointTree). w.to) (way_of o x)) s.found
 
+  -- the values of its cases
   pub cases_at : (s : Stands P g p) → (flow_of P).cases g p ≡ cases_in s.node.ways
   cases_at s = ap (λ o. cases_of (node_of o p)) s.defined ∙ ap cases_of s.found
 
@@ -53,6 +55,7 @@ module _ (P : ProgramTree) (g : Name) (p : PointTree) where
   pub goes_on : (s : Stands P g p) (x : ExitTree) (l : LeadsBy (IsPoint (function_nodes s.function)) x s.node.ways) → (flow_of P).succ g p x ≡ Some l.0.to
   goes_on s x l = succ_at s x ∙ ap (option_map (λ (w : Way PointTree). w.to)) l.1
 
+  -- and to stand there
   pub stands_next : (s : Stands P g p) (x : ExitTree) (l : LeadsBy (IsPoint (function_nodes s.function)) x s.node.ways) → Stands P g l.0.to
   stands_next s x l = record { function = s.function; node = l.2.node; defined = s.defined; found = l.2.found }
 
@@ -63,6 +66,7 @@ module _ (P : ProgramTree) (g : Name) (p : PointTree) where
     bodies : AllByRecursion HasValidBody P
     bodies = recursion_from_All HasValidBody P valid.bodies
 
+    -- the function that stands there has the name, and the point is this point
     pub name_is : (s : Stands P g p) → s.function.name ≡ g
     name_is s = same_name s.function.name g (found_each (λ (f : FunctionTree). name_eq f.name g) HasValidBody P s.function s.defined bodies).1
 
@@ -91,6 +95,7 @@ module _ (P : ProgramTree) (g : Name) where
   pub entry_is : Defined P g → (flow_of P).label g entry ≡ Some entry_label
   entry_is d = ap (λ o. option_map labelled (node_of o entry)) d.1
 
+  -- a callee that validity asks for is defined, and so is `#start`
   pub callee_defined : (c : CallTree) → IsDefinedAs (function_of P g) c → Defined P g
   callee_defined c h = pick (function_of P g) refl h
     where

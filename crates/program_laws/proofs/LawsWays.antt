@@ -14,7 +14,7 @@ use Rattle.csub_semantics.proofs.LawsLabels.{call_is}
 use Rattle.csub_core.specs.declared.valid.role.Role.TheVariants.{Whole, Test}
 use Rattle.csub_core.specs.Valid.{IsDefinedAs, IsLast, AreStmts, no_loop, IsValid}
 use Rattle.program_laws.specs.Outcomes.{IsOfTest, Fits}
-use Rattle.program_laws.proofs.LawsLists.{each_at, all_at}
+use Rattle.program_laws.proofs.Lists.{each_at, all_at}
 use Rattle.program_laws.proofs.LawsNames.{same_exit, exit_itself}
 use Rattle.program_laws.proofs.LawsNodes.{MayStand, IsNode, begins, ends, goes_on, tests, LeadsBy, function_are}
 use Rattle.program_laws.proofs.LawsStanding.{IsPoint, each_found}

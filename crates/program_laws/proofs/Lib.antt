@@ -1,4 +1,3 @@
-pub mod LawsLists
 pub mod LawsNames
 pub mod LawsNodes
 pub mod LawsStanding
@@ -6,6 +5,7 @@ pub mod LawsWays
 pub mod LawsFlows
 pub mod LawsOutcomes
 pub mod LawsLabels
+mod Lists
 mod Turns
 mod Written
 mod Decided

@@ -7,7 +7,7 @@
 //!
 //! Proofs above cite the files `proofs/Laws*`: `LawsNodes`, what a point of a valid program may be, by one induction over
 //! its statements; `LawsStanding` and `LawsWays`, what follows for a point, its label and its ways out; `LawsFlows` and
-//! `LawsOutcomes`, the laws above; `LawsLabels`, `LawsNames` and `LawsLists`, equality of labels and names, and lists.
+//! `LawsOutcomes`, the laws above; `LawsLabels` and `LawsNames`, equality of labels, names, points and ways out.
 #![tactic(auto)]
 
 ghost use Rattle.std.specs.Prelude.{ℕ, ℤ, Option};
