@@ -41,6 +41,9 @@ fn selection(alloc: Global, suite: &[u8], danger: &[u32]) -> Result<(Vec<Choice>
     let history = history_of(alloc, suite)?;
     let danger = row_of_numbers(alloc, 8, danger)?;
     let choices = select(alloc, &history, &danger)?;
+    if choices.len() != history.entries().len() {
+        return Err("a test without a choice")?;
+    }
     let text = select_text(alloc, &history, &choices)?;
     Ok((choices, text))
 }

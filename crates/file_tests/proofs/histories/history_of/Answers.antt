@@ -4,7 +4,7 @@ use Rattle.test_history.specs.Histories.{EntryParts, IsEntryWithin}
 use Rattle.file_tests.proofs.histories.history_of.Goals as goal
 
 pub loop-place-preserved : goal.loop-place-preserved
-loop-place-preserved g c =
+loop-place-preserved c =
     let HasRow : EntryParts → Type 0 = λ entry. length entry.crossed ≡ 9 in
     rw c.in_ok-push.ensures.items (record {
       count = omega (arith, length-append c.loop-place.entries.items (c.in_ok-entry_of.field-0 ∷ []));

@@ -4,7 +4,7 @@ use Rattle.test_history.specs.Histories.{HaveRows, IsEntryWithin}
 use Rattle.file_tests.proofs.histories.history_of.Given as goal
 
 abbrev pub invariant-loop-place : goal.invariant-loop-place
-invariant-loop-place g l = record {
+invariant-loop-place l = record {
   count : length l.entries.items ≡ l.place;
   within : All IsEntryWithin l.entries.items;
   rows : HaveRows 9 l.entries.items;
