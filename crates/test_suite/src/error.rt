@@ -15,7 +15,7 @@ pub enum SuiteError {
     #[error("{0} tests are too many")]
     TooMany(u32),
     /// The first line whose name stood on an earlier line, counted from 1.
-    #[error("line {0} has the name of an earlier test")]
+    #[error("line {0} has the name of an earlier line")]
     Twice(u32),
     /// Memory ran out.
     #[error("out of memory")]
