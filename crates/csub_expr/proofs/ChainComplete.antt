@@ -13,7 +13,8 @@ use Rattle.csub_tree.specs.SpellsExpressions.{Rank, assignment, conditional, bin
 use Rattle.csub_expr.specs.Looks.{begins, rest, head_span, op_at, of_level, assignment_at, tail_at}
 use Rattle.csub_expr.specs.Answers.{Answer, ◌>>=◌, done, expect}
 use Rattle.csub_expr.specs.ExprDescent.{read, joins, is_unary, more_by, more, chain_at, choice_at, cond_at, assign_by, assign_at}
-use Rattle.csub_expr.proofs.LawsTokens.{nonempty_append, last_behind, joins_runs, starts, ends}
+use Rattle.csub_expr.proofs.LawsTokens.{nonempty_append, last_behind}
+use Rattle.csub_expr.proofs.Places.{joins_runs, starts, ends}
 use Rattle.csub_expr.proofs.Spelled.{depth_pos, joined_depth}
 use Rattle.csub_expr.proofs.ExprReads.{Claim, Reads, Spine, assign_continues, ends_at, more_none, op_continues}
 use Rattle.csub_expr.specs.Laws.{Ends, NoOps}

@@ -13,16 +13,34 @@ use Rattle.csub_tree.specs.declared.name.TypeName.{TypeName}
 use Rattle.csub_tree.specs.declared.name.TypeName.TheVariants as types
 use Rattle.csub_tree.specs.Expressions.{Expr, Node, Number, Char, Text, Named, Paren, Cast, Step, Choose, Assign, Call, Index, Member, NoExprs, exprs_of, span_of}
 use Rattle.csub_tree.specs.Depth.{expr_depth}
-use Rattle.csub_tree.specs.SpellsExpressions.{Rank, assignment, conditional, binary, postfix, primary, Operator, joined, Prefix, applied, loosest}
+use Rattle.csub_tree.specs.SpellsExpressions.{Rank, assignment, conditional, binary, postfix, primary, Operator, joined, Prefix, applied, loosest, operator_of, assignment_of, prefix_of}
 use Rattle.csub_expr.specs.declared.operator.Tail.{Tail}
 use Rattle.csub_expr.specs.declared.operator.Tail.TheVariants as tails
-use Rattle.csub_expr.specs.Looks.{begins, begins_key, rest, head_span, op_at, assignment_at, prefix_at, tail_at, begins_number}
+use Rattle.csub_expr.specs.Looks.{begins, begins_key, rest, head_span, op_at, assignment_at, prefix_at, tail_at, begins_number, of_mark, of_level}
+use Rattle.csub_expr.specs.Looks as looks
 use Rattle.csub_expr.specs.Answers.{Answer, ◌>>=◌, done, refuse, expect, expect_name}
 use Rattle.csub_expr.specs.ListDescent.{separated, never}
 use Rattle.csub_expr.specs.ExprDescent.{read, joins, is_unary, number_at, paren_at, cast_at, call_at, name_at, word_of, word_at, tail_of, behind_by, behind, open_at, unary_by, unary_at, more_by, more, chain_at, choice_at, cond_at, assign_by, assign_at}
-use Rattle.csub_expr.proofs.LawsLocal.{Local, SameAtHead, local_bind, local_done, local_refuse, local_rest, local_at, local_if, local_choice, local_token, local_first, local_expect, local_name, same_begins, same_begins_key, same_begins_number, same_op, same_assignment, same_prefix, same_tail}
+use Rattle.csub_expr.proofs.LawsLocal.{Local, SameAtHead, local_bind, local_done, local_refuse, local_rest, local_at, local_if, local_choice, local_token, local_first, local_expect, local_name, same_begins, same_begins_key, same_begins_number, same_by}
 use Rattle.csub_expr.proofs.LawsLists.{local_separated}
 use Rattle.csub_expr.proofs.ExprSound.{shorter}
+
+-- what the first token makes of the expression before it depends on it alone
+same_op : (k : ℕ) → SameAtHead (Option Operator) (op_at k)
+unfolding op_at
+same_op k = same_by (Option Operator) (op_at k) (λ t. of_level k (of_mark None operator_of t.kind)) (λ t ts. refl)
+
+same_assignment : SameAtHead (Option (Option BinOp)) assignment_at
+unfolding assignment_at
+same_assignment = same_by (Option (Option BinOp)) assignment_at (λ t. of_mark None assignment_of t.kind) (λ t ts. refl)
+
+same_prefix : SameAtHead (Option Prefix) prefix_at
+unfolding prefix_at
+same_prefix = same_by (Option Prefix) prefix_at (λ t. of_mark None prefix_of t.kind) (λ t ts. refl)
+
+same_tail : SameAtHead (Option Tail) tail_at
+unfolding tail_at
+same_tail = same_by (Option Tail) tail_at (λ t. of_mark None looks.tail_of t.kind) (λ t ts. refl)
 
 local_type : (t : TypeName) → Local TypeName (λ ts. done t (rest ts))
 local_type t = local_rest TypeName (done t) (local_done TypeName t)

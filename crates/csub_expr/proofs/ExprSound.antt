@@ -22,7 +22,8 @@ use Rattle.csub_expr.specs.Looks.{begins, rest, head_span, op_at, assignment_at,
 use Rattle.csub_expr.specs.Answers.{Answer, ◌>>=◌, done, expect, expect_name}
 use Rattle.csub_expr.specs.ListDescent.{separated, never}
 use Rattle.csub_expr.specs.ExprDescent.{read, joins, is_unary, number_at, paren_at, cast_at, call_at, name_at, word_of, word_at, tail_of, behind_by, behind, open_at, unary_by, unary_at, more_by, more, chain_at, choice_at, cond_at, assign_by, assign_at}
-use Rattle.csub_expr.proofs.LawsTokens.{last_cons, nonempty_append, last_behind, last_token, joins_runs, starts, ends}
+use Rattle.csub_expr.proofs.LawsTokens.{last_cons, nonempty_append, last_behind, last_token}
+use Rattle.csub_expr.proofs.Places.{joins_runs, starts, ends}
 use Rattle.csub_expr.proofs.LawsAnswers.{bind_ok, ok_value, ok_rest, chosen, and_true}
 use Rattle.csub_expr.proofs.Taken.{begins_is, expect_is, expect_name_is, op_is, assignment_is, prefix_is, tail_is, Means, tail_means, number_is, TookNumber}
 use Rattle.csub_expr.proofs.LawsLists.{separated_sound}

@@ -17,11 +17,12 @@ left_over : {A : Type 0} → Answer A → List Token
 left_over (Ok x) = x.1
 left_over (Err n) = []
 
--- equal answers have equal parts
+-- equal answers have equal values
 pub ok_value : {A : Type 0} (x y : A) (a b : List Token) → done x a ≡ done y b → x ≡ y
 unfolding answered
 ok_value x y a b e = ap (answered x) e
 
+-- equal answers leave equal tokens
 pub ok_rest : {A : Type 0} (x y : A) (a b : List Token) → done x a ≡ done y b → a ≡ b
 unfolding left_over
 ok_rest x y a b e = ap left_over e
@@ -35,8 +36,3 @@ chosen false x y z e = inr (refl, e)
 pub and_true : (a b : Bool) → (a && b) ≡ true → (a ≡ true) × (b ≡ true)
 and_true true b e = (refl, e)
 and_true false b e = absurd cc
-
--- what is not true is false
-pub not_true : (b : Bool) → (b ≡ true → ⊥) → b ≡ false
-not_true true h = absurd (h refl)
-not_true false h = refl

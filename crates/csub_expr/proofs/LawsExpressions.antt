@@ -32,10 +32,11 @@ pub use Rattle.csub_expr.proofs.Spelled.{Lead, by_prefix, by_open, by_name, by_n
 pub sound : (d : ℕ) (rank : Rank) (ts : List Token) (e : Expr) (r : List Token) → read d rank ts ≡ Ok (e, r) → Took rank d ts e r
 sound d rank ts e r h = soundness.sound d rank ts e r h
 
--- an assignment, and a conditional expression, that is spelled so is read
+-- an assignment that is spelled so is read
 pub complete : IsComplete (SpellsExpr assignment) expr_depth (Ends assignment) (λ d. read d assignment)
 complete e s h d fits r ends = completeness.complete h d fits r ends
 
+-- a conditional expression that is spelled so is read
 pub complete_conditional : IsComplete (SpellsExpr conditional) expr_depth (Ends conditional) (λ d. read d conditional)
 complete_conditional e s h d fits r ends = completeness.complete_conditional h d fits r ends
 

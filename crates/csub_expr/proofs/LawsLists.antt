@@ -92,7 +92,7 @@ module _ {A : Type 0} (item : List Token → Answer A) (stop : List Token → Bo
   -- local
   module _ (shorter : (ts : List Token) (x : A) (r : List Token) → item ts ≡ Ok (x, r) → length r < length ts) where
     -- fuel above the number of tokens is enough
-    pub separated_enough : (f g : ℕ) (ts : List Token) → length ts < f → length ts < g → separated item stop f ts ≡ separated item stop g ts
+    separated_enough : (f g : ℕ) (ts : List Token) → length ts < f → length ts < g → separated item stop f ts ≡ separated item stop g ts
     unfolding separated after
     separated_enough zero g ts lf lg = elim lf [ ]
     separated_enough (suc f) zero ts lf lg = elim lg [ ]
@@ -118,14 +118,16 @@ module _ {A : Type 0} (item : List Token → Answer A) (stop : List Token → Bo
 abbrev pub with_front : {A : Type 0} → List A → Answer (List A) → Answer (List A)
 with_front xs read = read >>= λ ys. Ok (xs ++ ys.0, ys.1)
 
--- a turn of that loop: where the piece is refused, where a comma comes, where none comes, and where a last one comes
+-- a turn of that loop
 module _ {A : Type 0} (item : List Token → Answer A) (stop : List Token → Bool) where
+  -- the piece is refused
   pub front_fails : (e : Stop) (f : ℕ) (u : List Token) (xs : List A) → length u < f → Fails e (item u) → Fails e (with_front xs (separated item stop f u))
   unfolding separated
   front_fails e zero u xs lt h = elim lt [ ]
   front_fails stops.Memory (suc f) u xs lt h = tt
   front_fails (stops.At n) (suc f) u xs lt h = rw h refl
 
+  -- a comma comes, and the list goes on
   pub front_goes : (f : ℕ) (u v : List Token) (xs : List A) (x : A) → length u < f → item u ≡ Ok (x, v) → begins marks.Comma v ≡ true → stop (rest v) ≡ false → with_front xs (separated item stop f u) ≡ with_front (xs ++ x ∷ []) (separated item stop (f - 1) (rest v))
   unfolding separated
   front_goes zero u v xs x lt e comes on = elim lt [ ]
@@ -137,17 +139,14 @@ module _ {A : Type 0} (item : List Token → Answer A) (stop : List Token → Bo
       step (Ok y) = ap (λ (v : List A). Ok (v, y.1)) (sym (append_assoc xs (x ∷ []) y.0))
       step (Err n) = refl
 
+  -- no comma comes
   pub front_ends : (f : ℕ) (u v : List Token) (xs : List A) (x : A) → length u < f → item u ≡ Ok (x, v) → begins marks.Comma v ≡ false → with_front xs (separated item stop f u) ≡ Ok (xs ++ x ∷ [], v)
   unfolding separated
   front_ends zero u v xs x lt e none = elim lt [ ]
   front_ends (suc f) u v xs x lt e none = rw (e, none) refl
 
+  -- a comma comes, and the list ends behind it
   pub front_trailing : (f : ℕ) (u v : List Token) (xs : List A) (x : A) → length u < f → item u ≡ Ok (x, v) → begins marks.Comma v ≡ true → stop (rest v) ≡ true → with_front xs (separated item stop f u) ≡ Ok (xs ++ x ∷ [], rest v)
   unfolding separated
   front_trailing zero u v xs x lt e comes ends = elim lt [ ]
   front_trailing (suc f) u v xs x lt e comes ends = rw (e, comes, ends) refl
-
--- the loop begins with none
-pub front_none : {A : Type 0} (r : Answer (List A)) → r ≡ with_front [] r
-front_none (Ok x) = refl
-front_none (Err n) = refl

@@ -1,22 +1,19 @@
 -- A reading depends on the tokens that it took, and on the one after them.
 use Rattle.std.proofs.Common.{◌≡◌, ℕ, suc, ◌+◌, ◌<◌, List, [], ◌∷◌, ◌++◌, length, Option, Some, None, Ok, Err, Bool, true, false, cond, refl, sym, ap, subst, ◌∙◌, arith, append_assoc, length-append, inl, inr, ◌⊎◌}
 use Rattle.csub_text.specs.declared.span.Span.{Span}
-use Rattle.csub_text.specs.declared.operator.BinOp.{BinOp}
 use Rattle.csub_lex.specs.declared.token.Key.{Key}
 use Rattle.csub_lex.specs.declared.token.Mark.{Mark}
 use Rattle.csub_lex.specs.declared.token.TokenKind.{TokenKind}
 use Rattle.csub_lex.specs.declared.token.TokenKind.TheVariants as kinds
 use Rattle.csub_lex.specs.declared.token.Token.{Token}
 use Rattle.csub_tree.specs.declared.name.Name.{Name}
-use Rattle.csub_tree.specs.SpellsExpressions.{Operator, Prefix, operator_of, assignment_of, prefix_of}
-use Rattle.csub_expr.specs.declared.operator.Tail.{Tail}
-use Rattle.csub_expr.specs.Looks.{begins, begins_key, rest, head_span, same_mark, same_key, of_mark, of_key, of_level, op_at, assignment_at, prefix_at, tail_at, tail_of, begins_number, is_number_key}
+use Rattle.csub_expr.specs.Looks.{begins, begins_key, rest, head_span, same_mark, same_key, of_mark, of_key, begins_number, is_number_key}
 use Rattle.csub_expr.specs.Answers.{Answer, ◌>>=◌, done, refuse, expect, expect_name, name_of}
 use Rattle.csub_expr.specs.Laws.{head}
 use Rattle.csub_expr.proofs.LawsAnswers.{bind_ok}
 
 -- two lists that begin alike have the same first token where what follows has
-pub head_append : (s r q : List Token) → head r ≡ head q → head (s ++ r) ≡ head (s ++ q)
+head_append : (s r q : List Token) → head r ≡ head q → head (s ++ r) ≡ head (s ++ q)
 head_append [] r q e = e
 head_append (t ∷ s) r q e = refl
 
@@ -30,7 +27,7 @@ abbrev pub SameAtHead : (B : Type 0) → (List Token → B) → Type 0
 SameAtHead B g = (ts us : List Token) → head ts ≡ head us → g ts ≡ g us
 
 -- where two steps are refused, the first is, or it is answered and the second refused
-pub bind_err : {A B : Type 0} (r : Answer A) (f : A × List Token → Answer B) (n : ℕ) → (r >>= f) ≡ Err n → (r ≡ Err n) ⊎ ((x : A × List Token) × (r ≡ Ok x) × (f x ≡ Err n))
+bind_err : {A B : Type 0} (r : Answer A) (f : A × List Token → Answer B) (n : ℕ) → (r >>= f) ≡ Err n → (r ≡ Err n) ⊎ ((x : A × List Token) × (r ≡ Ok x) × (f x ≡ Err n))
 bind_err (Ok x) f n e = inr (x, refl, e)
 bind_err (Err m) f n e = let same : m ≡ n = cc in inl (ap (λ k. Err k) same)
 
@@ -139,14 +136,14 @@ pub local_if : (A : Type 0) (test : List Token → Bool) → SameAtHead Bool tes
 local_if A test same p q hp hq = local_at A Bool test same (λ b ts. cond b (p ts) (q ts)) (local_choice A p q hp hq)
 
 -- a reading that equals a local one at each list is local
-pub by_cases : (A : Type 0) (p q : List Token → Answer A) → ((ts : List Token) → q ts ≡ p ts) → Local A p → Local A q
+by_cases : (A : Type 0) (p q : List Token → Answer A) → ((ts : List Token) → q ts ≡ p ts) → Local A p → Local A q
 by_cases A p q same h = record {
   reads = λ ts x r e. let a = h.reads ts x r (sym (same ts) ∙ e) in (a.0, a.1, λ z head. same (a.0 ++ z) ∙ a.2 z head);
   refuses = λ ts n e. let a = h.refuses ts n (sym (same ts) ∙ e) in (a.0, a.1, a.2, a.3, λ z head. same (a.0 ++ z) ∙ a.4 z head);
 }
 
 -- the token of an equal first token
-pub some_is : (t u : Token) → Some t ≡ Some u → t ≡ u
+some_is : (t u : Token) → Some t ≡ Some u → t ≡ u
 some_is t u e = cc
 
 -- a question about the first token alone
@@ -156,35 +153,22 @@ same_by B g h at [] (u ∷ us) e = absurd cc
 same_by B g h at (t ∷ ts) [] e = absurd cc
 same_by B g h at (t ∷ ts) (u ∷ us) e = at t ts ∙ ap h (some_is t u e) ∙ sym (at u us)
 
--- questions about the first token alone
+-- whether the first token is a mark
 pub same_begins : (m : Mark) → SameAtHead Bool (begins m)
 unfolding begins
 same_begins m = same_by Bool (begins m) (λ t. of_mark false (λ n. same_mark n m) t.kind) (λ t ts. refl)
 
+-- whether it is a keyword
 pub same_begins_key : (k : Key) → SameAtHead Bool (begins_key k)
 unfolding begins_key
 same_begins_key k = same_by Bool (begins_key k) (λ t. of_key false (λ n. same_key n k) t.kind) (λ t ts. refl)
 
+-- whether it begins a number type
 pub same_begins_number : SameAtHead Bool begins_number
 unfolding begins_number
 same_begins_number = same_by Bool begins_number (λ t. of_key false is_number_key t.kind) (λ t ts. refl)
 
-pub same_op : (k : ℕ) → SameAtHead (Option Operator) (op_at k)
-unfolding op_at
-same_op k = same_by (Option Operator) (op_at k) (λ t. of_level k (of_mark None operator_of t.kind)) (λ t ts. refl)
-
-pub same_assignment : SameAtHead (Option (Option BinOp)) assignment_at
-unfolding assignment_at
-same_assignment = same_by (Option (Option BinOp)) assignment_at (λ t. of_mark None assignment_of t.kind) (λ t ts. refl)
-
-pub same_prefix : SameAtHead (Option Prefix) prefix_at
-unfolding prefix_at
-same_prefix = same_by (Option Prefix) prefix_at (λ t. of_mark None prefix_of t.kind) (λ t ts. refl)
-
-pub same_tail : SameAtHead (Option Tail) tail_at
-unfolding tail_at
-same_tail = same_by (Option Tail) tail_at (λ t. of_mark None tail_of t.kind) (λ t ts. refl)
-
+-- its place
 pub same_head_span : SameAtHead Span head_span
 unfolding head_span
 same_head_span = same_by Span head_span (λ t. t.span) (λ t ts. refl)
@@ -193,7 +177,7 @@ same_head_span = same_by Span head_span (λ t. t.span) (λ t ts. refl)
 pub local_token : (A : Type 0) (p : Span → List Token → Answer A) → ((sp : Span) → Local A (p sp)) → Local A (λ ts. p (head_span ts) (rest ts))
 local_token A p h = local_at A Span head_span same_head_span (λ sp ts. p sp (rest ts)) (λ sp. local_rest A (p sp) (h sp))
 
--- a mark, and a name, that has to come
+-- a mark that has to come
 pub local_expect : (m : Mark) → Local Span (expect m)
 unfolding expect
 local_expect m = local_if Span (begins m) (same_begins m) (λ ts. done (head_span ts) (rest ts)) refuse (local_token Span (λ sp. done sp) (λ sp. local_done Span sp)) (local_refuse Span)
@@ -222,6 +206,7 @@ local_first A p q none some h = by_cases A (λ ts. by (head ts) ts) p same (loca
     same [] = none
     same (t ∷ ts) = some t ts
 
+-- a name that has to come
 pub local_name : Local Name expect_name
 unfolding expect_name
 local_name = local_first Name expect_name name_of refl (λ t ts. refl) local_name_of

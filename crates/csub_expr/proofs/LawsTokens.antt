@@ -1,16 +1,13 @@
 -- Lists of tokens: their places, and what an answered question says of the first.
-use Rattle.std.proofs.Common.{◌≡◌, ℕ, ◌<◌, ◌≤◌, Ok, true, List, [], ◌∷◌, ◌++◌, length, refl, sym, ap, ◌∙◌, arith, length-append}
+use Rattle.std.proofs.Common.{◌≡◌, ◌<◌, ◌≤◌, Ok, true, List, [], ◌∷◌, ◌++◌, length, refl, ap, ◌∙◌, arith, length-append}
 use Rattle.csub_text.specs.declared.span.Span.{Span}
 use Rattle.csub_lex.specs.declared.token.Token.{Token}
-use Rattle.csub_tree.specs.Expressions.{Kind, Node}
-use Rattle.csub_tree.specs.Tokens.{first, last, runs}
+use Rattle.csub_tree.specs.Tokens.{first, last, mark, key, id}
 use Rattle.csub_lex.specs.declared.token.Key.{Key}
 use Rattle.csub_lex.specs.declared.token.Mark.{Mark}
 use Rattle.csub_tree.specs.declared.name.Name.{Name}
-use Rattle.csub_tree.specs.Tokens.{mark, key, id}
 use Rattle.csub_expr.specs.Looks.{begins, begins_key, rest, head_span}
 use Rattle.csub_expr.specs.Answers.{expect, expect_name}
-use Rattle.csub_expr.specs.ExprDescent.{joins}
 use Rattle.csub_expr.proofs.Taken as taken
 
 -- the last place of a token and others is that of the others
@@ -41,17 +38,6 @@ last_behind a t b h = last_append a (t ∷ b) (omega arith) ∙ last_cons t b h
 pub last_token : (a : List Token) (t : Token) → last (a ++ t ∷ []) ≡ t.span.end
 last_token a t = last_append a (t ∷ []) (omega arith)
 
--- a node from the first token of a list to its last
-pub joins_runs : (k : Kind) (i j : ℕ) (ts : List Token) → i ≡ first ts → j ≡ last ts → joins k i j ≡ Node k (runs ts)
-joins_runs k i j ts hi hj = rw (hi, hj) refl
-
--- where a place of some tokens begins and ends
-pub starts : (x : Span) (a b : List Token) → x ≡ runs a → 0 < length a → x.start ≡ first (a ++ b)
-starts x a b e h = ap (λ (y : Span). y.start) e ∙ sym (first_append a b h)
-
-pub ends : (x : Span) (a : List Token) → x ≡ runs a → x.end ≡ last a
-ends x a e = ap (λ (y : Span). y.end) e
-
 -- behind the first token are no more than with it
 pub rest_shorter : (ts : List Token) → length (rest ts) ≤ length ts
 unfolding rest
@@ -63,16 +49,18 @@ pub append_nil : (s : List Token) → s ++ [] ≡ s
 append_nil [] = refl
 append_nil (t ∷ s) = ap (λ (u : List Token). t ∷ u) (append_nil s)
 
--- what begins with a mark, or with a keyword, is that token and the rest
+-- what begins with a mark is it and the rest
 pub begins_is : (m : Mark) (ts : List Token) → begins m ts ≡ true → ts ≡ mark m (head_span ts) ∷ rest ts
 begins_is m ts e = taken.begins_is m ts e
 
+-- what begins with a keyword is it and the rest
 pub begins_key_is : (k : Key) (ts : List Token) → begins_key k ts ≡ true → ts ≡ key k (head_span ts) ∷ rest ts
 begins_key_is k ts e = taken.begins_key_is k ts e
 
--- where a mark, or a name, had to come and came, the tokens are it and the rest
+-- where a mark had to come and came, the tokens are it and the rest
 pub expect_is : (m : Mark) (ts : List Token) (sp : Span) (r : List Token) → expect m ts ≡ Ok (sp, r) → ts ≡ mark m sp ∷ r
 expect_is m ts sp r e = taken.expect_is m ts sp r e
 
+-- where a name had to come and came, the tokens are it and the rest
 pub expect_name_is : (ts : List Token) (n : Name) (r : List Token) → expect_name ts ≡ Ok (n, r) → ts ≡ id n ∷ r
 expect_name_is ts n r e = taken.expect_name_is ts n r e

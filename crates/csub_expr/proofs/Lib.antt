@@ -5,6 +5,7 @@ pub mod LawsLists
 pub mod LawsExpressions
 mod SameWords
 mod Taken
+mod Places
 mod Spelled
 mod ExprSound
 mod ExprLocal

@@ -13,9 +13,14 @@ use Rattle.csub_tree.specs.SpellsExpressions.{Rank, SpellsExpr, no_assignment, a
 use Rattle.csub_expr.specs.Looks.{begins, begins_key, same_mark, begins_number}
 use Rattle.csub_expr.specs.ExprDescent.{is_unary}
 use Rattle.csub_expr.proofs.SameWords.{same_mark_is}
-use Rattle.csub_expr.proofs.LawsAnswers.{not_true}
 use Rattle.csub_expr.proofs.LawsTokens.{nonempty_append}
 
+-- what is not true is false
+not_true : (b : Bool) → (b ≡ true → ⊥) → b ≡ false
+not_true true h = absurd (h refl)
+not_true false h = refl
+
+-- an expression has a node
 pub depth_pos : (e : Expr) → 0 < expr_depth e
 depth_pos (Node k s) = omega arith
 

@@ -22,7 +22,8 @@ use Rattle.csub_expr.specs.Answers.{Answer, ◌>>=◌, done, expect, expect_name
 use Rattle.csub_expr.specs.ListDescent.{separated, never}
 use Rattle.csub_expr.specs.ExprDescent as descent
 use Rattle.csub_expr.specs.ExprDescent.{read, joins, is_unary, number_at, paren_at, cast_at, call_at, name_at, word_at, behind_by, behind, open_at, unary_by, unary_at, more_by, more, chain_at, choice_at, cond_at, assign_by, assign_at}
-use Rattle.csub_expr.proofs.LawsTokens.{last_cons, nonempty_append, last_behind, last_token, joins_runs, starts, ends}
+use Rattle.csub_expr.proofs.LawsTokens.{last_cons, nonempty_append, last_behind, last_token}
+use Rattle.csub_expr.proofs.Places.{joins_runs, starts, ends}
 use Rattle.csub_expr.proofs.LawsLists.{separated_last, separated_next}
 use Rattle.csub_expr.proofs.Spelled.{depth_pos, applied_depth, lead, lead_no_number}
 use Rattle.csub_expr.proofs.ExprReads.{Closing, Heads, Reads, Tails, behind_none, ends_at, head_at, step_continues}
