@@ -7,4 +7,4 @@ mod ValidResults
 mod ValidPrograms
 mod ValidStmts
 mod ValidStart
-mod Threads
+pub mod LawsThreads

@@ -2,7 +2,8 @@
 //! on from here with its types.
 //!
 //! What is promised of the code: [`Program::make`] gives a program exactly where its functions are valid, and a
-//! [`Program`] stays valid (the contracts of its methods).
+//! [`Program`] stays valid (the contracts of its methods). Proofs above cite `proofs/LawsThreads`: a program may cross
+//! threads.
 #![tactic(auto)]
 
 pub mod program;

@@ -141,6 +141,3 @@ fn has_few_cells(function: &Function) -> bool
     let temps = function.temps as usize;
     params <= MOST_CELLS && locals <= MOST_CELLS && params + locals + temps <= MOST_CELLS
 }
-
-#[cfg(test)]
-mod tests;

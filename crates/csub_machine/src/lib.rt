@@ -20,8 +20,6 @@ pub mod machine;
 mod run;
 mod stop;
 mod store;
-#[cfg(test)]
-mod tests;
 mod turn;
 mod ways;
 

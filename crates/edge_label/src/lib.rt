@@ -12,8 +12,6 @@
 pub mod book;
 mod code;
 pub mod steps;
-#[cfg(test)]
-mod tests;
 
 pub use book::LabelBook;
 pub use steps::Steps;

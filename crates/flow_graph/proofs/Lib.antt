@@ -1,5 +1,6 @@
 pub mod LawsLists
 pub mod LawsPlaces
+pub mod LawsThreads
 mod Rows
 mod Emitted
 mod Lengths

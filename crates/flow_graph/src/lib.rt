@@ -5,7 +5,8 @@
 //! [`Graph::follow`], [`Graph::edge_number`], [`Graph::edge_at`], [`Graph::label_at`] and the others say what that is at
 //! a number, in the words of the record `flow_of` between a program and all that runs or walks it.
 //!
-//! Proofs above cite `proofs/LawsPlaces`, where points stand, and `proofs/LawsLists`, lists read by place.
+//! Proofs above cite `proofs/LawsPlaces`, where points stand, `proofs/LawsLists`, lists read by place, and
+//! `proofs/LawsThreads`: a graph may cross threads.
 #![tactic(auto)]
 
 mod begin;
@@ -18,6 +19,3 @@ mod node;
 mod search;
 
 pub use graph::{EdgeEnds, Graph};
-
-#[cfg(test)]
-mod tests;

@@ -17,6 +17,3 @@ pub mod token;
 
 pub use law::a_small_source_means_one_program;
 pub use read::read_small;
-
-#[cfg(test)]
-mod tests;

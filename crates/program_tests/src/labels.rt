@@ -1,23 +1,24 @@
-//! Worked examples: which labels have one number, and how a caller asks that counts nothing.
+//! Which labels have one number, and how a caller asks that counts nothing.
 ghost use Rattle.std.specs.Prelude.{◌≡◌, ◌<◌, length};
 
-use crate::{LabelBook, Steps};
-use csub_core::{
-    Answer, BinOp, CType, CallLabel, EndRule, IntKind, Label, Member, RArg, RExpr, Text,
-};
+use csub_core::{BinOp, CallLabel, EndRule, IntKind, Label, RArg, RExpr};
+use edge_label::{LabelBook, Steps};
+use program_builders::expressions::{binary, constant, constant_of, output};
+use program_builders::functions::call;
+use program_builders::objects::parameter;
+use program_builders::statements::answer;
 use std::alloc::{AllocError, Global};
 use std::marker::Brand;
-use std::process::Abort;
 use std::sync::ledger::{Blank, Ledger};
+use std::test::Fail;
 
-// `7 op value`, the value a constant of the kind
-fn operation(alloc: Global, op: BinOp, kind: IntKind, value: i64) -> Result<RExpr, AllocError> {
-    let left = Box::new(alloc, RExpr::Const(IntKind::Int, 7))?;
-    let right = Box::new(alloc, RExpr::Const(kind, value))?;
-    Ok(RExpr::Binary(op, IntKind::Int, left, right))
+/// The label of `7 op value`, with the value as a constant of a kind.
+fn operation(alloc: Global, op: BinOp, kind: IntKind, value: i64) -> Result<Label, AllocError> {
+    let right = constant_of(kind, value);
+    Ok(Label::Eval(binary(alloc, op, IntKind::Int, constant(7), right)?))
 }
 
-// a call of a function of one parameter with one argument
+/// A call of a function of one parameter with one argument.
 #[derive(Clone, Copy)]
 struct Case {
     name: u8,
@@ -28,25 +29,16 @@ struct Case {
     temp: Option<u32>,
 }
 
-fn call(alloc: Global, case: Case) -> Result<CallLabel, AllocError> {
-    let mut params = Vec::new(alloc);
-    params.push(Member {
-        name: Text::new(alloc, &[case.param])?,
-        ctype: CType::Num(case.declared),
-    })?;
-    let mut args = Vec::new(alloc);
-    args.push(RArg::Value(RExpr::Const(IntKind::Int, case.arg)))?;
-    Ok(CallLabel {
-        callee: Text::new(alloc, &[case.name])?,
-        params,
-        result: case.returned,
-        args,
-        temp: case.temp,
-    })
+fn call_of(alloc: Global, case: Case) -> Result<CallLabel, AllocError> {
+    let mut label = call(alloc, &[case.name], case.returned, case.temp)?;
+    label
+        .params
+        .push(parameter(alloc, &[case.param], case.declared)?)?;
+    label.args.push(RArg::Value(constant(case.arg)))?;
+    Ok(label)
 }
 
-fn push_plain(alloc: Global, labels: &mut Vec<Label>) -> Result<(), AllocError> {
-    labels.push(Label::Entry)?;
+fn push_ends(labels: &mut Vec<Label>) -> Result<(), AllocError> {
     for rule in [
         EndRule::Nothing,
         EndRule::Value,
@@ -55,17 +47,19 @@ fn push_plain(alloc: Global, labels: &mut Vec<Label>) -> Result<(), AllocError> 
     ] {
         labels.push(Label::Exit(rule))?;
     }
+    Ok(())
+}
+
+fn push_plain(alloc: Global, labels: &mut Vec<Label>) -> Result<(), AllocError> {
+    labels.push(Label::Entry)?;
+    push_ends(labels)?;
     labels.push(Label::Eval(RExpr::Getchar))?;
     labels.push(Label::Branch(RExpr::Getchar))?;
     labels.push(Label::Return(None))?;
     for kind in [IntKind::Char, IntKind::Int] {
-        labels.push(Label::Return(Some(Answer {
-            kind,
-            value: RExpr::Getchar,
-        })))?;
+        labels.push(answer(kind, RExpr::Getchar))?;
     }
-    let byte = Box::new(alloc, RExpr::Getchar)?;
-    labels.push(Label::Eval(RExpr::Putchar(byte)))?;
+    labels.push(Label::Eval(output(alloc, RExpr::Getchar)?))?;
     Ok(())
 }
 
@@ -80,7 +74,7 @@ fn push_operations(alloc: Global, labels: &mut Vec<Label>) -> Result<(), AllocEr
         (BinOp::Add, IntKind::Int, -2),
     ];
     for (op, kind, value) in cases {
-        labels.push(Label::Eval(operation(alloc, op, kind, value)?))?;
+        labels.push(operation(alloc, op, kind, value)?)?;
     }
     Ok(())
 }
@@ -107,12 +101,12 @@ fn push_calls(alloc: Global, labels: &mut Vec<Label>) -> Result<(), AllocError> 
             arg,
             temp,
         };
-        labels.push(Label::Call(call(alloc, case)?))?;
+        labels.push(Label::Call(call_of(alloc, case)?))?;
     }
     Ok(())
 }
 
-// 26 labels, each other than the ones before it
+/// 26 labels, each other than the ones before it.
 fn different(alloc: Global) -> Result<Vec<Label>, AllocError> {
     let mut labels = Vec::new(alloc);
     push_plain(alloc, &mut labels)?;
@@ -121,6 +115,7 @@ fn different(alloc: Global) -> Result<Vec<Label>, AllocError> {
     Ok(labels)
 }
 
+/// The numbers that a book gives to a new build of these labels.
 fn numbers(alloc: Global, book: &mut LabelBook) -> Result<Vec<u32>, AllocError> {
     let mut numbers = Vec::new(alloc);
     for label in &different(alloc)? {
@@ -131,22 +126,19 @@ fn numbers(alloc: Global, book: &mut LabelBook) -> Result<Vec<u32>, AllocError> 
 
 // Labels that differ in one part have different numbers, given from 0 on; equal ones of a second build have the same.
 #[test]
-fn a_label_has_the_number_of_its_equal_and_of_no_other(rt: HostRuntime) {
+fn a_label_has_the_number_of_its_equal_and_of_no_other(rt: HostRuntime) -> Result<(), Fail> {
     let mut book = LabelBook::new(rt.alloc());
-    let old = numbers(rt.alloc(), &mut book);
-    let new = numbers(rt.alloc(), &mut book);
-    let (Ok(old), Ok(new)) = (old, new) else {
-        assert!(rt; false, "no memory");
-        return;
-    };
-    assert!(rt; old.len() == 26);
+    let old = numbers(rt.alloc(), &mut book)?;
+    let new = numbers(rt.alloc(), &mut book)?;
+    assert_eq!(rt; old.len(), 26);
     for (place, number) in old.iter().enumerate() {
         assert!(rt; *number as usize == place, "label {place}");
     }
     assert!(rt; new.as_slice() == old.as_slice());
+    Ok(())
 }
 
-// what is said of a label and its equal, and of it and another one
+/// What is said of a label and its equal, and of it and another one.
 fn ask<L: Ledger>(
     book: &LabelBook,
     label: u32,
@@ -169,15 +161,12 @@ fn ask<L: Ledger>(
 
 // A caller that counts nothing names the ledger itself.
 #[test]
-fn the_same_is_said_of_equal_labels_alone(rt: HostRuntime) {
+fn the_same_is_said_of_equal_labels_alone(rt: HostRuntime) -> Result<(), Fail> {
     let mut book = LabelBook::new(rt.alloc());
-    let entry = book.intern(&Label::Entry);
-    let other = book.intern(&Label::Return(None));
-    let again = book.intern(&Label::Entry);
-    let (Ok(entry), Ok(other), Ok(again)) = (entry, other, again) else {
-        assert!(rt; false, "no memory");
-        return;
-    };
+    let entry = book.intern(&Label::Entry)?;
+    let other = book.intern(&Label::Return(None))?;
+    let again = book.intern(&Label::Entry)?;
     let answers = ask::<Brand>(&book, entry, again, other, Blank::new(1));
     assert!(rt; answers == (true, false));
+    Ok(())
 }

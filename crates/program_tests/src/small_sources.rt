@@ -1,6 +1,6 @@
-//! Worked examples.
-use crate::read_small;
+//! Which sources are small, and the program of the worked one.
 use csub_core::{BinOp, IntKind, Label, Program, RExpr, RPart, RStmt, Span};
+use read_small::read_small;
 use std::alloc::Global;
 use std::process::Abort;
 
