@@ -1,5 +1,5 @@
 -- The digits of a number, read from the left.
-use Rattle.std.proofs.Common.{◌&&◌, suc, ◌≡◌, ◌≢◌, ◌<◌, ◌≤◌, ◌+◌, ◌-◌, ◌*◌, ◌^◌, ℕ, List, [], ◌∷◌, true, false, length, drop, get_or, refl, sym, ap, ◌∙◌, add-one, arith, rules, inl, inr, ℤ, pos, negsuc}
+use Rattle.std.proofs.Common.{◌&&◌, suc, ◌≡◌, ◌≢◌, ◌<◌, ◌≤◌, ◌+◌, ◌-◌, ◌*◌, ◌^◌, ℕ, List, [], ◌∷◌, true, false, length, drop, get_or, refl, sym, ap, ◌∙◌, add-one, arith, inl, inr, ℤ, pos, negsuc}
 use Rattle.std.specs.Fmt.{decimal, signed_decimal}
 use Rattle.std.specs.Int.{w64}
 use Rattle.std.specs.Prelude.{FitsSigned}
