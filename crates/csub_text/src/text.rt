@@ -10,11 +10,13 @@ ghost use Rattle.std.specs.Cmp;
 use std::alloc::{AllocError, Global};
 use std::cmp::Ordering;
 use std::marker::Model;
+use std::sync::Arc;
 
-/// A text: any bytes, as a name or a string of a source. Contracts see the list of its bytes.
+/// A text: any bytes, as a name or a string of a source. Contracts see the list of its bytes. Copies share them, so a text
+/// may be named as often as one likes.
 #[derive(Drop)]
 pub struct Text {
-    held: Vec<u8>,
+    held: Arc<Vec<u8>, Global>,
 }
 
 impl Model for Text {
@@ -22,7 +24,7 @@ impl Model for Text {
 
     ghost Value = { List ℕ };
 
-    ghost view = { λ text. text.held.items };
+    ghost view = { λ text. text.held.value.items };
 }
 
 impl Text {
@@ -30,7 +32,7 @@ impl Text {
     pub fn new(alloc: Global, bytes: &[u8]) -> Result<Text, AllocError>
         ensures { IfOk result (λ text. text ≡ bytes.now) }
     {
-        let held = bytes.to_vec(alloc)?;
+        let held = Arc::new(alloc, bytes.to_vec(alloc)?)?;
         Ok(Text { held })
     }
 
@@ -41,11 +43,12 @@ impl Text {
         self.held.as_slice()
     }
 
-    /// A text of the same bytes. An `Err` is want of memory.
+    /// A text of the same bytes, which shares what this one holds: it takes constant time and no memory. An `Err` is a full
+    /// count of the texts that share it.
     pub fn copy(&self) -> Result<Text, AllocError>
         ensures { IfOk result (λ text. text ≡ self.now) }
     {
-        let held = self.held.clone()?;
+        let held = Arc::try_clone(&self.held)?;
         Ok(Text { held })
     }
 }

@@ -1,0 +1,72 @@
+//! The parts of types.
+ghost use Rattle.std.specs.Prelude.{◌≡◌, ◌↔◌, IsTrue, IsSome, IfSome, option_map};
+ghost use Rattle.csub_objects.specs.Meaning.{type_tree};
+ghost use Rattle.csub_objects.specs.Types.{IsCappedSome, IsNumber, array_length, element_type, first_cell, member_type, number_kind};
+
+use crate::types::CType;
+use csub_types::IntKind;
+
+/// Whether a type is that of numbers.
+pub fn is_number(ctype: &CType) -> bool
+    ensures { IsTrue result ↔ IsNumber (type_tree ctype.now) }
+{
+    match ctype {
+        CType::Num(_) => true,
+        _ => false,
+    }
+}
+
+/// The kind of a number type, `int` where the type is none.
+pub fn number_kind(ctype: &CType) -> IntKind
+    ensures { result ≡ number_kind (type_tree ctype.now) }
+{
+    match ctype {
+        CType::Num(kind) => *kind,
+        _ => IntKind::Int,
+    }
+}
+
+/// The type of the elements of an array or an array parameter.
+pub fn element_type(ctype: &CType) -> Option<&CType>
+    ensures { option_map (λ t. type_tree t.now) result ≡ element_type (type_tree ctype.now) }
+{
+    match ctype {
+        CType::Array(element, _) | CType::Loose(element) => Some(element.ctype()),
+        _ => None,
+    }
+}
+
+/// How many elements an array has, 0 where the type says none.
+pub fn array_length(ctype: &CType) -> u32
+    ensures { result ≡ array_length (type_tree ctype.now) }
+{
+    match ctype {
+        CType::Array(_, length) => *length,
+        _ => 0,
+    }
+}
+
+/// The type of a struct's member of a name (C11 6.5.2.3p3), found by a hash.
+pub fn member_type<'a>(ctype: &'a CType, name: &[u8]) -> Option<&'a CType>
+    ensures { option_map (λ t. type_tree t.now) result ≡ member_type name.now (type_tree ctype.now) }
+{
+    match ctype {
+        CType::Struct(_, members) => match members.find(name) {
+            Some(member) => Some(&member.ctype),
+            None => None,
+        },
+        _ => None,
+    }
+}
+
+/// The first cell of a struct's member of a name (C11 6.7.2.1p15), 65,537 where more than 65,536 are before it; found by
+/// a hash.
+pub fn first_cell(ctype: &CType, name: &[u8]) -> Option<u64>
+    ensures some { IfSome result (λ cell. IsCappedSome cell (first_cell name.now (type_tree ctype.now))) }
+    ensures exact { IsSome result ↔ IsSome (first_cell name.now (type_tree ctype.now)) }
+{
+    match ctype {
+        CType::Struct(_, members) => members.first_cell(name),
+        _ => None,
+    }
+}
