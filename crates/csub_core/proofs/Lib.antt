@@ -1,9 +1,7 @@
-mod ValidArgs
 mod ValidCounts
-mod ValidLists
-mod ValidObjects
 mod ValidParts
-mod ValidResults
+mod ValidGlobals
+mod ValidObjects
 mod ValidPrograms
 mod ValidStmts
 mod ValidStart

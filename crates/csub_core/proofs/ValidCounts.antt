@@ -9,14 +9,14 @@ use Rattle.std.specs.declared.vec.Vec.{Vec}
 use Rattle.std.specs.declared.alloc.Global.{Global}
 use Rattle.csub_semantics.specs.declared.function.Function.{Function}
 use Rattle.csub_semantics.specs.declared.function.RStmt.{RStmt, Block}
-use Rattle.csub_semantics.specs.Types.{Name}
+use Rattle.csub_objects.specs.Types.{Name}
 use Rattle.csub_semantics.specs.Labels.{LabelTree, exits, returns}
 use Rattle.csub_semantics.specs.Syntax.{PartTree, StmtTree, StmtTrees, ElseTree, parts, block, conditional, while_loop, do_loop, for_loop, breaks, continues, no_stmt, more_stmts, no_else, else_stmt, FunctionTree, function_tree, stmt_tree, stmts_of}
 use Rattle.csub_semantics.proofs.LawsRows.{stmt_tree-Block}
 use Rattle.csub_semantics.specs.Points.{PointTree, exit, at}
 use Rattle.csub_semantics.specs.Successors.{Way, Node, Around, own_ways, last_ways, part_nodes, parts_nodes, nodes, nodes_list, nodes_else, leaving, looping, test_ways, enter, enter_part, enter_list, enter_else, enter_parts}
-use Rattle.csub_semantics.specs.Flows.{function_nodes, to_exit, end_rule, placed, edges_from, point_list, edge_list}
-use Rattle.csub_core.specs.Checks.{count, count_list, count_else, count_test, count_function}
+use Rattle.csub_semantics.specs.Flows.{function_nodes, to_exit, end_rule, placed, edges_from, points_of}
+use Rattle.csub_core.specs.Checks.{edges_of, count, count_list, count_else, count_test, count_function}
 
 -- what is left of a limit after two counts
 pub SomeIff-after : (r : Option ℕ) (a s left inside : ℕ) → a ≤ left → inside ≡ left - a → SomeIff r (s ≤ inside) (inside - s) → SomeIff r (a + s ≤ left) (left - (a + s))
@@ -150,18 +150,18 @@ length-edges name [] = refl
 length-edges name (n ∷ ns) =
     omega (arith, length-append (edges_from (placed name n)) (flat_map edges_from (map (placed name) ns)), length-edges_from name n, length-edges name ns)
 
-pub length-point_list : (fs : List Function) → length (point_list (map function_tree fs)) ≡ sum_by (λ f. count_function 2 0 (function_tree f)) fs
-length-point_list [] = refl
-length-point_list (f ∷ fs) =
+pub length-points_of : (fs : List Function) → length (points_of (map function_tree fs)) ≡ sum_by (λ f. count_function 2 0 (function_tree f)) fs
+length-points_of [] = refl
+length-points_of (f ∷ fs) =
     let tree = function_tree f in
-    omega (arith, length-append (map (placed tree.name) (function_nodes tree)) (point_list (map function_tree fs)), length-map (function_nodes tree) (placed tree.name), (counts_of_function tree).points, length-point_list fs, sum_by-cons (λ g. count_function 2 0 (function_tree g)) f fs)
+    omega (arith, length-append (map (placed tree.name) (function_nodes tree)) (points_of (map function_tree fs)), length-map (function_nodes tree) (placed tree.name), (counts_of_function tree).points, length-points_of fs, sum_by-cons (λ g. count_function 2 0 (function_tree g)) f fs)
 
-pub length-edge_list : (fs : List Function) → length (edge_list (map function_tree fs)) ≡ sum_by (λ f. count_function 1 1 (function_tree f)) fs
-length-edge_list [] = refl
-length-edge_list (f ∷ fs) =
+pub length-edges_of : (fs : List Function) → length (edges_of (map function_tree fs)) ≡ sum_by (λ f. count_function 1 1 (function_tree f)) fs
+length-edges_of [] = refl
+length-edges_of (f ∷ fs) =
     let tree = function_tree f in
-    let joined = ap length (flat_map-append edges_from (map (placed tree.name) (function_nodes tree)) (point_list (map function_tree fs))) in
-    omega (arith, joined, length-append (flat_map edges_from (map (placed tree.name) (function_nodes tree))) (edge_list (map function_tree fs)), length-edges tree.name (function_nodes tree), (counts_of_function tree).ways, length-edge_list fs, sum_by-cons (λ g. count_function 1 1 (function_tree g)) f fs)
+    let joined = ap length (flat_map-append edges_from (map (placed tree.name) (function_nodes tree)) (points_of (map function_tree fs))) in
+    omega (arith, joined, length-append (flat_map edges_from (map (placed tree.name) (function_nodes tree))) (edges_of (map function_tree fs)), length-edges tree.name (function_nodes tree), (counts_of_function tree).ways, length-edges_of fs, sum_by-cons (λ g. count_function 1 1 (function_tree g)) f fs)
 
 -- something is left exactly where the count stays within its limit
 pub some_is_left : (r : Option ℕ) (P : Type 0) (v : ℕ) → SomeIff r P v → IsTrue (is_some r) ↔ P

@@ -1,13 +1,14 @@
 -- The stages of a part: its calls, and what stands behind them.
 use Rattle.std.proofs.Common.{◌≡◌, ◌↔◌, ℕ, zero, suc, ◌+◌, ◌<◌, List, [], ◌∷◌, ◌++◌, map, length, get_or, Option, Some, None, sym, subst, arith}
 use Rattle.csub_semantics.specs.declared.function.RCall.{RCall}
-use Rattle.csub_core.specs.declared.valid.role.Role.{Role}
-use Rattle.csub_core.specs.declared.valid.role.Role.TheVariants.{Whole, Test, Effect}
+use Rattle.csub_validity.specs.declared.role.Role.{Role}
+use Rattle.csub_validity.specs.declared.role.Role.TheVariants.{Whole, Test, Effect}
 use Rattle.csub_text.specs.declared.span.Span.{Span}
 use Rattle.csub_semantics.specs.Labels.{LabelTree, call_tree}
 use Rattle.csub_semantics.specs.Syntax.{Stage, call_stage, own_stage, FunctionTree, ProgramTree}
-use Rattle.csub_core.specs.Valid.{Scope, IsCall, IsLast, AreStages}
-use Rattle.csub_core.specs.Checks.{AreCalls, IsEnd}
+use Rattle.csub_validity.specs.Valid.{Scope, IsCall, IsLast, AreStages}
+use Rattle.csub_validity.specs.Checks.{AreCalls}
+use Rattle.csub_core.specs.Checks.{IsEnd}
 
 module _ (P : ProgramTree) (f : FunctionTree) (sc : Scope) where
   -- calls that fit their callees, the first of them the k-th

@@ -2,7 +2,7 @@
 use Rattle.std.proofs.Common.{◌≡◌, List, [], ◌∷◌, map, length, refl}
 use Rattle.csub_semantics.specs.declared.function.RStmt.{RStmt}
 use Rattle.csub_semantics.specs.Syntax.{StmtTree, StmtTrees, parts, more_stmts, stmt_tree, stmts_of}
-use Rattle.csub_core.specs.Valid.{IsStartBody}
+use Rattle.csub_validity.specs.Valid.{IsStartBody}
 
 two_lines : (s t : StmtTree) (rest : StmtTrees) → IsStartBody (more_stmts s (more_stmts t rest)) → ⊥
 two_lines (parts ps) t rest h = h

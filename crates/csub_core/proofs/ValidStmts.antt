@@ -8,14 +8,14 @@ use Rattle.csub_semantics.specs.declared.function.RCall.{RCall}
 use Rattle.csub_semantics.specs.declared.function.RPart.{RPart}
 use Rattle.csub_semantics.specs.Labels.{LabelTree}
 use Rattle.csub_semantics.specs.declared.function.RStmt.{RStmt, Block}
-use Rattle.csub_core.specs.declared.valid.role.Role.{Role}
-use Rattle.csub_core.specs.declared.valid.role.Role.TheVariants.{Effect}
-use Rattle.csub_core.specs.declared.valid.role.Targets.{Targets}
+use Rattle.csub_validity.specs.declared.role.Role.{Role}
+use Rattle.csub_validity.specs.declared.role.Role.TheVariants.{Effect}
+use Rattle.csub_validity.specs.declared.role.Targets.{Targets}
 use Rattle.csub_semantics.specs.Syntax.{call_stage, own_stage, part_tree, stmt_tree, stmts_of, FunctionTree, ProgramTree}
-use Rattle.csub_core.specs.Valid.{is_declared, declares, IsPart, IsStmt, AreStmts, stmt_count, most_entries}
+use Rattle.csub_validity.specs.Valid.{is_declared, declares, IsPart, IsStmt, AreStmts, stmt_count, most_entries}
 use Rattle.csub_core.specs.Checks.{declared_own}
 use Rattle.csub_semantics.proofs.LawsRows.{stmt_tree-Block}
-use Rattle.csub_core.proofs.ValidLists.{All-of_map}
+use Rattle.csub_validity.proofs.LawsLists.{All-of_map}
 
 module _ (P : ProgramTree) (f : FunctionTree) (to : Targets) where
   pub AreStmts-All : (ss : List RStmt) → AreStmts P f to (stmts_of (map stmt_tree ss)) ↔ All (λ s. IsStmt P f to (stmt_tree s)) ss

@@ -1,42 +1,26 @@
 -- What the steps of the validity check decide or count. No definition above this file needs it.
-use Rattle.std.specs.Prelude.{ℕ, ◌+◌, ◌<◌, ◌≤◌, ◌≡◌, ◌≢◌, AllPairs, All, Bool, false, List, [], ◌∷◌, length, slice_index_or, sum_by, Option, Some, None}
-use Rattle.csub_core.specs.declared.valid.role.Role.{Role}
-use Rattle.csub_core.specs.declared.valid.role.Site.{Site}
-use Rattle.csub_core.specs.declared.valid.role.Role.TheVariants.{Whole, Test, Effect}
-use Rattle.csub_types.specs.declared.kind.IntKind.{IntKind}
-use Rattle.csub_semantics.specs.Trees.{NamedArg, value_argument}
-use Rattle.csub_semantics.specs.Labels.{LabelTree, call_tree}
+use Rattle.std.specs.Prelude.{ℕ, ◌+◌, ◌<◌, ◌≤◌, ◌≡◌, ◌≢◌, Bool, false, List, [], ◌∷◌, length, sum_by, All, AllPairs, Option, Some, None}
+use Rattle.std.specs.List.{flat_map}
+use Rattle.csub_semantics.specs.Labels.{LabelTree}
 use Rattle.csub_semantics.specs.Syntax.{PartTree, StmtTree, StmtTrees, ElseTree, parts, block, conditional, while_loop, do_loop, for_loop, breaks}
-use Rattle.csub_semantics.specs.Syntax.{continues, no_stmt, more_stmts, no_else, else_stmt, FunctionTree, ProgramTree, part_tree, function_tree}
-use Rattle.csub_core.specs.Valid.{Scope, scope_of, is_declared, label_result, IsExpr, IsCall, IsLast, AreStmts, no_loop, objects_of, AreOther}
-use Rattle.csub_core.specs.Valid.{declares, IsOneOrDeclares, stmt_count, most_entries, frame_cells, most_parameters, BeginsWithStart, IsMain}
-use Rattle.csub_core.specs.Valid.{most_functions, most_points, most_edges, most_cells}
-use Rattle.csub_semantics.specs.Flows.{main_name, function_of, point_list, edge_list}
-use Rattle.csub_semantics.specs.declared.function.RCall.{RCall}
+use Rattle.csub_semantics.specs.Syntax.{continues, no_stmt, more_stmts, no_else, else_stmt, FunctionTree, ProgramTree}
+use Rattle.csub_semantics.specs.declared.types.GlobalVar.{GlobalVar}
+use Rattle.csub_objects.specs.Meaning.{type_tree}
+use Rattle.csub_objects.specs.Types.{cells, kinds, IsSized}
+use Rattle.csub_objects.specs.declared.types.Member.{Member}
 use Rattle.csub_semantics.specs.declared.function.LocalVar.{LocalVar}
-use Rattle.csub_semantics.specs.declared.types.Member.{Member}
-
--- what the expressions of a part may name, by where they stand
-abbrev pub scope_at : Site → Scope
-scope_at site = scope_of (function_tree site.function.now) (part_tree site.part.now)
+use Rattle.csub_semantics.specs.Types.{GlobalTree, global_tree}
+use Rattle.csub_semantics.specs.Flows.{main_name, function_in, points_of, Edge, edges_from}
+use Rattle.csub_validity.specs.declared.role.Role.{Role}
+use Rattle.csub_validity.specs.declared.role.Role.TheVariants.{Whole, Test, Effect}
+use Rattle.csub_validity.specs.Valid.{Scope, is_declared, IsLast, AreStmts, no_loop, objects_of, AreOther}
+use Rattle.csub_validity.specs.Valid.{declares, IsOneOrDeclares, stmt_count, most_entries, frame_cells, most_parameters, BeginsWithStart, IsMain}
+use Rattle.csub_validity.specs.Valid.{most_functions, most_points, most_edges, most_cells, AreOf, AreGlobals, AreDeclared}
 
 -- whether a part's own point initialises a declared object
 abbrev pub declared_own : Option LabelTree → Bool
 declared_own None = false
 declared_own (Some label) = is_declared label
-
--- what a part's own point gives, where it is a call
-abbrev pub own_result : Option LabelTree → Option IntKind
-own_result None = None
-own_result (Some label) = label_result label
-
--- the calls of a part, numbered from 1, fit their callees
-abbrev pub AreCalls : ProgramTree → Scope → ℕ → List RCall → Type 0
-AreCalls P sc temps calls = (i : ℕ) (d : RCall) → i < length calls → IsCall P sc temps (i + 1) (call_tree (slice_index_or calls i d).label)
-
--- an argument is a valid expression
-abbrev pub IsValue : Scope → ℕ → NamedArg → Type 0
-IsValue sc k (value_argument e) = IsExpr sc k e
 
 -- what stands behind a part's calls: its own point, or where the whole part is a user call, nothing
 abbrev pub IsEnd : ProgramTree → FunctionTree → Scope → Role → ℕ → Option LabelTree → Type 0
@@ -78,10 +62,6 @@ abbrev mutual
 abbrev pub count_function : ℕ → ℕ → FunctionTree → ℕ
 count_function ends further f = ends + count_list further f.body
 
--- no local that counts as the first of its name has the name of a parameter
-abbrev pub AreApart : List Member → List LocalVar → Type 0
-AreApart params locals = All (λ (l : LocalVar). l.number ≡ 1 → All (λ (p : Member). p.name ≢ l.name) params) locals
-
 -- the parts of a statement apart from what each of them is
 abbrev pub AreTogether : List PartTree → Type 0
 AreTogether ps = (length ps ≤ most_entries) × IsOneOrDeclares ps
@@ -90,25 +70,51 @@ AreTogether ps = (length ps ≤ most_entries) × IsOneOrDeclares ps
 abbrev pub IsOneStep : List PartTree → Type 0
 IsOneStep ps = (length ps ≤ 1) × All (λ p. declares p ≡ false) ps
 
+-- how many cells an object of file scope, a parameter and a local have
+abbrev pub cells_of : GlobalVar → ℕ
+cells_of g = cells (type_tree g.ctype)
+
+abbrev pub param_cells : Member → ℕ
+param_cells m = cells (type_tree m.ctype)
+
+abbrev pub local_cells : LocalVar → ℕ
+local_cells v = cells (type_tree v.ctype)
+
+-- an object of file scope has a type that an object may have, and an initial number for each of its cells
+abbrev pub IsFilled : GlobalTree → Type 0
+IsFilled g = IsSized g.ctype × AreOf (kinds g.ctype) g.initial
+
+abbrev pub AreFilled : List GlobalVar → Type 0
+AreFilled globals = All (λ (g : GlobalVar). IsFilled (global_tree g)) globals
+
 -- validity, cut into parts that are joined two by two
-abbrev pub IsWithinLimits : ProgramTree → Type 0
-IsWithinLimits P = (length P ≤ most_functions + 1) × (length (point_list P) ≤ most_points) × (length (edge_list P) ≤ most_edges)
+abbrev pub edges_of : List FunctionTree → List Edge
+edges_of fs = flat_map edges_from (points_of fs)
 
-abbrev pub HasEnds : ProgramTree → Type 0
-HasEnds P = BeginsWithStart P × IsMain (function_of P main_name)
+abbrev pub IsWithinLimits : List FunctionTree → Type 0
+IsWithinLimits fs = (length fs ≤ most_functions + 1) × (length (points_of fs) ≤ most_points) × (length (edges_of fs) ≤ most_edges)
 
-abbrev pub AreNamed : ProgramTree → Type 0
-AreNamed P = HasEnds P × AllPairs (λ f g. f.name ≢ g.name) P
+abbrev pub HasEnds : List FunctionTree → Type 0
+HasEnds fs = BeginsWithStart fs × IsMain (function_in fs main_name)
+
+abbrev pub AreNamed : List FunctionTree → Type 0
+AreNamed fs = HasEnds fs × AllPairs (λ f g. f.name ≢ g.name) fs
+
+abbrev pub HasFunctions : List FunctionTree → Type 0
+HasFunctions fs = IsWithinLimits fs × AreNamed fs
 
 abbrev pub IsFramed : ProgramTree → Type 0
-IsFramed P = IsWithinLimits P × AreNamed P
+IsFramed P = HasFunctions P.functions × AreGlobals P.globals
 
 -- what validity says of each function
 abbrev pub IsSmall : FunctionTree → Type 0
 IsSmall f = (frame_cells f ≤ most_cells) × ((length f.params ≤ most_parameters) × (stmt_count f.body ≤ most_entries))
 
+abbrev pub HasTypes : FunctionTree → Type 0
+HasTypes f = IsSmall f × AreDeclared f
+
 abbrev pub HasObjects : FunctionTree → Type 0
-HasObjects f = IsSmall f × AllPairs AreOther (objects_of f)
+HasObjects f = HasTypes f × AllPairs AreOther (objects_of f)
 
 abbrev pub IsFunction : ProgramTree → FunctionTree → Type 0
 IsFunction P f = HasObjects f × AreStmts P f no_loop f.body

@@ -2,6 +2,7 @@ pub use Rattle.csub_semantics.specs.Types
 pub use Rattle.csub_semantics.specs.Trees
 pub use Rattle.csub_semantics.specs.Labels
 pub use Rattle.csub_semantics.specs.Syntax
+pub use Rattle.csub_semantics.specs.Globals
 pub use Rattle.csub_semantics.specs.Points
 pub use Rattle.csub_semantics.specs.Successors
 pub use Rattle.csub_semantics.specs.Flows
@@ -12,5 +13,5 @@ pub use Rattle.csub_semantics.specs.Cells
 pub use Rattle.csub_semantics.specs.Acts
 pub use Rattle.csub_semantics.specs.Runs
 pub use Rattle.csub_semantics.specs.Books
-pub mod Valid
+pub use Rattle.csub_validity.specs.Valid
 pub mod Checks

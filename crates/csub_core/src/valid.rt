@@ -1,29 +1,30 @@
 //! The decision procedure for the validity of programs.
 //!
-//! Each rule of `specs/Valid` has a function of its own here, and what a rule joins is joined by `&&`. The limits are
-//! looked at first, so that the rest is done for programs of bounded size alone.
+//! Each rule of `specs/Valid` of `csub_validity` has a function of its own, there or here, and what a rule joins is
+//! joined by `&&`. The limits are looked at first, so that the rest is done for programs of bounded size alone.
 ghost use Rattle.std.specs.Prelude.{◌≡◌, ◌≢◌, ◌↔◌, ◌≤◌, All, AllPairs, IsTrue, length, map};
 ghost use Rattle.std.specs.List.{AllWithin};
 ghost use Rattle.csub_semantics.specs.declared.function.Function.{Function};
 ghost use Rattle.csub_semantics.specs.Syntax.{function_tree};
-ghost use Rattle.csub_core.specs.Valid.{IsValid, frame_cells, most_cells, most_parameters, most_entries, stmt_count};
-ghost use Rattle.csub_core.specs.Checks.{IsWithinLimits, HasEnds, AreNamed, IsFramed, IsFunction, HasObjects, IsSmall};
+ghost use Rattle.csub_validity.specs.Valid.{IsValid, most_parameters, most_entries, stmt_count};
+ghost use Rattle.csub_validity.specs.Checks.{tree_of};
+ghost use Rattle.csub_core.specs.Checks.{IsWithinLimits, HasEnds, AreNamed, HasFunctions, IsFramed, IsFunction, HasObjects, HasTypes, IsSmall};
 
-mod calls;
 mod counts;
-mod expressions;
+mod globals;
 mod objects;
-mod role;
 mod start;
 mod statements;
 
-use crate::valid::calls::is_named;
 use crate::valid::counts::{has_few_edges, has_few_points};
-use crate::valid::objects::objects_differ;
-use crate::valid::role::Targets;
+use crate::valid::globals::are_globals;
+use crate::valid::objects::{are_declared, has_few_cells};
 use crate::valid::start::{has_main, has_start};
 use crate::valid::statements::{are_stmts, has_few_stmts};
 use csub_semantics::Function;
+use csub_validity::calls::is_named;
+use csub_validity::objects::objects_differ;
+use csub_validity::role::{Definitions, Targets};
 
 /// The most functions beside `#start`.
 const MOST_FUNCTIONS: usize = 500;
@@ -31,21 +32,25 @@ const MOST_FUNCTIONS: usize = 500;
 /// The most parameters of a function.
 const MOST_PARAMETERS: usize = 16;
 
-/// The most cells of a function's frame.
-const MOST_CELLS: usize = 4096;
-
-/// Whether the functions are a valid program. Beside a few passes over the program this takes a comparison of names for
-/// each two functions, for each two objects of a function, for each call and function, and for each use of an object
-/// and object of its function.
-pub(crate) fn is_valid(functions: &[Function]) -> bool
-    ensures { IsTrue result ↔ IsValid (map function_tree functions.now) }
+/// Whether the functions and the globals are a valid program. Beside a few passes over the program this takes a
+/// comparison of names for each two functions, for each two globals, for each two objects of a function, for each call
+/// and function, and for each use of an object and object that may be meant.
+pub(crate) fn is_valid(program: Definitions<'_>) -> bool
+    ensures { IsTrue result ↔ IsValid (tree_of program.entry) }
 {
-    is_framed(functions) && are_functions(functions)
+    is_framed(program) && are_functions(program)
 }
 
-/// Whether the functions are within the limits, and are `#start`, `main` and others of different names.
-fn is_framed(functions: &[Function]) -> bool
-    ensures { IsTrue result ↔ IsFramed (map function_tree functions.now) }
+/// Whether the functions are within the limits, and are `#start`, `main` and others of different names, and whether the
+/// globals are valid.
+fn is_framed(program: Definitions<'_>) -> bool
+    ensures { IsTrue result ↔ IsFramed (tree_of program.entry) }
+{
+    has_functions(program.functions) && are_globals(program.globals)
+}
+
+fn has_functions(functions: &[Function]) -> bool
+    ensures { IsTrue result ↔ HasFunctions (map function_tree functions.now) }
 {
     is_within_limits(functions) && are_named(functions)
 }
@@ -95,11 +100,11 @@ fn is_new(functions: &[Function], count: usize, name: &[u8]) -> bool
 }
 
 /// Whether each function is valid in the program.
-fn are_functions(functions: &[Function]) -> bool
-    ensures { IsTrue result ↔ All (λ f. IsFunction (map function_tree functions.now) (function_tree f)) functions.now }
+fn are_functions(program: Definitions<'_>) -> bool
+    ensures { IsTrue result ↔ All (λ f. IsFunction (tree_of program.entry) (function_tree f)) program.entry.functions.now }
 {
-    for function in functions {
-        if !is_function(functions, function) {
+    for function in program.functions {
+        if !is_function(program, function) {
             return false;
         }
     }
@@ -107,16 +112,22 @@ fn are_functions(functions: &[Function]) -> bool
 }
 
 /// Whether a function of the program has few objects that differ, and valid statements.
-fn is_function(functions: &[Function], function: &Function) -> bool
-    ensures { IsTrue result ↔ IsFunction (map function_tree functions.now) (function_tree function.now) }
+fn is_function(program: Definitions<'_>, function: &Function) -> bool
+    ensures { IsTrue result ↔ IsFunction (tree_of program.entry) (function_tree function.now) }
 {
-    has_objects(function) && are_stmts(functions, function, Targets::NONE, &function.body)
+    has_objects(function) && are_stmts(program, function, Targets::NONE, &function.body)
 }
 
 fn has_objects(function: &Function) -> bool
     ensures { IsTrue result ↔ HasObjects (function_tree function.now) }
 {
-    is_small(function) && objects_differ(function)
+    has_types(function) && objects_differ(function)
+}
+
+fn has_types(function: &Function) -> bool
+    ensures { IsTrue result ↔ HasTypes (function_tree function.now) }
+{
+    is_small(function) && are_declared(function)
 }
 
 /// Whether a frame of the function has at most 4,096 cells, and the function few parameters and lines.
@@ -131,13 +142,4 @@ fn is_short(function: &Function) -> bool
     ensures { IsTrue result ↔ ((length (function_tree function.now).params ≤ most_parameters) × (stmt_count (function_tree function.now).body ≤ most_entries)) }
 {
     function.params.len() <= MOST_PARAMETERS && has_few_stmts(&function.body)
-}
-
-fn has_few_cells(function: &Function) -> bool
-    ensures { IsTrue result ↔ (frame_cells (function_tree function.now) ≤ most_cells) }
-{
-    let params = function.params.len();
-    let locals = function.locals.len();
-    let temps = function.temps as usize;
-    params <= MOST_CELLS && locals <= MOST_CELLS && params + locals + temps <= MOST_CELLS
 }

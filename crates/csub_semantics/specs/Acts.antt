@@ -9,7 +9,7 @@ use Rattle.csub_semantics.specs.declared.label.EndRule.{EndRule}
 use Rattle.csub_semantics.specs.declared.label.EndRule.TheVariants.{Nothing, Value, Main, Start}
 use Rattle.csub_semantics.specs.declared.status.Status.{Status}
 use Rattle.csub_semantics.specs.declared.status.Status.TheVariants.{Exit, Trap}
-use Rattle.csub_semantics.specs.Types.{Name, TypeTree, number_kind, MemberTree}
+use Rattle.csub_objects.specs.Types.{Name, TypeTree, number_kind, MemberTree}
 use Rattle.csub_semantics.specs.Trees.{NamedArg, value_argument, reading, assignment, variable, object, temporary, OwnerTree}
 use Rattle.csub_semantics.specs.Labels.{LabelTree, enters, exits, evaluates, initialises, branches, returns, calls, AnswerTree, CallTree, InitTree, one_value}
 use Rattle.csub_semantics.specs.Points.{ExitTree, next, on_true, on_false}

@@ -1,7 +1,7 @@
 -- Walking two programs together: books of facts, reached pairs and dangerous edges (Rothermel and Harrold, ACM TOSEM
 -- 6(2), 1997), and claims that are closed.
 use Rattle.std.specs.Prelude.{ℕ, ◌≡◌, ◌⊎◌, List, Some, None, slice_get, take}
-use Rattle.csub_semantics.specs.Types.{Name}
+use Rattle.csub_objects.specs.Types.{Name}
 use Rattle.csub_semantics.specs.Labels.{CallTree, call_of, PointLabel}
 use Rattle.csub_semantics.specs.Points.{PointTree, entry, exit, ExitTree, next}
 use Rattle.csub_semantics.specs.Flows.{Flow, Edge, start_name}

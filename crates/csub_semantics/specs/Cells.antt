@@ -1,8 +1,10 @@
 -- The memory of named cells.
 use Rattle.std.specs.Prelude.{ℕ, ℤ, List, [], ◌∷◌, ◌++◌, Bool, true, false, ◌&&◌, Option, Some, None, nat_eq, if◌then◌else◌}
-use Rattle.csub_semantics.specs.Types.{Name, TypeTree, number_type, number_kind, MemberTree}
+use Rattle.csub_objects.specs.Types.{Name, TypeTree, number_type, array_type, struct_type, loose_type, number_kind, MemberTree}
+use Rattle.csub_objects.specs.Types.{element_type, member_type, array_length}
+use Rattle.csub_objects.specs.Paths.{Inner, element_at, member_of}
+use Rattle.csub_semantics.specs.Types.{name_eq}
 use Rattle.csub_semantics.specs.Trees.{global_owner, local_owner, Variable, object, temporary}
-use Rattle.csub_semantics.specs.Flows.{name_eq}
 use Rattle.csub_semantics.specs.Memory.{Memory}
 
 -- whose cells: a global's, or an object's or a temporary's of the frame at a height (the lowest frame has height 0)
@@ -10,11 +12,6 @@ pub data Root : Type 0 where
   global_root : Name → Root
   local_root : ℕ → Name → ℕ → Root
   temp_root : ℕ → ℕ → Root
-
--- a step into an object: to an element or to a member
-pub data Inner : Type 0 where
-  element_at : ℕ → Inner
-  member_of : Name → Inner
 
 -- a cell's name: a root, and the way into its object
 pub record Cell : Type 0 where
@@ -73,19 +70,37 @@ abbrev pub type_of : Variable → TypeTree
 type_of (object o t) = t
 type_of (temporary n k) = number_type k
 
+-- an array parameter stands where its reference says, for as many elements as that has
+abbrev pub referred : TypeTree → Option Content → Option Spot
+referred t None = None
+referred t (Some (number v)) = None
+referred t (Some (reference d n)) = Some (record { cell = d; ctype = loose_type t; length = n })
+
 -- where a variable of a type is
 abbrev pub stand_at : Cell → TypeTree → Cells → Option Spot
 stand_at c (number_type k) cells = Some (record { cell = c; ctype = number_type k; length = 0 })
+stand_at c (array_type t n) cells = Some (record { cell = c; ctype = array_type t n; length = n })
+stand_at c (struct_type tag ms) cells = Some (record { cell = c; ctype = struct_type tag ms; length = 0 })
+stand_at c (loose_type t) cells = referred t (cells c)
 
 abbrev pub stepped_into : Cell → Inner → Cell
 stepped_into c i = record { root = c.root; path = c.path ++ i ∷ [] }
 
--- an element and a member of a spot; a number has neither, and stands for itself
+-- a type, and itself where there is none
+abbrev pub type_or : TypeTree → Option TypeTree → TypeTree
+type_or t None = t
+type_or t (Some u) = u
+
+-- an element and a member of a spot
 abbrev pub element_spot : Spot → ℕ → Spot
-element_spot l i = record { cell = stepped_into l.cell (element_at i); ctype = l.ctype; length = 0 }
+element_spot l i =
+    let t = type_or l.ctype (element_type l.ctype) in
+    record { cell = stepped_into l.cell (element_at i); ctype = t; length = array_length t }
 
 abbrev pub member_spot : Spot → Name → Spot
-member_spot l a = record { cell = stepped_into l.cell (member_of a); ctype = l.ctype; length = 0 }
+member_spot l a =
+    let t = type_or l.ctype (member_type a l.ctype) in
+    record { cell = stepped_into l.cell (member_of a); ctype = t; length = array_length t }
 
 -- the number that a cell holds; one that was never written in its frame holds none
 abbrev pub number_in : Option Content → Option ℤ

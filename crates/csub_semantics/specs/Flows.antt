@@ -1,20 +1,17 @@
 -- The points and edges of a program, and the record of functions between a program and all that runs or walks it.
-use Rattle.std.specs.Prelude.{ℤ, List, [], ◌∷◌, ◌++◌, map, Bool, Option, Some, None, find, if◌then◌else◌}
+use Rattle.std.specs.Prelude.{ℤ, List, [], ◌∷◌, ◌++◌, map, Option, Some, None, find, if◌then◌else◌}
 use Rattle.std.specs.Option.{option_map}
 use Rattle.std.specs.List.{flat_map}
-use Rattle.std.specs.Cmp.Lexicographic.{pointwise}
-use Rattle.std.specs.Prelude.{nat_eq}
 use Rattle.csub_types.specs.declared.kind.IntKind.{IntKind}
 use Rattle.csub_semantics.specs.declared.label.EndRule.{EndRule}
 use Rattle.csub_semantics.specs.declared.label.EndRule.TheVariants.{Nothing, Value, Main, Start}
-use Rattle.csub_semantics.specs.Types.{Name}
+use Rattle.csub_objects.specs.Types.{Name}
+use Rattle.csub_semantics.specs.Types.{name_eq, GlobalTree}
 use Rattle.csub_semantics.specs.Labels.{enters, exits, PointLabel}
+use Rattle.csub_semantics.specs.Globals.{global_of, named_globals}
 use Rattle.csub_semantics.specs.Syntax.{FunctionTree, ProgramTree}
 use Rattle.csub_semantics.specs.Points.{PointTree, entry, exit, at, point_eq, ExitTree, next, exit_eq, on_default}
 use Rattle.csub_semantics.specs.Successors.{Way, Node, Around, way, enter_list, nodes_list}
-
-abbrev pub name_eq : Name → Name → Bool
-name_eq a b = pointwise nat_eq a b
 
 -- `#start`, which calls `main`, and `main`
 abbrev pub start_name : Name
@@ -52,10 +49,13 @@ pub record PlacedNode : Type 0 where
 abbrev pub placed : Name → Node PointTree → PlacedNode
 placed f n = record { function = f; node = n }
 
+abbrev pub points_of : List FunctionTree → List PlacedNode
+points_of [] = []
+points_of (f ∷ rest) = map (placed f.name) (function_nodes f) ++ points_of rest
+
 -- the points of a program, function by function; a point's number is its place in this list
 abbrev pub point_list : ProgramTree → List PlacedNode
-point_list [] = []
-point_list (f ∷ rest) = map (placed f.name) (function_nodes f) ++ point_list rest
+point_list P = points_of P.functions
 
 -- an edge: a way out of a point
 pub record Edge : Type 0 where
@@ -71,16 +71,19 @@ abbrev pub edge_list : ProgramTree → List Edge
 edge_list P = flat_map edges_from (point_list P)
 
 -- what a program is to a run and to a walk: the label of a point, the point to which a way out leads, the case values
--- of a switch, and the initial contents of a global
+-- of a switch, and the globals with their initial contents
 pub record Flow : Type 0 where
   pub label : Name → PointTree → Option PointLabel
   pub succ : Name → PointTree → ExitTree → Option PointTree
   pub cases : Name → PointTree → List ℤ
-  pub initial : Name → Option (List ℤ)
+  pub global : Name → Option GlobalTree
 
 -- the function of a name
+abbrev pub function_in : List FunctionTree → Name → Option FunctionTree
+function_in fs f = find (λ g. name_eq g.name f) fs
+
 abbrev pub function_of : ProgramTree → Name → Option FunctionTree
-function_of P f = find (λ g. name_eq g.name f) P
+function_of P f = function_in P.functions f
 
 -- a point of a list
 abbrev pub node_in : List (Node PointTree) → PointTree → Option (Node PointTree)
@@ -110,14 +113,14 @@ abbrev pub cases_of : Option (Node PointTree) → List ℤ
 cases_of None = []
 cases_of (Some n) = cases_in n.ways
 
--- programs have no globals yet: no label names one
-abbrev pub labelled : Node PointTree → PointLabel
-labelled n = record { tree = n.label; globals = [] }
+-- the label of a point: its tree, and the globals that the tree names
+abbrev pub labelled : List GlobalTree → Node PointTree → PointLabel
+labelled globals n = record { tree = n.label; globals = named_globals globals n.label }
 
 abbrev pub flow_of : ProgramTree → Flow
 flow_of P = record {
-  label = λ f p. option_map labelled (node_of (function_of P f) p);
+  label = λ f p. option_map (labelled P.globals) (node_of (function_of P f) p);
   succ = λ f p x. option_map (λ w. w.to) (way_of (node_of (function_of P f) p) x);
   cases = λ f p. cases_of (node_of (function_of P f) p);
-  initial = λ g. None;
+  global = λ a. global_of P.globals a;
 }

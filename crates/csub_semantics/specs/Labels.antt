@@ -1,8 +1,10 @@
 -- Labels: what is done at a point. Two statements count as the same exactly where their labels are equal.
-use Rattle.std.specs.Prelude.{ℕ, ℤ, List, map, Option, Some, None}
+use Rattle.std.specs.Prelude.{ℕ, List, map, Option, Some, None}
 use Rattle.std.specs.Option.{option_map}
 use Rattle.csub_types.specs.declared.kind.IntKind.{IntKind}
-use Rattle.csub_semantics.specs.Types.{Name, TypeTree, type_tree, MemberTree, member_tree}
+use Rattle.csub_objects.specs.Types.{Name, TypeTree, MemberTree}
+use Rattle.csub_objects.specs.Meaning.{type_tree, member_tree}
+use Rattle.csub_semantics.specs.Types.{GlobalTree}
 use Rattle.csub_semantics.specs.Trees.{OwnerTree, NamedExpr, NamedArg, owner_tree, expr_tree, arg_tree}
 use Rattle.csub_semantics.specs.declared.label.EndRule.{EndRule}
 use Rattle.csub_semantics.specs.declared.label.Answer.{Answer}
@@ -44,15 +46,10 @@ abbrev pub call_of : LabelTree → Option CallTree
 call_of (calls c) = Some c
 call_of label = None
 
--- a global that a tree names, with the initial contents of its cells
-pub record Initial : Type 0 where
-  pub name : Name
-  pub contents : List ℤ
-
--- a label: the tree, and the initial contents of each global that the tree names, in order of names
+-- a label: the tree, and each global that the tree names with its initial contents, in the order of names
 pub record PointLabel : Type 0 where
   pub tree : LabelTree
-  pub globals : List Initial
+  pub globals : List GlobalTree
 
 abbrev pub answer_tree : Answer → AnswerTree
 answer_tree a = record { kind = a.kind; value = expr_tree a.value }

@@ -1,6 +1,7 @@
 pub mod Types
 pub mod Trees
 pub mod Labels
+pub mod Globals
 pub mod Syntax
 pub mod Points
 pub mod Successors

@@ -1,5 +1,6 @@
 -- What a run holds, and what a memory offers to evaluation.
-use Rattle.std.specs.Prelude.{ℕ, ◌++◌, ◌∷◌, ℤ, pos, negsuc, List, [], length, Option, Some, None, Result, Ok, Err, nat_lt, unsigned_abs, if◌then◌else◌}
+use Rattle.std.specs.Prelude.{ℕ, ◌++◌, ◌∷◌, ℤ, pos, negsuc, List, [], length, Option, Some, None, Result, Ok, Err, nat_lt}
+use Rattle.std.specs.Prelude.{unsigned_abs, if◌then◌else◌}
 use Rattle.std.specs.Int.{int_rem_euclid}
 use Rattle.csub_types.specs.declared.kind.IntKind.{IntKind}
 use Rattle.csub_types.specs.declared.trap.Trap.{Trap}

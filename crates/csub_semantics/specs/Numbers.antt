@@ -2,7 +2,7 @@
 use Rattle.std.specs.Prelude.{ℕ, ◌≡◌, List, Option, Some, slice_get}
 use Rattle.std.specs.Option.{option_map}
 use Rattle.std.specs.List.{Contains}
-use Rattle.csub_semantics.specs.Types.{Name}
+use Rattle.csub_objects.specs.Types.{Name}
 use Rattle.csub_semantics.specs.Syntax.{FunctionTree, ProgramTree}
 use Rattle.csub_semantics.specs.Points.{PointTree}
 use Rattle.csub_semantics.specs.Flows.{PlacedNode, point_list, Edge, edge_list}
@@ -28,7 +28,7 @@ edge_at P e = slice_get (edge_list P) e
 
 -- the name of the function with a number
 abbrev pub name_at : ProgramTree → ℕ → Option Name
-name_at P f = option_map (λ (g : FunctionTree). g.name) (slice_get P f)
+name_at P f = option_map (λ (g : FunctionTree). g.name) (slice_get P.functions f)
 
 -- the edge with this number is among the edges that a run crossed
 pub record IsCrossed (P : ProgramTree) (crossed : List Edge) (e : ℕ) : Type 0 where

@@ -1,14 +1,17 @@
 -- Turns and runs over the record of functions of a program.
-use Rattle.std.specs.Prelude.{ℕ, zero, suc, ◌+◌, ℤ, List, [], ◌∷◌, Option, Some, None, length, if◌then◌else◌}
+use Rattle.std.specs.Prelude.{ℕ, zero, suc, ◌+◌, ℤ, List, [], ◌∷◌, Option, Some, None, length, slice_get, if◌then◌else◌}
+use Rattle.std.specs.Option.{option_map, option_and_then}
 use Rattle.std.specs.List.{list_any}
 use Rattle.std.specs.Ordering.{int_eq}
 use Rattle.csub_semantics.specs.declared.status.Status.{Status}
 use Rattle.csub_semantics.specs.declared.status.Status.TheVariants.{Turns}
-use Rattle.csub_semantics.specs.Types.{Name}
+use Rattle.csub_objects.specs.Types.{Name}
+use Rattle.csub_semantics.specs.Types.{GlobalTree}
 use Rattle.csub_semantics.specs.Labels.{CallTree, call_of, PointLabel}
 use Rattle.csub_semantics.specs.Points.{PointTree, entry, ExitTree, next, on_case, on_default}
 use Rattle.csub_semantics.specs.Flows.{Flow, Edge, start_name}
-use Rattle.csub_semantics.specs.Cells.{Cells, Inner, Root, global_root, local_root, temp_root, Content, number, written}
+use Rattle.csub_objects.specs.Paths.{Inner, cell_number}
+use Rattle.csub_semantics.specs.Cells.{Cells, Root, global_root, local_root, temp_root, Content, number, written}
 use Rattle.csub_semantics.specs.Acts.{Store, Outcome, leaves, gives, pushes, pops, ends, act}
 
 -- a frame: its function, its point, and what the function returned, if it did
@@ -103,12 +106,12 @@ go_on P k (ended es n t s) = ended es n t s
 go_on P k nowhere = nowhere
 
 -- what the cell of a global at a path holds at first
-abbrev pub initial_content : Option (List ℤ) → List Inner → Option Content
-initial_content (Some (v ∷ vs)) [] = Some (number v)
-initial_content contents path = None
+abbrev pub initial_content : Option GlobalTree → List Inner → Option Content
+initial_content None path = None
+initial_content (Some g) path = option_map number (option_and_then (slice_get g.initial) (cell_number g.ctype path))
 
 abbrev pub initial_at : Flow → Root → List Inner → Option Content
-initial_at P (global_root g) path = initial_content (P.initial g) path
+initial_at P (global_root a) path = initial_content (P.global a) path
 initial_at P (local_root h a n) path = None
 initial_at P (temp_root h n) path = None
 

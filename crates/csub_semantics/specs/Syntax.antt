@@ -3,7 +3,9 @@ use Rattle.std.specs.Prelude.{ℕ, List, [], ◌∷◌, ◌++◌, map, Option, S
 use Rattle.std.specs.Option.{option_map}
 use Rattle.csub_text.specs.declared.span.Span.{Span}
 use Rattle.csub_types.specs.declared.kind.IntKind.{IntKind}
-use Rattle.csub_semantics.specs.Types.{Name, TypeTree, type_tree, MemberTree, member_tree}
+use Rattle.csub_objects.specs.Types.{Name, TypeTree, MemberTree}
+use Rattle.csub_objects.specs.Meaning.{type_tree, member_tree}
+use Rattle.csub_semantics.specs.Types.{GlobalTree, global_tree}
 use Rattle.csub_semantics.specs.Labels.{LabelTree, calls, label_tree, call_tree}
 use Rattle.csub_semantics.specs.declared.function.RCall.{RCall}
 use Rattle.csub_semantics.specs.declared.function.RPart.{RPart}
@@ -11,6 +13,7 @@ use Rattle.csub_semantics.specs.declared.function.RStmt.{RStmt, Parts, Block', I
 use Rattle.csub_semantics.specs.declared.function.RStmt.{more_of-RStmt, Held-RStmt-If-2, None', Some'}
 use Rattle.csub_semantics.specs.declared.function.LocalVar.{LocalVar}
 use Rattle.csub_semantics.specs.declared.function.Function.{Function}
+use Rattle.csub_semantics.specs.declared.types.GlobalVar.{GlobalVar}
 
 -- one stage of a part: a call or the part's own point, with the place in the source that is named for it
 pub record Stage : Type 0 where
@@ -56,9 +59,16 @@ pub record FunctionTree : Type 0 where
   pub locals : List LocalTree
   pub temps : ℕ
 
--- the functions of a program: first `#start`, which calls `main`, and then the others in the order of the source
-abbrev pub ProgramTree : Type 0
-ProgramTree = List FunctionTree
+-- a program: its functions, first `#start`, which calls `main`, and then the others in the order of the source; and its
+-- objects of file scope in that order
+pub record ProgramTree : Type 0 where
+  pub functions : List FunctionTree
+  pub globals : List GlobalTree
+
+-- a program as the code holds it
+pub record ProgramParts : Type 0 where
+  pub functions : List Function
+  pub globals : List GlobalVar
 
 abbrev pub call_stage : RCall → Stage
 call_stage c = record { label = calls (call_tree c.label); span = c.span }
@@ -107,3 +117,6 @@ function_tree f = record {
   locals = map local_tree f.locals.items;
   temps = f.temps;
 }
+
+abbrev pub program_tree : ProgramParts → ProgramTree
+program_tree p = record { functions = map function_tree p.functions; globals = map global_tree p.globals }

@@ -6,7 +6,8 @@ use Rattle.csub_text.specs.declared.operator.BinOp.{BinOp}
 use Rattle.csub_text.specs.declared.operator.UnaryOp.{UnaryOp}
 use Rattle.csub_text.specs.declared.operator.StepOp.{StepOp}
 use Rattle.csub_types.specs.declared.kind.IntKind.{IntKind}
-use Rattle.csub_semantics.specs.Types.{Name, TypeTree, type_tree}
+use Rattle.csub_objects.specs.Types.{Name, TypeTree}
+use Rattle.csub_objects.specs.Meaning.{type_tree}
 use Rattle.csub_semantics.specs.declared.expression.Owner.{Owner}
 use Rattle.csub_semantics.specs.declared.expression.Owner.TheVariants.{Global, Local}
 use Rattle.csub_semantics.specs.declared.expression.Place.{Place}

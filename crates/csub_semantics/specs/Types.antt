@@ -1,29 +1,17 @@
--- Types of objects as values: what a type of the program stands for, without the places of its parts in memory.
-use Rattle.std.specs.Prelude.{ℕ, List}
-use Rattle.csub_types.specs.declared.kind.IntKind.{IntKind}
-use Rattle.csub_semantics.specs.declared.types.Member.{Member}
-use Rattle.csub_semantics.specs.declared.types.CType.{CType}
-use Rattle.csub_semantics.specs.declared.types.CType.TheVariants.{Num}
+-- Objects of file scope as values. Their types are those of csub_objects.
+use Rattle.std.specs.Prelude.{ℤ, List, Bool, bytes_eq}
+use Rattle.csub_objects.specs.Types.{Name, TypeTree}
+use Rattle.csub_objects.specs.Meaning.{type_tree}
+use Rattle.csub_semantics.specs.declared.types.GlobalVar.{GlobalVar}
 
--- a name, as its bytes
-abbrev pub Name : Type 0
-Name = List ℕ
+abbrev pub name_eq : Name → Name → Bool
+name_eq a b = bytes_eq a b
 
--- a type (C11 6.2.5): here the integer types alone
-pub data TypeTree : Type 0 where
-  number_type : IntKind → TypeTree
-
-abbrev pub type_tree : CType → TypeTree
-type_tree (Num kind) = number_type kind
-
--- a parameter or a member: its name and its declared type
-pub record MemberTree : Type 0 where
+-- an object of file scope: its name, its declared type, and what its cells hold when a run begins
+pub record GlobalTree : Type 0 where
   pub name : Name
   pub ctype : TypeTree
+  pub initial : List ℤ
 
-abbrev pub member_tree : Member → MemberTree
-member_tree m = record { name = m.name; ctype = type_tree m.ctype }
-
--- the kind of a number place
-abbrev pub number_kind : TypeTree → IntKind
-number_kind (number_type k) = k
+abbrev pub global_tree : GlobalVar → GlobalTree
+global_tree g = record { name = g.name; ctype = type_tree g.ctype; initial = g.initial.items }

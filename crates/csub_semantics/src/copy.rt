@@ -1,12 +1,14 @@
-//! Copies of labels.
+//! Copies of labels and of globals.
 ghost use Rattle.std.specs.Prelude.{◌≡◌, IfOk, map};
-ghost use Rattle.csub_semantics.specs.Types.{member_tree, type_tree};
+ghost use Rattle.csub_objects.specs.Meaning.{member_tree, type_tree};
+ghost use Rattle.csub_semantics.specs.Types.{global_tree};
 ghost use Rattle.csub_semantics.specs.Trees.{owner_tree, place_tree, expr_tree, arg_tree};
 ghost use Rattle.csub_semantics.specs.Labels.{answer_tree, call_tree, init_tree, label_tree};
 
 use crate::expression::{Owner, Place, RArg, RExpr};
 use crate::label::{Answer, CallLabel, Label, RInit};
-use crate::types::{CType, Member};
+use crate::types::GlobalVar;
+use csub_objects::{Member, copy_type};
 use std::alloc::{AllocError, Global};
 
 /// An equal label. An `Err` is want of memory.
@@ -19,7 +21,8 @@ pub fn copy_label(alloc: Global, label: &Label) -> Result<Label, AllocError>
         Label::Eval(expr) => Ok(Label::Eval(copy_expr(alloc, expr)?)),
         Label::Init(owner, ctype, init) => {
             let object = copy_owner(owner)?;
-            Ok(Label::Init(object, copy_type(ctype), copy_init(alloc, init)?))
+            let declared = copy_type(ctype)?;
+            Ok(Label::Init(object, declared, copy_init(alloc, init)?))
         }
         Label::Branch(expr) => Ok(Label::Branch(copy_expr(alloc, expr)?)),
         Label::Return(None) => Ok(Label::Return(None)),
@@ -38,6 +41,21 @@ pub fn copy_call(alloc: Global, label: &CallLabel) -> Result<CallLabel, AllocErr
         result: label.result,
         args: copy_args(alloc, &label.args)?,
         temp: label.temp,
+    })
+}
+
+/// An equal object of file scope. An `Err` is want of memory.
+pub fn copy_global(alloc: Global, global: &GlobalVar) -> Result<GlobalVar, AllocError>
+    ensures { IfOk result (λ made. global_tree made ≡ global_tree global.now) }
+{
+    let name = global.name.copy()?;
+    let ctype = copy_type(&global.ctype)?;
+    let mut initial = Vec::new(alloc);
+    initial.extend_from_slice(&global.initial)?;
+    Ok(GlobalVar {
+        name,
+        ctype,
+        initial,
     })
 }
 
@@ -71,7 +89,8 @@ fn copy_place(place: &Place) -> Result<Place, AllocError>
     ensures { IfOk result (λ made. place_tree made ≡ place_tree place.now) }
 {
     let Place::Var(owner, ctype) = place;
-    Ok(Place::Var(copy_owner(owner)?, copy_type(ctype)))
+    let object = copy_owner(owner)?;
+    Ok(Place::Var(object, copy_type(ctype)?))
 }
 
 /// An equal expression. An `Err` is want of memory.
@@ -143,16 +162,8 @@ fn copy_members(alloc: Global, members: &[Member]) -> Result<Vec<Member>, AllocE
     let mut made = Vec::new(alloc);
     for member in members {
         let name = member.name.copy()?;
-        let ctype = copy_type(&member.ctype);
+        let ctype = copy_type(&member.ctype)?;
         made.push(Member { name, ctype })?;
     }
     Ok(made)
-}
-
-fn copy_type(ctype: &CType) -> CType
-    ensures { type_tree result ≡ type_tree ctype.now }
-{
-    match ctype {
-        CType::Num(kind) => CType::Num(*kind),
-    }
 }

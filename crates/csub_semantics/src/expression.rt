@@ -1,5 +1,5 @@
 //! Resolved expressions: each operand has its converted kind.
-use crate::types::CType;
+use csub_objects::CType;
 use csub_text::{BinOp, StepOp, Text, UnaryOp};
 use csub_types::IntKind;
 

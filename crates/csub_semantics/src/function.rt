@@ -1,6 +1,6 @@
 //! Resolved functions: their statements, each by its parts.
 use crate::label::{CallLabel, Label};
-use crate::types::{CType, Member};
+use csub_objects::{CType, Member};
 use csub_text::{Span, Text};
 use csub_types::IntKind;
 

@@ -1,6 +1,6 @@
 //! What is done at a point, and how control leaves it.
 use crate::expression::{Owner, RArg, RExpr};
-use crate::types::{CType, Member};
+use csub_objects::{CType, Member};
 use csub_text::Text;
 use csub_types::IntKind;
 

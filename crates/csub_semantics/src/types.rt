@@ -1,19 +1,14 @@
-//! Declared types.
+//! Objects of file scope. Types are those of `csub_objects`.
+use csub_objects::CType;
 use csub_text::Text;
-use csub_types::IntKind;
 
-/// A declared type (C11 6.2.5).
+/// An object of file scope.
 #[derive(Drop)]
-pub enum CType {
-    /// `char`, `int` or `unsigned int`.
-    Num(IntKind),
-}
-
-/// A parameter: its name and its declared type.
-#[derive(Drop)]
-pub struct Member {
+pub struct GlobalVar {
     /// The declared name.
     pub name: Text,
     /// The declared type.
     pub ctype: CType,
+    /// What its cells hold when a run begins, a number for each (C11 6.7.9p10 for those that nothing is given for).
+    pub initial: Vec<i64>,
 }

@@ -12,9 +12,11 @@ use Rattle.csub_types.specs.declared.kind.IntKind.{IntKind}
 use Rattle.csub_types.specs.declared.kind.IntKind.TheVariants.{Char, Int, Unsigned}
 use Rattle.csub_semantics.specs.declared.label.EndRule.{EndRule}
 use Rattle.csub_semantics.specs.declared.label.EndRule.TheVariants.{Nothing, Value, Main, Start}
-use Rattle.csub_semantics.specs.Types.{Name, TypeTree, number_type, MemberTree}
+use Rattle.csub_objects.specs.Types.{Name, TypeTree, type_eq, MemberTree}
+use Rattle.csub_objects.proofs.LawsTypes.{type_eq-Decides}
+use Rattle.csub_semantics.specs.Types.{GlobalTree}
 use Rattle.csub_semantics.specs.Trees.{NamedPlace, NamedExpr, NamedArg, variable, constant, reading, unary_operation, conversion, stepping, operation, conjunction, disjunction, choice, assignment, update, input_byte, output_byte, value_argument, OwnerTree, global_owner, local_owner, Variable, object, temporary}
-use Rattle.csub_semantics.specs.Labels.{LabelTree, enters, exits, evaluates, initialises, branches, returns, calls, AnswerTree, CallTree, InitTree, one_value, Initial, PointLabel}
+use Rattle.csub_semantics.specs.Labels.{LabelTree, enters, exits, evaluates, initialises, branches, returns, calls, AnswerTree, CallTree, InitTree, one_value, PointLabel}
 use Rattle.program_laws.specs.Decided.{Decided}
 
 -- what is built of one part, two or more is equal where all the parts are
@@ -138,7 +140,11 @@ operators BitOr BitOr = inl refl
 operators BitOr _ = inr (λ e. cc)
 
 types : (a b : TypeTree) → Decided a b
-types (number_type k) (number_type j) = one number_type k j (λ e. cc) (kinds k j)
+types a b = by_test (type_eq a b) refl
+  where
+    by_test : (t : Bool) → type_eq a b ≡ t → Decided a b
+    by_test true e = inl ((type_eq-Decides a b).0 e)
+    by_test false e = inr (λ same. let yes : type_eq a b ≡ true = (type_eq-Decides a b).1 same in cc)
 
 owners : (a b : OwnerTree) → Decided a b
 owners (global_owner a) (global_owner b) = one global_owner a b (λ e. cc) (names a b)
@@ -222,8 +228,11 @@ labels_alike (returns a) _ = inr (λ e. cc)
 labels_alike (calls c) (calls d) = one calls c d (λ e. cc) (call_trees c d)
 labels_alike (calls c) _ = inr (λ e. cc)
 
-initials : (a b : Initial) → Decided a b
-initials a b = two (λ n vs. record { name = n; contents = vs }) a.name b.name a.contents b.contents (λ e. (ap (λ (i : Initial). i.name) e, ap (λ (i : Initial). i.contents) e)) (names a.name b.name) (lists integers a.contents b.contents)
+global_trees : (a b : GlobalTree) → Decided a b
+global_trees a b =
+    three (λ n t vs. record { name = n; ctype = t; initial = vs }) a.name b.name a.ctype b.ctype a.initial b.initial
+    (λ e. (ap (λ (g : GlobalTree). g.name) e, ap (λ (g : GlobalTree). g.ctype) e, ap (λ (g : GlobalTree). g.initial) e))
+    (names a.name b.name) (types a.ctype b.ctype) (lists integers a.initial b.initial)
 
 pub labels : (a b : PointLabel) → Decided a b
-labels a b = two (λ t gs. record { tree = t; globals = gs }) a.tree b.tree a.globals b.globals (λ e. (ap (λ (l : PointLabel). l.tree) e, ap (λ (l : PointLabel). l.globals) e)) (labels_alike a.tree b.tree) (lists initials a.globals b.globals)
+labels a b = two (λ t gs. record { tree = t; globals = gs }) a.tree b.tree a.globals b.globals (λ e. (ap (λ (l : PointLabel). l.tree) e, ap (λ (l : PointLabel). l.globals) e)) (labels_alike a.tree b.tree) (lists global_trees a.globals b.globals)

@@ -1,19 +1,39 @@
 -- A valid program has what lockstep asks of it.
-use Rattle.std.proofs.Common.{◌≡◌, ◌⊎◌, inl, inr, Option, Some, None, IsTrue, option_map, All, refl, sym, ap, ◌∙◌, subst}
+use Rattle.std.proofs.Common.{◌≡◌, ◌⊎◌, inl, inr, List, [], ◌∷◌, Option, Some, None, IsTrue, option_map, All, refl, sym, ap, ◌∙◌, subst}
 use Rattle.std.specs.List.{list_any}
 use Rattle.std.specs.Ordering.{int_eq}
-use Rattle.std.proofs.lemmas.List.Elements.{All-nil}
+use Rattle.std.proofs.lemmas.List.Elements.{All-nil, All-cons}
 use Rattle.csub_semantics.specs.declared.label.EndRule.{EndRule}
-use Rattle.csub_semantics.specs.Types.{Name}
-use Rattle.csub_semantics.specs.Labels.{exits, CallTree, call_of, Initial, PointLabel}
+use Rattle.csub_objects.specs.Types.{Name}
+use Rattle.csub_semantics.specs.Types.{name_eq, GlobalTree}
+use Rattle.csub_semantics.specs.Globals.{global_of, globals_of, found_first, ordered, label_names}
+use Rattle.csub_semantics.specs.Labels.{exits, CallTree, call_of, PointLabel}
 use Rattle.csub_semantics.specs.Syntax.{FunctionTree, ProgramTree}
 use Rattle.csub_semantics.specs.Points.{PointTree, entry, exit, ExitTree, on_case, on_default}
 use Rattle.csub_semantics.specs.Successors.{Way, Node}
 use Rattle.csub_semantics.specs.Flows.{start_name, function_nodes, function_of, node_in, node_of, way_in, way_of, labelled, flow_of}
-use Rattle.csub_core.specs.Valid.{IsValid}
+use Rattle.csub_validity.specs.Valid.{IsValid}
 use Rattle.program_laws.specs.Flows.{entry_label, IsFlow}
+use Rattle.program_laws.proofs.LawsNames.{same_name}
+use Rattle.program_laws.proofs.Lists.{passes_found}
 use Rattle.program_laws.proofs.LawsStanding.{IsPoint, Stands, label_at, succ_at, cases_at, point_is, node_is, entry_is, callee_defined, start_defined}
 use Rattle.program_laws.proofs.LawsWays.{AreCases, call_goes_on, exit_ends, are_cases}
+
+-- a global is the one of its name among these
+abbrev IsNamed : List GlobalTree → GlobalTree → Type 0
+IsNamed globals g = global_of globals g.name ≡ Some g
+
+-- what is found by a name is the global of that name
+found_named : (globals : List GlobalTree) (a : Name) (g : GlobalTree) → global_of globals a ≡ Some g → IsNamed globals g
+found_named globals a g e = subst (λ n. global_of globals n ≡ Some g) (sym (same_name g.name a (passes_found (λ (h : GlobalTree). name_eq h.name a) globals g e))) e
+
+named_are : (globals : List GlobalTree) (names : List Name) → All (IsNamed globals) (globals_of globals names)
+named_are globals [] = All-nil (IsNamed globals)
+named_are globals (a ∷ names) = pick (global_of globals a) refl (named_are globals names)
+  where
+    pick : (o : Option GlobalTree) → global_of globals a ≡ o → All (IsNamed globals) (globals_of globals names) → All (IsNamed globals) (found_first o (globals_of globals names))
+    pick None e rest = rest
+    pick (Some g) e rest = All-cons (IsNamed globals) g (globals_of globals names) (found_named globals a g e) rest
 
 module _ (P : ProgramTree) (g : Name) (p : PointTree) where
   stands_or_not : Stands P g p ⊎ (node_of (function_of P g) p ≡ None)
@@ -30,15 +50,15 @@ module _ (P : ProgramTree) (g : Name) (p : PointTree) where
   -- where there is a label there is a point with it
   pub record Labelled (l : PointLabel) : Type 0 where
     pub stands : Stands P g p
-    pub is : labelled stands.node ≡ l
+    pub is : labelled P.globals stands.node ≡ l
 
   -- the label of a flow is that of such a point
   pub labelled_at : (l : PointLabel) → (flow_of P).label g p ≡ Some l → Labelled l
   labelled_at l e = pick stands_or_not
     where
       pick : Stands P g p ⊎ (node_of (function_of P g) p ≡ None) → Labelled l
-      pick (inl s) = record { stands = s; is = let both : ◌≡◌ {A = Option PointLabel} (Some (labelled s.node)) (Some l) = sym (label_at P g p s) ∙ e in cc }
-      pick (inr n) = let none : ◌≡◌ {A = Option PointLabel} None (Some l) = sym (ap (option_map labelled) n) ∙ e in cc
+      pick (inl s) = record { stands = s; is = let both : ◌≡◌ {A = Option PointLabel} (Some (labelled P.globals s.node)) (Some l) = sym (label_at P g p s) ∙ e in cc }
+      pick (inr n) = let none : ◌≡◌ {A = Option PointLabel} None (Some l) = sym (ap (option_map (labelled P.globals)) n) ∙ e in cc
 
   -- where there is a way out there is a point with it
   record Leaving (x : ExitTree) : Type 0 where
@@ -79,10 +99,10 @@ module _ (P : ProgramTree) (valid : IsValid P) where
   -- a valid program has what lockstep asks of it
   pub is_flow : IsFlow (flow_of P)
   is_flow = record {
-    starts = entry_is P start_name (start_defined P valid.start);
+    starts = entry_is P start_name (start_defined P.functions valid.start);
     called = called;
     leaves = exited;
     cased = λ g p q v e. let h = leaving_at P g p (on_case v) q e in subst (λ vs. IsTrue (list_any (λ w. int_eq w v) vs)) (sym (cases_at P g p h.stands)) ((cased_at g p h.stands).cased v h.along h.is);
     defaulted = λ g p q vs e. let h = leaving_at P g p (on_default vs) q e in (cased_at g p h.stands).defaulted vs h.along h.is ∙ sym (cases_at P g p h.stands);
-    named = λ g p l e. subst (λ (m : PointLabel). All (λ (i : Initial). (flow_of P).initial i.name ≡ Some i.contents) m.globals) (labelled_at P g p l e).is (All-nil (λ (i : Initial). (flow_of P).initial i.name ≡ Some i.contents));
+    named = λ g p l e. let h = labelled_at P g p l e in subst (λ (m : PointLabel). All (IsNamed P.globals) m.globals) h.is (named_are P.globals (ordered [] (label_names h.stands.node.label)));
   }

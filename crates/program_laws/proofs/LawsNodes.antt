@@ -1,5 +1,5 @@
 -- What a point of a valid program may be: the entry, the exit, a test, or a stage that control leaves along Next alone.
-use Rattle.std.proofs.Common.{◌≡◌, ℕ, ◌+◌, List, [], ◌∷◌, ◌++◌, length, Some, All, IsTrue}
+use Rattle.std.proofs.Common.{◌≡◌, ◌≤◌, ℕ, ◌+◌, List, [], ◌∷◌, ◌++◌, length, Some, All, IsTrue, arith}
 use Rattle.std.specs.List.{AllByRecursion}
 use Rattle.std.proofs.lemmas.List.Elements.{All-head, All-tail, All-weaker}
 use Rattle.csub_semantics.specs.Labels.{LabelTree, enters, exits, evaluates, initialises, returns, calls}
@@ -7,17 +7,24 @@ use Rattle.csub_semantics.specs.Syntax.{Stage, PartTree, StmtTree, StmtTrees, El
 use Rattle.csub_semantics.specs.Points.{PointTree, entry, exit, at, ExitTree, next}
 use Rattle.csub_semantics.specs.Successors.{Way, Node, Around, way, leaving, looping, enter_part, enter_parts, enter, enter_list, enter_else, own_ways, test_ways, part_nodes, last_ways, parts_nodes, nodes, nodes_list, nodes_else}
 use Rattle.csub_semantics.specs.Flows.{end_rule, to_exit, function_nodes, way_in}
-use Rattle.csub_core.specs.declared.valid.role.Role.{Role}
-use Rattle.csub_core.specs.declared.valid.role.Role.TheVariants.{Whole, Test, Effect}
-use Rattle.csub_core.specs.declared.valid.role.Targets.{Targets}
-use Rattle.csub_core.specs.Valid.{no_loop, in_loop, Scope, scope_of, IsLast, IsEarlier, AreStages, IsPart, IsStmt, AreStmts, IsElse}
+use Rattle.csub_validity.specs.declared.role.Role.{Role}
+use Rattle.csub_validity.specs.declared.role.Role.TheVariants.{Whole, Test, Effect}
+use Rattle.csub_validity.specs.declared.role.Targets.{Targets}
+use Rattle.csub_validity.specs.Valid.{no_loop, in_loop, Scope, scope_of, IsLast, IsEarlier, AreStages, IsPart, IsStmt, AreStmts, IsElse}
 use Rattle.program_laws.proofs.Lists.{each_append, each_left, each_right}
 
--- validity lets a label stand last in a part with a role
+-- a valid part of a function, with its role
+pub record PartOf (P : ProgramTree) (f : FunctionTree) : Type 0 where
+  pub part : PartTree
+  pub role : Role
+  pub valid : IsPart P f role part
+
+-- validity lets a label stand last, with a role, among the stages of a part, which are counted from 1
 pub record MayStand (P : ProgramTree) (f : FunctionTree) (role : Role) (l : LabelTree) : Type 0 where
-  pub scope : Scope
+  pub within : PartOf P f
   pub stage : ℕ
-  pub last : IsLast P f scope role stage l
+  pub first : 1 ≤ stage
+  pub last : IsLast P f (scope_of P f within.part) role stage l
 
 -- what a point of a function may be, by its name, its label and its ways out, each of which leads to a point of T
 pub data IsNode (P : ProgramTree) (f : FunctionTree) (T : PointTree → Type 0) : PointTree → LabelTree → List (Way PointTree) → Type 0 where
@@ -79,29 +86,29 @@ module _ (T : PointTree → Type 0) where
     AreNodes ns = AllByRecursion Holds ns
 
     -- the labels that may stand before the last of a part, last in a whole part, and last in a test
-    earlier_is : (sc : Scope) (j : ℕ) (p to : PointTree) (l : LabelTree) → IsEarlier P f sc j l → T to → IsNode P f T p l (way next to ∷ [])
-    earlier_is sc j p to (calls c) h out = goes_on p (calls c) to (record { scope = sc; stage = j; last = h }) out
-    earlier_is sc j p to _ h out = absurd h
+    earlier_is : (v : PartOf P f) (j : ℕ) (p to : PointTree) (l : LabelTree) → 1 ≤ j → IsEarlier P f (scope_of P f v.part) j l → T to → IsNode P f T p l (way next to ∷ [])
+    earlier_is v j p to (calls c) one h out = goes_on p (calls c) to (record { within = v; stage = j; first = one; last = h }) out
+    earlier_is v j p to _ one h out = absurd h
 
-    own_is : (sc : Scope) (j : ℕ) (p past returned : PointTree) (l : LabelTree) → IsLast P f sc Whole j l → T past → T returned → IsNode P f T p l (own_ways l past returned)
-    own_is sc j p past returned (returns answer) h out back = goes_on p (returns answer) returned (record { scope = sc; stage = j; last = h }) back
-    own_is sc j p past returned l h out back = goes_on p l past (record { scope = sc; stage = j; last = h }) out
+    own_is : (v : PartOf P f) (j : ℕ) (p past returned : PointTree) (l : LabelTree) → 1 ≤ j → IsLast P f (scope_of P f v.part) Whole j l → T past → T returned → IsNode P f T p l (own_ways l past returned)
+    own_is v j p past returned (returns answer) one h out back = goes_on p (returns answer) returned (record { within = v; stage = j; first = one; last = h }) back
+    own_is v j p past returned l one h out back = goes_on p l past (record { within = v; stage = j; first = one; last = h }) out
 
     -- and so the points of a part, of a statement and of a list
-    whole_are : (sc : Scope) (ps : PartTree) (j k : ℕ) (name : ℕ → PointTree) (past returned : PointTree) → AreStages P f sc Whole j ps → T past → T returned → Among (part_nodes ps k name (last_ways ps past returned)) → AreNodes (part_nodes ps k name (last_ways ps past returned))
-    whole_are sc [] j k name past returned h out back all = tt
-    whole_are sc (s ∷ []) j k name past returned h out back all = (own_is sc j (name k) past returned s.label h out back, tt)
-    whole_are sc (s ∷ t ∷ rest) j k name past returned h out back all = (
-      earlier_is sc j (name k) (name (k + 1)) s.label h.0 (first_point t rest (k + 1) name (last_ways (t ∷ rest) past returned) all.1),
-      whole_are sc (t ∷ rest) (j + 1) (k + 1) name past returned h.1 out back all.1,
+    whole_are : (v : PartOf P f) (ps : PartTree) (j k : ℕ) (name : ℕ → PointTree) (past returned : PointTree) → 1 ≤ j → AreStages P f (scope_of P f v.part) Whole j ps → T past → T returned → Among (part_nodes ps k name (last_ways ps past returned)) → AreNodes (part_nodes ps k name (last_ways ps past returned))
+    whole_are v [] j k name past returned one h out back all = tt
+    whole_are v (s ∷ []) j k name past returned one h out back all = (own_is v j (name k) past returned s.label one h out back, tt)
+    whole_are v (s ∷ t ∷ rest) j k name past returned one h out back all = (
+      earlier_is v j (name k) (name (k + 1)) s.label one h.0 (first_point t rest (k + 1) name (last_ways (t ∷ rest) past returned) all.1),
+      whole_are v (t ∷ rest) (j + 1) (k + 1) name past returned (omega arith) h.1 out back all.1,
     )
 
-    test_are : (sc : Scope) (ps : PartTree) (j k : ℕ) (name : ℕ → PointTree) (a b : PointTree) → AreStages P f sc Test j ps → T a → T b → Among (part_nodes ps k name (test_ways a b)) → AreNodes (part_nodes ps k name (test_ways a b))
-    test_are sc [] j k name a b h out back all = tt
-    test_are sc (s ∷ []) j k name a b h out back all = (tests (name k) s.label a b (record { scope = sc; stage = j; last = h }) out back, tt)
-    test_are sc (s ∷ t ∷ rest) j k name a b h out back all = (
-      earlier_is sc j (name k) (name (k + 1)) s.label h.0 (first_point t rest (k + 1) name (test_ways a b) all.1),
-      test_are sc (t ∷ rest) (j + 1) (k + 1) name a b h.1 out back all.1,
+    test_are : (v : PartOf P f) (ps : PartTree) (j k : ℕ) (name : ℕ → PointTree) (a b : PointTree) → 1 ≤ j → AreStages P f (scope_of P f v.part) Test j ps → T a → T b → Among (part_nodes ps k name (test_ways a b)) → AreNodes (part_nodes ps k name (test_ways a b))
+    test_are v [] j k name a b one h out back all = tt
+    test_are v (s ∷ []) j k name a b one h out back all = (tests (name k) s.label a b (record { within = v; stage = j; first = one; last = h }) out back, tt)
+    test_are v (s ∷ t ∷ rest) j k name a b one h out back all = (
+      earlier_is v j (name k) (name (k + 1)) s.label one h.0 (first_point t rest (k + 1) name (test_ways a b) all.1),
+      test_are v (t ∷ rest) (j + 1) (k + 1) name a b (omega arith) h.1 out back all.1,
     )
 
     parts_are : (ps : List PartTree) (i : ℕ) (name : Naming) (around : Around PointTree) → All (λ p. IsPart P f Whole p) ps → T around.leave → T around.returned → Among (parts_nodes ps i name around) → AreNodes (parts_nodes ps i name around)
@@ -112,7 +119,7 @@ module _ (T : PointTree → Type 0) where
         let below = parts_nodes rest (i + 1) name around in
         let later = each_right InT here below all in
         each_append Holds here below
-        (whole_are (scope_of f p) p 1 0 (λ k. name [] i k) past around.returned (All-head (λ q. IsPart P f Whole q) p rest h) (parts_begin rest (i + 1) name around out later) back (each_left InT here below all))
+        (whole_are (record { part = p; role = Whole; valid = All-head (λ q. IsPart P f Whole q) p rest h }) p 1 0 (λ k. name [] i k) past around.returned (omega arith) (All-head (λ q. IsPart P f Whole q) p rest h) (parts_begin rest (i + 1) name around out later) back (each_left InT here below all))
         (parts_are rest (i + 1) name around (All-tail (λ q. IsPart P f Whole q) p rest h) out back later)
 
     for_parts : (first third : List PartTree) (p : PartTree) (s : StmtTree) (name : Naming) (around : Around PointTree) → T around.leave → Among (nodes (for_loop first p third s) name around) → T (enter_part p (length first) name around.leave)
@@ -181,7 +188,7 @@ module _ (T : PointTree → Type 0) where
     effect_stages sc (s ∷ t ∷ rest) j h = (h.0, effect_stages sc (t ∷ rest) (j + 1) h.1)
 
     whole_parts : (ps : List PartTree) → All (λ p. IsPart P f Effect p) ps → All (λ p. IsPart P f Whole p) ps
-    whole_parts ps h = All-weaker (λ p. IsPart P f Effect p) (λ p. IsPart P f Whole p) (λ p. effect_stages (scope_of f p) p 1) ps h
+    whole_parts ps h = All-weaker (λ p. IsPart P f Effect p) (λ p. IsPart P f Whole p) (λ p. effect_stages (scope_of P f p) p 1) ps h
 
     mutual
       stmt_are : (s : StmtTree) (to : Targets) (name : Naming) (around : Around PointTree) → IsStmt P f to s → Round to around → Among (nodes s name around) → AreNodes (nodes s name around)
@@ -197,7 +204,7 @@ module _ (T : PointTree → Type 0) where
           let left = each_left InT first second both in
           let right = each_right InT first second both in
           each_append Holds here (first ++ second)
-          (test_are (scope_of f p) p 1 0 (λ k. name [] 0 k) when_true when_false h.0 (stmt_begins t to (λ q. name (0 ∷ q)) around h.1 r left) (else_begins e to (λ q. name (1 ∷ q)) around h.2 r right) (each_left InT here (first ++ second) all))
+          (test_are (record { part = p; role = Test; valid = h.0 }) p 1 0 (λ k. name [] 0 k) when_true when_false (omega arith) h.0 (stmt_begins t to (λ q. name (0 ∷ q)) around h.1 r left) (else_begins e to (λ q. name (1 ∷ q)) around h.2 r right) (each_left InT here (first ++ second) all))
           (each_append Holds first second (stmt_are t to (λ q. name (0 ∷ q)) around h.1 r left) (else_are e to (λ q. name (1 ∷ q)) around h.2 r right))
       stmt_are (while_loop p s) to name around h r all =
           let onward = enter_part p 0 name around.leave in
@@ -209,7 +216,7 @@ module _ (T : PointTree → Type 0) where
           let right = each_right InT here below all in
           let round = looped to around onward (part_begins p 0 name around.leave ways r.leave_in left) r in
           each_append Holds here below
-          (test_are (scope_of f p) p 1 0 (λ k. name [] 0 k) (enter s (λ q. name (0 ∷ q)) inside) around.leave h.0 (stmt_begins s in_loop (λ q. name (0 ∷ q)) inside h.1 round right) r.leave_in left)
+          (test_are (record { part = p; role = Test; valid = h.0 }) p 1 0 (λ k. name [] 0 k) (enter s (λ q. name (0 ∷ q)) inside) around.leave (omega arith) h.0 (stmt_begins s in_loop (λ q. name (0 ∷ q)) inside h.1 round right) r.leave_in left)
           (stmt_are s in_loop (λ q. name (0 ∷ q)) inside h.1 round right)
       stmt_are (do_loop s p) to name around h r all =
           let onward = enter_part p 0 name around.leave in
@@ -222,7 +229,7 @@ module _ (T : PointTree → Type 0) where
           let round = looped to around onward (part_begins p 0 name around.leave ways r.leave_in right) r in
           each_append Holds here below
           (stmt_are s in_loop (λ q. name (0 ∷ q)) inside h.0 round left)
-          (test_are (scope_of f p) p 1 0 (λ k. name [] 0 k) (enter s (λ q. name (0 ∷ q)) inside) around.leave h.1 (stmt_begins s in_loop (λ q. name (0 ∷ q)) inside h.0 round left) r.leave_in right)
+          (test_are (record { part = p; role = Test; valid = h.1 }) p 1 0 (λ k. name [] 0 k) (enter s (λ q. name (0 ∷ q)) inside) around.leave (omega arith) h.1 (stmt_begins s in_loop (λ q. name (0 ∷ q)) inside h.0 round left) r.leave_in right)
       stmt_are (for_loop first p third s) to name around h r all =
           let m = length first in
           let test = enter_part p m name around.leave in
@@ -242,7 +249,7 @@ module _ (T : PointTree → Type 0) where
           each_append Holds one (two ++ (three ++ body))
           (parts_are first 0 name (leaving test around) (whole_parts first h.0.begins.each) test_in r.returned_in (each_left InT one (two ++ (three ++ body)) all))
           (each_append Holds two (three ++ body)
-          (test_are (scope_of f p) p 1 0 (λ k. name [] m k) (enter s (λ q. name (0 ∷ q)) inside) around.leave h.0.tests (stmt_begins s in_loop (λ q. name (0 ∷ q)) inside h.1 round in_body) r.leave_in (each_left InT two (three ++ body) rest))
+          (test_are (record { part = p; role = Test; valid = h.0.tests }) p 1 0 (λ k. name [] m k) (enter s (λ q. name (0 ∷ q)) inside) around.leave (omega arith) h.0.tests (stmt_begins s in_loop (λ q. name (0 ∷ q)) inside h.1 round in_body) r.leave_in (each_left InT two (three ++ body) rest))
           (each_append Holds three body
           (parts_are third (m + 1) name (leaving test around) (whole_parts third h.0.steps) test_in r.returned_in in_three)
           (stmt_are s in_loop (λ q. name (0 ∷ q)) inside h.1 round in_body)))

@@ -6,7 +6,7 @@ use Rattle.csub_types.specs.declared.trap.Trap.TheVariants.{Depth}
 use Rattle.csub_types.specs.declared.kind.IntKind.TheVariants.{Int}
 use Rattle.csub_semantics.specs.declared.status.Status.{Status}
 use Rattle.csub_semantics.specs.declared.status.Status.TheVariants.{Exit, Trap}
-use Rattle.csub_semantics.specs.Types.{Name}
+use Rattle.csub_objects.specs.Types.{Name}
 use Rattle.csub_semantics.specs.Trees.{reading, assignment, variable, object, temporary}
 use Rattle.csub_semantics.specs.Labels.{LabelTree, enters, exits, evaluates, initialises, branches, returns, calls, one_value, CallTree, call_of}
 use Rattle.csub_semantics.specs.Points.{ExitTree, on_true, on_false}

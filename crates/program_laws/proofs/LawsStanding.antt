@@ -2,13 +2,14 @@
 use Rattle.std.proofs.Common.{◌≡◌, List, [], ◌∷◌, Bool, true, false, cond, Option, Some, None, option_map, refl, ap, ◌∙◌}
 use Rattle.std.specs.List.{AllByRecursion}
 use Rattle.std.proofs.lemmas.List.Elements.{recursion_from_All}
-use Rattle.csub_semantics.specs.Types.{Name}
+use Rattle.csub_objects.specs.Types.{Name}
+use Rattle.csub_semantics.specs.Types.{name_eq}
 use Rattle.csub_semantics.specs.Labels.{enters, CallTree}
 use Rattle.csub_semantics.specs.Syntax.{FunctionTree, ProgramTree}
 use Rattle.csub_semantics.specs.Points.{PointTree, entry, at, point_eq, ExitTree, next}
 use Rattle.csub_semantics.specs.Successors.{Way, Node, way, enter_list}
-use Rattle.csub_semantics.specs.Flows.{name_eq, start_name, to_exit, function_nodes, function_of, node_in, node_of, way_in, way_of, cases_in, cases_of, labelled, flow_of}
-use Rattle.csub_core.specs.Valid.{IsDefinedAs, AreStmts, no_loop, BeginsWithStart, IsValid}
+use Rattle.csub_semantics.specs.Flows.{start_name, to_exit, function_nodes, function_in, function_of, node_in, node_of, way_in, way_of, cases_in, cases_of, labelled, flow_of}
+use Rattle.csub_validity.specs.Valid.{IsDefinedAs, AreStmts, no_loop, BeginsWithStart, IsValid}
 use Rattle.program_laws.specs.Flows.{entry_label}
 use Rattle.program_laws.proofs.Lists.{each_weaker, found_each}
 use Rattle.program_laws.proofs.LawsNames.{same_name, same_point, point_itself}
@@ -40,8 +41,8 @@ pub record Stands (P : ProgramTree) (g : Name) (p : PointTree) : Type 0 where
 
 module _ (P : ProgramTree) (g : Name) (p : PointTree) where
   -- what the flow of a program says of a point, by what is found
-  pub label_at : (s : Stands P g p) → (flow_of P).label g p ≡ Some (labelled s.node)
-  label_at s = ap (λ o. option_map labelled (node_of o p)) s.defined ∙ ap (option_map labelled) s.found
+  pub label_at : (s : Stands P g p) → (flow_of P).label g p ≡ Some (labelled P.globals s.node)
+  label_at s = ap (λ o. option_map (labelled P.globals) (node_of o p)) s.defined ∙ ap (option_map (labelled P.globals)) s.found
 
   -- where a way out leads
   pub succ_at : (s : Stands P g p) (x : ExitTree) → (flow_of P).succ g p x ≡ option_map (λ (w : Way PointTree). w.to) (way_in s.node.ways x)
@@ -63,12 +64,12 @@ module _ (P : ProgramTree) (g : Name) (p : PointTree) where
     abbrev HasValidBody : FunctionTree → Type 0
     HasValidBody f = AreStmts P f no_loop f.body
 
-    bodies : AllByRecursion HasValidBody P
-    bodies = recursion_from_All HasValidBody P valid.bodies
+    bodies : AllByRecursion HasValidBody P.functions
+    bodies = recursion_from_All HasValidBody P.functions valid.bodies
 
     -- the function that stands there has the name, and the point is this point
     pub name_is : (s : Stands P g p) → s.function.name ≡ g
-    name_is s = same_name s.function.name g (found_each (λ (f : FunctionTree). name_eq f.name g) HasValidBody P s.function s.defined bodies).1
+    name_is s = same_name s.function.name g (found_each (λ (f : FunctionTree). name_eq f.name g) HasValidBody P.functions s.function s.defined bodies).1
 
     pub point_is : (s : Stands P g p) → s.node.point ≡ p
     point_is s = same_point s.node.point p (found_each (λ (n : Node PointTree). point_eq n.point p) (λ (n : Node PointTree). IsPoint (function_nodes s.function) n.point) (function_nodes s.function) s.node s.found (each_found (function_nodes s.function))).1
@@ -76,7 +77,7 @@ module _ (P : ProgramTree) (g : Name) (p : PointTree) where
     -- what the point may be
     pub node_is : (s : Stands P g p) → IsNode P s.function (IsPoint (function_nodes s.function)) s.node.point s.node.label s.node.ways
     node_is s =
-        let body = (found_each (λ (f : FunctionTree). name_eq f.name g) HasValidBody P s.function s.defined bodies).0 in
+        let body = (found_each (λ (f : FunctionTree). name_eq f.name g) HasValidBody P.functions s.function s.defined bodies).0 in
         let each = function_are (IsPoint (function_nodes s.function)) P s.function body (each_found (function_nodes s.function)) in
         (found_each (λ (n : Node PointTree). point_eq n.point p) (λ n. IsNode P s.function (IsPoint (function_nodes s.function)) n.point n.label n.ways) (function_nodes s.function) s.node s.found each).0
 
@@ -93,7 +94,7 @@ module _ (P : ProgramTree) (g : Name) where
   at_entry d = record { function = d.0; node = entry_node d.0; defined = d.1; found = refl }
 
   pub entry_is : Defined P g → (flow_of P).label g entry ≡ Some entry_label
-  entry_is d = ap (λ o. option_map labelled (node_of o entry)) d.1
+  entry_is d = ap (λ o. option_map (labelled P.globals) (node_of o entry)) d.1
 
   -- a callee that validity asks for is defined, and so is `#start`
   pub callee_defined : (c : CallTree) → IsDefinedAs (function_of P g) c → Defined P g
@@ -103,6 +104,6 @@ module _ (P : ProgramTree) (g : Name) where
       pick None e h = absurd h
       pick (Some f) e h = (f, e)
 
-pub start_defined : (P : ProgramTree) → BeginsWithStart P → Defined P start_name
+pub start_defined : (fs : List FunctionTree) → BeginsWithStart fs → (f : FunctionTree) × (function_in fs start_name ≡ Some f)
 start_defined [] h = absurd h
-start_defined (f ∷ rest) h = (f, ap (λ n. cond (name_eq n start_name) (Some f) (function_of rest start_name)) h.name)
+start_defined (f ∷ rest) h = (f, ap (λ n. cond (name_eq n start_name) (Some f) (function_in rest start_name)) h.name)

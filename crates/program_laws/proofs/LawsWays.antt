@@ -11,8 +11,8 @@ use Rattle.csub_semantics.specs.Successors.{Way, Node, way, test_ways}
 use Rattle.csub_semantics.specs.Flows.{end_rule, function_of, function_nodes, way_in, cases_in}
 use Rattle.csub_semantics.specs.Acts.{Store, leaves}
 use Rattle.csub_semantics.proofs.LawsLabels.{call_is}
-use Rattle.csub_core.specs.declared.valid.role.Role.TheVariants.{Whole, Test}
-use Rattle.csub_core.specs.Valid.{IsDefinedAs, IsLast, AreStmts, no_loop, IsValid}
+use Rattle.csub_validity.specs.declared.role.Role.TheVariants.{Whole, Test}
+use Rattle.csub_validity.specs.Valid.{IsDefinedAs, scope_of, IsLast, AreStmts, no_loop, IsValid}
 use Rattle.program_laws.specs.Outcomes.{IsOfTest, Fits}
 use Rattle.program_laws.proofs.Lists.{each_at, all_at}
 use Rattle.program_laws.proofs.LawsNames.{same_exit, exit_itself}
@@ -85,22 +85,22 @@ module _ (P : ProgramTree) (f : FunctionTree) (T : PointTree → Type 0) where
   pub call_goes_on : (p : PointTree) (l : LabelTree) (ws : List (Way PointTree)) (c : CallTree) → IsNode P f T p l ws → call_of l ≡ Some c → IsDefinedAs (function_of P c.callee) c × LeadsBy T next ws
   call_goes_on p l ws c (begins to h) e = absurd cc
   call_goes_on p l ws c ends e = absurd cc
-  call_goes_on p l ws c (goes_on q k to m h) e = ((subst (λ t. IsLast P f m.scope Whole m.stage t) (call_is k c e) m.last).defined, (way next to, refl, h))
-  call_goes_on p l ws c (tests q k a b m h g) e = absurd (subst (λ t. IsLast P f m.scope Test m.stage t) (call_is k c e) m.last)
+  call_goes_on p l ws c (goes_on q k to m h) e = ((subst (λ t. IsLast P f (scope_of P f m.within.part) Whole m.stage t) (call_is k c e) m.last).defined, (way next to, refl, h))
+  call_goes_on p l ws c (tests q k a b m h g) e = absurd (subst (λ t. IsLast P f (scope_of P f m.within.part) Test m.stage t) (call_is k c e) m.last)
 
   -- and along nothing else
   pub call_next : (p : PointTree) (l : LabelTree) (ws : List (Way PointTree)) (c : CallTree) → IsNode P f T p l ws → call_of l ≡ Some c → OnlyNext ws
   call_next p l ws c (begins to h) e = one_next to
   call_next p l ws c ends e = absurd cc
   call_next p l ws c (goes_on q k to m h) e = one_next to
-  call_next p l ws c (tests q k a b m h g) e = absurd (subst (λ t. IsLast P f m.scope Test m.stage t) (call_is k c e) m.last)
+  call_next p l ws c (tests q k a b m h g) e = absurd (subst (λ t. IsLast P f (scope_of P f m.within.part) Test m.stage t) (call_is k c e) m.last)
 
   -- the label of an exit stands at the exit alone, with the rule of its function
   pub exit_ends : (p : PointTree) (l : LabelTree) (ws : List (Way PointTree)) (rule : EndRule) → IsNode P f T p l ws → l ≡ exits rule → (p ≡ exit) × (rule ≡ end_rule f.name f.result)
   exit_ends p l ws rule (begins to h) e = absurd cc
   exit_ends p l ws rule ends e = (refl, cc)
-  exit_ends p l ws rule (goes_on q k to m h) e = absurd (subst (λ t. IsLast P f m.scope Whole m.stage t) e m.last)
-  exit_ends p l ws rule (tests q k a b m h g) e = absurd (subst (λ t. IsLast P f m.scope Test m.stage t) e m.last)
+  exit_ends p l ws rule (goes_on q k to m h) e = absurd (subst (λ t. IsLast P f (scope_of P f m.within.part) Whole m.stage t) e m.last)
+  exit_ends p l ws rule (tests q k a b m h g) e = absurd (subst (λ t. IsLast P f (scope_of P f m.within.part) Test m.stage t) e m.last)
 
   -- a way out that an outcome of the label may take is there
   pub leads_on : (p : PointTree) (l : LabelTree) (ws : List (Way PointTree)) (x : ExitTree) (r : Option ℤ) (s : Store) → IsNode P f T p l ws → Fits l (leaves x r s) → LeadsBy T x ws
@@ -127,9 +127,9 @@ module _ (P : ProgramTree) (f : FunctionTree) (T : PointTree → Type 0) where
   exits_differ p l ws (tests q k a b m h g) = test_once a b
 
 -- no point of a valid program has two ways out with one exit label
-pub ways_differ : (P : ProgramTree) → IsValid P → (k : ℕ) (f : FunctionTree) → slice_get P k ≡ Some f → (i : ℕ) (n : Node PointTree) → slice_get (function_nodes f) i ≡ Some n → ExitsOnce n.ways
+pub ways_differ : (P : ProgramTree) → IsValid P → (k : ℕ) (f : FunctionTree) → slice_get P.functions k ≡ Some f → (i : ℕ) (n : Node PointTree) → slice_get (function_nodes f) i ≡ Some n → ExitsOnce n.ways
 ways_differ P valid k f there i n e =
     let T = IsPoint (function_nodes f) in
-    let body = all_at (λ g. AreStmts P g no_loop g.body) P k f valid.bodies there in
+    let body = all_at (λ g. AreStmts P g no_loop g.body) P.functions k f valid.bodies there in
     let each = function_are T P f body (each_found (function_nodes f)) in
     exits_differ P f T n.point n.label n.ways (each_at (λ m. IsNode P f T m.point m.label m.ways) (function_nodes f) i n each e)

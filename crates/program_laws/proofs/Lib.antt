@@ -5,6 +5,7 @@ pub mod LawsWays
 pub mod LawsFlows
 pub mod LawsOutcomes
 pub mod LawsLabels
+pub mod LawsGlobals
 mod Lists
 mod Turns
 mod Written

@@ -41,3 +41,11 @@ module _ {X : Type 0} (test : X → Bool) where
       pick : (b : Bool) → test y ≡ b → cond b (Some y) (find test ys) ≡ Some x → (find test ys ≡ Some x → Q x × (test x ≡ true)) → Q x × (test x ≡ true)
       pick true t e rest = let same : y ≡ x = cc in subst (λ z. Q z × (test z ≡ true)) same (h.0, t)
       pick false t e rest = rest e
+
+  pub passes_found : (xs : List X) (x : X) → find test xs ≡ Some x → test x ≡ true
+  passes_found [] x e = cc
+  passes_found (y ∷ ys) x e = pick (test y) refl e (λ g. passes_found ys x g)
+    where
+      pick : (b : Bool) → test y ≡ b → cond b (Some y) (find test ys) ≡ Some x → (find test ys ≡ Some x → test x ≡ true) → test x ≡ true
+      pick true t e rest = let same : y ≡ x = cc in subst (λ z. test z ≡ true) same t
+      pick false t e rest = rest e

@@ -2,11 +2,12 @@
 use Rattle.std.proofs.Common.{◌≡◌, ℕ, zero, suc, List, [], ◌∷◌, ◌++◌, ◌⊎◌, inl, inr, map, Bool, true, false, cond, Option, Some, None, find, refl, ap, sym, subst}
 use Rattle.std.specs.Option.{option_map}
 use Rattle.std.specs.List.{slice_get, flat_map}
-use Rattle.csub_semantics.specs.Types.{Name}
+use Rattle.csub_objects.specs.Types.{Name}
+use Rattle.csub_semantics.specs.Types.{name_eq}
 use Rattle.csub_semantics.specs.Points.{PointTree, point_eq, ExitTree, exit_eq}
 use Rattle.csub_semantics.specs.Syntax.{FunctionTree, ProgramTree}
 use Rattle.csub_semantics.specs.Successors.{Way, Node}
-use Rattle.csub_semantics.specs.Flows.{name_eq, function_nodes, placed, point_list, Edge, edges_from, edge_list, function_of, node_of, node_in, way_of, way_in}
+use Rattle.csub_semantics.specs.Flows.{function_nodes, placed, points_of, point_list, Edge, edges_from, edge_list, function_of, node_of, node_in, way_of, way_in}
 use Rattle.program_laws.proofs.LawsNames.{same_name, same_point, same_exit}
 use Rattle.program_laws.specs.Numbered.{EdgesHaveNumbers}
 
@@ -50,12 +51,12 @@ has_flat f (z ∷ zs) x y (inl same) g = has_left (f z) (flat_map f zs) y (subst
 has_flat f (z ∷ zs) x y (inr there) g = has_right (f z) (flat_map f zs) y (has_flat f zs x y there g)
 
 -- a point of a function of the program is one of the program's points
-has_point : (P : ProgramTree) (g : FunctionTree) (n : Node PointTree) → Has P g → Has (function_nodes g) n → Has (point_list P) (placed g.name n)
+has_point : (fs : List FunctionTree) (g : FunctionTree) (n : Node PointTree) → Has fs g → Has (function_nodes g) n → Has (points_of fs) (placed g.name n)
 has_point [] g n h k = absurd h
 has_point (f ∷ rest) g n (inl same) k =
-    has_left (map (placed f.name) (function_nodes f)) (point_list rest) (placed g.name n)
+    has_left (map (placed f.name) (function_nodes f)) (points_of rest) (placed g.name n)
     (subst (λ (u : FunctionTree). Has (map (placed u.name) (function_nodes u)) (placed g.name n)) (sym same) (has_map (placed g.name) (function_nodes g) n k))
-has_point (f ∷ rest) g n (inr there) k = has_right (map (placed f.name) (function_nodes f)) (point_list rest) (placed g.name n) (has_point rest g n there k)
+has_point (f ∷ rest) g n (inr there) k = has_right (map (placed f.name) (function_nodes f)) (points_of rest) (placed g.name n) (has_point rest g n there k)
 
 -- where a way out leads
 abbrev leads_to : Option (Way PointTree) → Option PointTree
@@ -65,13 +66,13 @@ leads_to o = option_map (λ w. w.to) o
 abbrev edge : Name → PointTree → ExitTree → Edge
 edge f p x = record { function = f; from = p; exit = x }
 
-has_edge : (P : ProgramTree) (g : FunctionTree) (n : Node PointTree) (w : Way PointTree) → Has P g → Has (function_nodes g) n → Has n.ways w → Has (edge_list P) (edge g.name n.point w.exit)
+has_edge : (P : ProgramTree) (g : FunctionTree) (n : Node PointTree) (w : Way PointTree) → Has P.functions g → Has (function_nodes g) n → Has n.ways w → Has (edge_list P) (edge g.name n.point w.exit)
 has_edge P g n w h k l =
-    has_flat edges_from (point_list P) (placed g.name n) (edge g.name n.point w.exit) (has_point P g n h k)
+    has_flat edges_from (point_list P) (placed g.name n) (edge g.name n.point w.exit) (has_point P.functions g n h k)
     (has_map (λ (u : Way PointTree). edge g.name n.point u.exit) n.ways w l)
 
 from_way : (P : ProgramTree) (g : FunctionTree) (n : Node PointTree) (o : Option (Way PointTree)) (f : Name) (p q : PointTree) (x : ExitTree) → way_in n.ways x ≡ o → leads_to o ≡ Some q
-    → Has P g → Has (function_nodes g) n → g.name ≡ f → n.point ≡ p → Has (edge_list P) (edge f p x)
+    → Has P.functions g → Has (function_nodes g) n → g.name ≡ f → n.point ≡ p → Has (edge_list P) (edge f p x)
 from_way P g n None f p q x e to h k s t = cc
 from_way P g n (Some w) f p q x e to h k s t =
     let found = has_found (λ (w : Way PointTree). exit_eq w.exit x) n.ways w e in
@@ -80,7 +81,7 @@ from_way P g n (Some w) f p q x e to h k s t =
     subst (Has (edge_list P)) same (has_edge P g n w h k found.0)
 
 from_node : (P : ProgramTree) (g : FunctionTree) (o : Option (Node PointTree)) (f : Name) (p q : PointTree) (x : ExitTree) → node_in (function_nodes g) p ≡ o → leads_to (way_of o x) ≡ Some q
-    → Has P g → g.name ≡ f → Has (edge_list P) (edge f p x)
+    → Has P.functions g → g.name ≡ f → Has (edge_list P) (edge f p x)
 from_node P g None f p q x e to h s = cc
 from_node P g (Some n) f p q x e to h s =
     let found = has_found (λ (n : Node PointTree). point_eq n.point p) (function_nodes g) n e in
@@ -89,7 +90,7 @@ from_node P g (Some n) f p q x e to h s =
 from_function : (P : ProgramTree) (o : Option FunctionTree) (f : Name) (p q : PointTree) (x : ExitTree) → function_of P f ≡ o → leads_to (way_of (node_of o p) x) ≡ Some q → Has (edge_list P) (edge f p x)
 from_function P None f p q x e to = cc
 from_function P (Some g) f p q x e to =
-    let found = has_found (λ (g : FunctionTree). name_eq g.name f) P g e in
+    let found = has_found (λ (g : FunctionTree). name_eq g.name f) P.functions g e in
     from_node P g (node_in (function_nodes g) p) f p q x refl to found.0 (same_name g.name f found.1)
 
 pub edges_have_numbers : (P : ProgramTree) → EdgesHaveNumbers P

@@ -2,14 +2,14 @@
 use Rattle.std.proofs.Common.{◌≡◌, ◌≢◌, ℕ, zero, suc, ◌+◌, ℤ, List, [], ◌∷◌, length, Option, Some, IsSome, refl, sym, ap, ◌∙◌, subst}
 use Rattle.csub_semantics.specs.declared.label.EndRule.{EndRule}
 use Rattle.csub_semantics.specs.declared.label.EndRule.TheVariants.{Start}
-use Rattle.csub_semantics.specs.Types.{Name}
+use Rattle.csub_objects.specs.Types.{Name}
 use Rattle.csub_semantics.specs.Labels.{CallTree, call_of}
 use Rattle.csub_semantics.specs.Syntax.{ProgramTree}
 use Rattle.csub_semantics.specs.Points.{PointTree, entry, ExitTree, next}
 use Rattle.csub_semantics.specs.Flows.{Flow, Edge, start_name, end_rule, function_of, function_nodes, flow_of}
 use Rattle.csub_semantics.specs.Acts.{Store, Outcome, leaves, gives, pushes, pops, ends, act}
 use Rattle.csub_semantics.specs.Runs.{Frame, Standing, Turn, goes, stops, lost, cross, put_result, come_back, come_back_to, pop, follow, turn_at, turn_of, turn, Moment, running, ended, nowhere, after_turn, go_on, after, results_at}
-use Rattle.csub_core.specs.Valid.{IsDefinedAs, IsValid}
+use Rattle.csub_validity.specs.Valid.{IsDefinedAs, IsValid}
 use Rattle.program_laws.specs.Outcomes.{Fits}
 use Rattle.program_laws.specs.Lost.{NeverLost, HasResults}
 use Rattle.program_laws.proofs.LawsNodes.{LeadsBy}
@@ -118,7 +118,7 @@ module _ (P : ProgramTree) (valid : IsValid P) where
 
   -- at every moment of a run all frames stand where they may
   pub stays : (input : List ℕ) (k : ℕ) → Stays (after F input k)
-  stays input zero = (at_entry P start_name (start_defined P valid.start), refl)
+  stays input zero = (at_entry P start_name (start_defined P.functions valid.start), refl)
   stays input (suc k) = gone_on k (after F input k) (stays input k)
 
   pub no_turn_lost : (input : List ℕ) (k : ℕ) (es : List Edge) (at : Standing) → after F input k ≡ running es at → turn F at ≢ lost

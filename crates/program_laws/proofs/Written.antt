@@ -10,7 +10,7 @@ use Rattle.csub_types.specs.declared.trap.Trap.TheVariants.{Depth, Flood}
 use Rattle.csub_semantics.specs.declared.label.EndRule.{EndRule}
 use Rattle.csub_semantics.specs.declared.label.EndRule.TheVariants.{Nothing, Value, Main, Start}
 use Rattle.csub_semantics.specs.declared.status.Status.TheVariants.{Trap, Turns}
-use Rattle.csub_semantics.specs.Types.{Name, MemberTree}
+use Rattle.csub_objects.specs.Types.{Name, MemberTree}
 use Rattle.csub_semantics.specs.Trees.{NamedPlace, NamedExpr, NamedArg, constant, reading, variable, object, temporary, unary_operation, conversion, stepping, operation, conjunction, disjunction, choice, assignment, update, input_byte, output_byte, value_argument}
 use Rattle.csub_semantics.specs.Labels.{LabelTree, enters, exits, evaluates, initialises, branches, returns, calls, one_value, CallTree, call_of, PointLabel}
 use Rattle.csub_semantics.specs.Points.{PointTree, ExitTree, next}

@@ -3,7 +3,7 @@ use Rattle.std.specs.Prelude.{◌≡◌, ℤ, List, [], Some, All, IsTrue}
 use Rattle.std.specs.List.{list_any}
 use Rattle.std.specs.Ordering.{int_eq}
 use Rattle.csub_semantics.specs.declared.label.EndRule.{EndRule}
-use Rattle.csub_semantics.specs.Types.{Name}
+use Rattle.csub_objects.specs.Types.{Name}
 use Rattle.csub_semantics.specs.Labels.{enters, exits, CallTree, call_of, PointLabel}
 use Rattle.csub_semantics.specs.Points.{PointTree, entry, exit, on_case, on_default}
 use Rattle.csub_semantics.specs.Flows.{Flow, start_name}
@@ -24,5 +24,5 @@ pub record IsFlow (P : Flow) : Type 0 where
   pub cased : (f : Name) (p q : PointTree) (v : ℤ) → P.succ f p (on_case v) ≡ Some q → IsTrue (list_any (λ w. int_eq w v) (P.cases f p))
   -- a Default that leads on has all case values of its switch
   pub defaulted : (f : Name) (p q : PointTree) (vs : List ℤ) → P.succ f p (on_default vs) ≡ Some q → vs ≡ P.cases f p
-  -- a label has the program's initial contents of each global that it names
-  pub named : (f : Name) (p : PointTree) (l : PointLabel) → P.label f p ≡ Some l → All (λ g. P.initial g.name ≡ Some g.contents) l.globals
+  -- each global of a label is the program's of its name
+  pub named : (f : Name) (p : PointTree) (l : PointLabel) → P.label f p ≡ Some l → All (λ g. P.global g.name ≡ Some g) l.globals

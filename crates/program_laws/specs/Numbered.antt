@@ -1,6 +1,6 @@
 -- Edges have numbers.
 use Rattle.std.specs.Prelude.{ℕ, ◌≡◌, Some}
-use Rattle.csub_semantics.specs.Types.{Name}
+use Rattle.csub_objects.specs.Types.{Name}
 use Rattle.csub_semantics.specs.Points.{PointTree, ExitTree}
 use Rattle.csub_semantics.specs.Syntax.{ProgramTree}
 use Rattle.csub_semantics.specs.Flows.{flow_of}

@@ -2,7 +2,7 @@
 use Rattle.std.specs.Prelude.{◌≡◌, ◌≢◌, ◌⊎◌}
 use Rattle.csub_semantics.specs.declared.label.EndRule.{EndRule}
 use Rattle.csub_semantics.specs.declared.label.EndRule.TheVariants.{Start}
-use Rattle.csub_semantics.specs.Types.{Name}
+use Rattle.csub_objects.specs.Types.{Name}
 use Rattle.csub_semantics.specs.Labels.{LabelTree, exits, branches, calls}
 use Rattle.csub_semantics.specs.Points.{ExitTree, next, on_true, on_false}
 use Rattle.csub_semantics.specs.Acts.{Outcome, leaves, pushes, pops, ends}

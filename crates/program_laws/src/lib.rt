@@ -15,7 +15,7 @@ ghost use Rattle.csub_semantics.specs.Labels.{LabelTree, PointLabel};
 ghost use Rattle.csub_semantics.specs.Syntax.{ProgramTree};
 ghost use Rattle.csub_semantics.specs.Flows.{Flow, flow_of};
 ghost use Rattle.csub_semantics.specs.Acts.{Store, act};
-ghost use Rattle.csub_core.specs.Valid.{IsValid};
+ghost use Rattle.csub_validity.specs.Valid.{IsValid};
 ghost use Rattle.program_laws.specs.Outcomes.{Fits};
 ghost use Rattle.program_laws.specs.Flows.{IsFlow};
 ghost use Rattle.program_laws.specs.Lost.{NeverLost, HasResults};

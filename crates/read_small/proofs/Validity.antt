@@ -9,15 +9,15 @@ use Rattle.std.proofs.lemmas.Int.{ints}
 use Rattle.csub_text.specs.declared.span.Span.{Span}
 use Rattle.csub_types.specs.declared.kind.IntKind.TheVariants.{Int}
 use Rattle.csub_types.specs.Kinds.{IsOf}
-use Rattle.csub_semantics.specs.Types.{Name}
+use Rattle.csub_objects.specs.Types.{Name, kinds, IsNumber, IsSized}
 use Rattle.csub_semantics.specs.Syntax.{PartTree, StmtTree, stmts_of, FunctionTree, ProgramTree}
 use Rattle.csub_semantics.specs.Points.{PointTree}
 use Rattle.csub_semantics.specs.Points as points
 use Rattle.csub_semantics.specs.Labels.{exits}
 use Rattle.csub_semantics.specs.Successors.{Node, nodes_list}
 use Rattle.csub_semantics.specs.Flows.{to_exit, end_rule, function_nodes, PlacedNode, placed, point_list, edges_from, edge_list}
-use Rattle.csub_core.specs.Valid.{IsPart, AreParts, most_entries, stmt_count, no_loop, IsStmt, AreStmts, IsElse, objects_of, AreOther, frame_cells, IsValid}
-use Rattle.csub_core.specs.declared.valid.role.Role.TheVariants.{Whole}
+use Rattle.csub_validity.specs.Valid.{IsPart, AreParts, most_entries, stmt_count, no_loop, IsStmt, AreStmts, IsElse, objects_of, AreOther, AreDeclared, frame_cells, AreOf, IsValid}
+use Rattle.csub_validity.specs.declared.role.Role.TheVariants.{Whole}
 use Rattle.read_small.specs.declared.plain.Plain.{Plain}
 use Rattle.read_small.specs.declared.plain.Plain.TheVariants.{Writes, Gives}
 use Rattle.read_small.specs.declared.token.Fixed.TheVariants.{Main, CloseBrace}
@@ -134,11 +134,11 @@ two : (R : FunctionTree → Type 0) (f g : FunctionTree) → R f → R g → All
 two R f g hf hg = All-cons R f (g ∷ []) hf (All-cons R g [] hg (All-nil R))
 
 valid_program : (place : ℕ) (lines : List Line) → AreKinds (program_words place lines) → weight (program_words place lines) ≤ 65536 → IsValid (program_of place lines)
-valid_program place lines kinds fits =
+valid_program place lines spelled fits =
     let P : ProgramTree = program_of place lines in
     let f = start_of place in
     let g = main_of place lines in
-    let inner = kinds_split (flat_map line_words lines) (word CloseBrace ∷ []) kinds.1.1.1.1.1.1 in
+    let inner = kinds_split (flat_map line_words lines) (word CloseBrace ∷ []) spelled.1.1.1.1.1.1 in
     let counted : Counted (nodes_list (stmts_of (map line_stmt lines)) 0 points.at to_exit) (weight (flat_map line_words lines)) = counted_many line_words line_stmt counted_line lines 0 points.at to_exit inner.0 in
     let bytes = weight-append (flat_map line_words lines) (word CloseBrace ∷ []) in
     let short : IsShort (flat_map line_words lines) = omega (arith, bytes, fits) in
@@ -147,9 +147,18 @@ valid_program place lines kinds fits =
       main = (refl, refl);
       distinct = AllPairs-cons (λ a b. a.name ≢ b.name) f (g ∷ []) (All-cons (λ b. f.name ≢ b.name) g [] (λ same. omega (arith, ap length same)) (All-nil (λ b. f.name ≢ b.name)))
           (AllPairs-cons (λ a b. a.name ≢ b.name) g [] (All-nil (λ b. g.name ≢ b.name)) (λ i j d lt none. absurd (omega arith)));
+      globals = record {
+        distinct = λ i j d less below. absurd (omega (arith, below));
+        types = All-nil (λ g. IsSized g.ctype);
+        contents = All-nil (λ g. AreOf (kinds g.ctype) g.initial);
+        few = omega arith;
+      };
       bodies = two (λ h. AreStmts P h no_loop h.body) f g (one_part P f _ (record { defined = (refl, refl); args = tt; temp = refl; few = omega arith }), tt)
           (valid_many P (span_at place Main) (map line_stmt lines) line_words line_stmt (valid_line P (span_at place Main) (map line_stmt lines)) lines inner.0 short);
       objects = two (λ h. AllPairs AreOther (objects_of h)) f g (λ i j d less below. absurd (omega (arith, below))) (λ i j d less below. absurd (omega (arith, below)));
+      types = two AreDeclared f g
+          (record { params = All-nil (λ p. IsNumber p.ctype); locals = All-nil (λ v. IsSized v.ctype) })
+          (record { params = All-nil (λ p. IsNumber p.ctype); locals = All-nil (λ v. IsSized v.ctype) });
       functions = omega arith;
       points = omega (arith, points_of place lines, counted.points, bytes, fits);
       edges = omega (arith, edges_of place lines, counted.ways, bytes, fits);

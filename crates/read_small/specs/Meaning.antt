@@ -73,9 +73,16 @@ main_function span body = record {
   temps = 0;
 }
 
--- the program of a body whose function's name `main` stands at a place
+-- the functions of a program whose `main` has a body and its name at a place
+abbrev pub functions_at : ℕ → List StmtTree → List FunctionTree
+functions_at at body = start_function (span_at at fixed.Main) ∷ main_function (span_at at fixed.Main) body ∷ []
+
+-- a program without objects of file scope
+abbrev pub alone : List FunctionTree → ProgramTree
+alone functions = record { functions = functions; globals = [] }
+
 abbrev pub program_at : ℕ → List StmtTree → ProgramTree
-program_at at body = start_function (span_at at fixed.Main) ∷ main_function (span_at at fixed.Main) body ∷ []
+program_at at body = alone (functions_at at body)
 
 -- the program of lines
 abbrev pub program_of : ℕ → List Line → ProgramTree

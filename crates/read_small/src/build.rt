@@ -2,7 +2,7 @@
 ghost use Rattle.std.specs.Prelude.{◌≡◌, ◌+◌, ◌≤◌, List, [], ◌∷◌, map, IfOk, IfSome};
 ghost use Rattle.csub_semantics.specs.Labels.{label_tree};
 ghost use Rattle.csub_semantics.specs.Syntax.{parts, conditional, stmts_of, block, part_tree, stmt_tree, function_tree};
-ghost use Rattle.read_small.specs.Meaning.{own_part, plain_stmt, test_part, start_function, main_function, program_at};
+ghost use Rattle.read_small.specs.Meaning.{own_part, plain_stmt, test_part, start_function, main_function, functions_at};
 ghost use Rattle.read_small.specs.Descent.{else_view};
 
 use crate::plain::Plain;
@@ -144,9 +144,9 @@ fn main_function(alloc: Global, place: Span, body: Vec<RStmt>) -> Result<Functio
     })
 }
 
-/// The program of a body and of the place of the name `main`. An `Err` is want of memory.
+/// The functions of the program of a body and of the place of the name `main`. An `Err` is want of memory.
 pub fn program(alloc: Global, at: u16, body: Vec<RStmt>) -> Result<Vec<Function>, AllocError>
-    ensures { IfOk result (λ made. map function_tree made.items ≡ program_at at (map stmt_tree body.items)) }
+    ensures { IfOk result (λ made. map function_tree made.items ≡ functions_at at (map stmt_tree body.items)) }
 {
     let place = span(at, 4);
     let mut functions = Vec::new(alloc);

@@ -1,6 +1,7 @@
 //! The descent over the tokens of a small source.
 ghost use Rattle.std.specs.Prelude.{◌≡◌, suc, length, map, IfOk};
 ghost use Rattle.csub_semantics.specs.Syntax.{stmt_tree, function_tree};
+ghost use Rattle.read_small.specs.Meaning.{alone};
 ghost use Rattle.read_small.specs.Descent.{Reads, else_view, begins, rest, place, expect, number_at, writes_at, gives_at, plain_at, stmt_at, many_at, braced_at, else_at, test_at, if_at, line_at, head_at, program_from};
 
 use crate::build::{conditional, plain_statement, program};
@@ -233,7 +234,7 @@ fn head(tokens: &[Token]) -> Option<(u16, &[Token])>
 /// The functions of the program that the tokens spell. `None` where they spell none. An `Err` is want of memory.
 #[tactic(auto, unfolding(crate::specs::Descent::program_from))]
 pub fn functions(alloc: Global, tokens: &[Token]) -> Result<Option<Vec<Function>>, AllocError>
-    ensures { IfOk result (λ o. Reads (λ v. map function_tree v.items) o (program_from tokens.now)) }
+    ensures { IfOk result (λ o. Reads (λ v. alone (map function_tree v.items)) o (program_from tokens.now)) }
 {
     let Some((at, inner)) = head(tokens) else {
         return Ok(None);

@@ -1,6 +1,6 @@
 //! The public call.
-ghost use Rattle.std.specs.Prelude.{map, IfOk, IfSome, IfNone};
-ghost use Rattle.csub_semantics.specs.Syntax.{function_tree, ProgramTree};
+ghost use Rattle.std.specs.Prelude.{IfOk, IfSome, IfNone};
+ghost use Rattle.csub_semantics.specs.Syntax.{program_tree, ProgramTree};
 ghost use Rattle.read_small.specs.Small.{IsSmall};
 
 use crate::descent::functions;
@@ -15,7 +15,7 @@ const MOST_BYTES: usize = 65_536;
 ///
 /// One pass cuts the source into tokens, and one goes over the tokens; the source is not copied.
 pub fn read_small(alloc: Global, source: &[u8]) -> Result<Option<Program>, AllocError>
-    ensures small { IfOk result (λ o. IfSome o (λ program. IsSmall source.now (map function_tree program))) }
+    ensures small { IfOk result (λ o. IfSome o (λ program. IsSmall source.now (program_tree program))) }
     ensures other { IfOk result (λ o. IfNone o ((program : ProgramTree) → IsSmall source.now program → ⊥)) }
 {
     if source.len() > MOST_BYTES {
@@ -27,5 +27,5 @@ pub fn read_small(alloc: Global, source: &[u8]) -> Result<Option<Program>, Alloc
     let Some(functions) = functions(alloc, &tokens)? else {
         return Ok(None);
     };
-    Ok(Program::make(functions))
+    Ok(Program::make(functions, Vec::new(alloc)))
 }

@@ -4,9 +4,9 @@
 ghost use Rattle.std.specs.Prelude.{◌≡◌, ◌↔◌, ◌≤◌, ◌<◌, ◌+◌, ◌-◌, ◌^◌, map, sum_by, length, IsTrue};
 ghost use Rattle.std.specs.Option.{SomeIff};
 ghost use Rattle.csub_semantics.specs.Syntax.{part_tree, stmt_tree, function_tree};
-ghost use Rattle.csub_semantics.specs.Flows.{point_list, edge_list};
-ghost use Rattle.csub_core.specs.Valid.{most_points, most_edges};
-ghost use Rattle.csub_core.specs.Checks.{count, count_test, count_head, count_function};
+ghost use Rattle.csub_semantics.specs.Flows.{points_of};
+ghost use Rattle.csub_validity.specs.Valid.{most_points, most_edges};
+ghost use Rattle.csub_core.specs.Checks.{edges_of, count, count_test, count_head, count_function};
 
 use csub_semantics::{Function, RPart, RStmt};
 
@@ -16,14 +16,14 @@ const MOST_EDGES: usize = 10_000;
 
 /// Whether the functions have at most 10,000 points: each has an entry and an exit, and each stage is one.
 pub(crate) fn has_few_points(functions: &[Function]) -> bool
-    ensures { IsTrue result ↔ (length (point_list (map function_tree functions.now)) ≤ most_points) }
+    ensures { IsTrue result ↔ (length (points_of (map function_tree functions.now)) ≤ most_points) }
 {
     room_after_functions(functions, 2, 0, MOST_POINTS).is_some()
 }
 
 /// Whether the functions have at most 10,000 edges: an entry and each stage have one, and a test has two.
 pub(crate) fn has_few_edges(functions: &[Function]) -> bool
-    ensures { IsTrue result ↔ (length (edge_list (map function_tree functions.now)) ≤ most_edges) }
+    ensures { IsTrue result ↔ (length (edges_of (map function_tree functions.now)) ≤ most_edges) }
 {
     room_after_functions(functions, 1, 1, MOST_EDGES).is_some()
 }

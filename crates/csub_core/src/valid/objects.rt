@@ -1,151 +1,91 @@
-//! The objects of a function: its parameters, and its locals.
-ghost use Rattle.std.specs.Prelude.{◌≡◌, ◌≢◌, ◌↔◌, ◌≤◌, AllPairs, All, IsTrue, Some, length, map};
-ghost use Rattle.std.specs.Option.{option_map};
-ghost use Rattle.std.specs.List.{AllWithin};
-ghost use Rattle.csub_semantics.specs.declared.types.Member.{Member};
+//! Whether the objects of a function have types that they may have, and few cells.
+ghost use Rattle.std.specs.Prelude.{◌+◌, ◌-◌, ◌≤◌, ◌↔◌, All, IsTrue, map, sum_by};
+ghost use Rattle.std.specs.Option.{SomeIff};
+ghost use Rattle.csub_objects.specs.declared.types.Member.{Member};
 ghost use Rattle.csub_semantics.specs.declared.function.LocalVar.{LocalVar};
-ghost use Rattle.csub_semantics.specs.Types.{type_tree, member_tree};
-ghost use Rattle.csub_semantics.specs.Trees.{owner_tree};
-ghost use Rattle.csub_semantics.specs.Syntax.{local_tree, function_tree};
-ghost use Rattle.csub_core.specs.Valid.{objects_of, parameter_object, type_in, IsObject, AreOther};
-ghost use Rattle.csub_core.specs.Checks.{AreApart};
+ghost use Rattle.csub_objects.specs.Meaning.{type_tree};
+ghost use Rattle.csub_objects.specs.Types.{cells, IsNumber, IsSized};
+ghost use Rattle.csub_semantics.specs.Syntax.{function_tree};
+ghost use Rattle.csub_validity.specs.Valid.{AreDeclared, frame_cells, most_cells};
+ghost use Rattle.csub_core.specs.Checks.{param_cells, local_cells};
 
-use crate::valid::calls::same_type;
-use csub_semantics::{CType, Function, LocalVar, Member, Owner};
+use csub_objects::{CType, cells, is_number, is_sized};
+use csub_semantics::{Function, LocalVar, Member};
 
-/// Whether an object stands in a function with the type that it is declared with. Its declaration is looked for from the
-/// front, so this takes at most as many comparisons of names as a frame has cells, which are at most 4,096.
-pub(crate) fn is_object(function: &Function, owner: &Owner, ctype: &CType) -> bool
-    ensures { IsTrue result ↔ IsObject (objects_of (function_tree function.now)) (owner_tree owner.now) (type_tree ctype.now) }
+/// The most cells of a function's frame.
+const MOST_CELLS: u64 = 4096;
+
+/// Whether a frame of the function has at most 4,096 cells: those of its objects, and one for each temporary.
+pub(crate) fn has_few_cells(function: &Function) -> bool
+    ensures { IsTrue result ↔ (frame_cells (function_tree function.now) ≤ most_cells) }
 {
-    match owner {
-        Owner::Global(_) => false,
-        Owner::Local(name, number) => match object_type(function, name.bytes(), *number) {
-            None => false,
-            Some(declared) => same_type(declared, ctype),
-        },
+    match room_in_frame(function) {
+        None => false,
+        Some(room) => u64::from(function.temps) <= room,
     }
 }
 
-/// Whether a local object, which is no parameter, stands with the type that it is declared with.
-pub(crate) fn is_local(function: &Function, owner: &Owner, ctype: &CType) -> bool
-    ensures { IsTrue result ↔ IsObject (function_tree function.now).locals (owner_tree owner.now) (type_tree ctype.now) }
+/// What a frame of 4,096 cells has left for temporaries.
+fn room_in_frame(function: &Function) -> Option<u64>
+    ensures { SomeIff result (sum_by param_cells function.now.params.items + sum_by local_cells function.now.locals.items ≤ most_cells) (most_cells - (sum_by param_cells function.now.params.items + sum_by local_cells function.now.locals.items)) }
 {
-    match owner {
-        Owner::Global(_) => false,
-        Owner::Local(name, number) => match local_type(&function.locals, name.bytes(), *number) {
-            None => false,
-            Some(declared) => same_type(declared, ctype),
-        },
-    }
+    let room = room_behind_params(&function.params, MOST_CELLS)?;
+    room_behind_locals(&function.locals, room)
 }
 
-/// The declared type of the object with a name and a number, if the function has it.
-fn object_type<'a>(function: &'a Function, name: &[u8], number: u32) -> Option<&'a CType>
-    ensures { option_map (λ t. type_tree t.now) result ≡ type_in (objects_of (function_tree function.now)) name.now number }
+fn room_behind_params(params: &[Member], most: u64) -> Option<u64>
+    requires { most ≤ 65536 }
+    ensures { SomeIff result (sum_by param_cells params.now ≤ most) (most - sum_by param_cells params.now) }
 {
-    match param_type(&function.params, name, number) {
-        Some(ctype) => Some(ctype),
-        None => local_type(&function.locals, name, number),
+    let mut room = most;
+    for param in params {
+        room = room_behind(&param.ctype, room)?;
     }
+    Some(room)
 }
 
-/// The declared type of the parameter with a name and a number, which is 1 for each.
-fn param_type<'a>(params: &'a [Member], name: &[u8], number: u32) -> Option<&'a CType>
-    ensures { option_map (λ t. type_tree t.now) result ≡ type_in (map (λ p. parameter_object (member_tree p)) params.now) name.now number }
+fn room_behind_locals(locals: &[LocalVar], most: u64) -> Option<u64>
+    requires { most ≤ 65536 }
+    ensures { SomeIff result (sum_by local_cells locals.now ≤ most) (most - sum_by local_cells locals.now) }
+{
+    let mut room = most;
+    for local in locals {
+        room = room_behind(&local.ctype, room)?;
+    }
+    Some(room)
+}
+
+/// What is left of `room` behind the cells of an object.
+pub(crate) fn room_behind(ctype: &CType, room: u64) -> Option<u64>
+    requires { room ≤ 65536 }
+    ensures { SomeIff result (cells (type_tree ctype.now) ≤ room) (room - cells (type_tree ctype.now)) }
+{
+    room.checked_sub(cells(ctype))
+}
+
+/// Whether each parameter is a number, and each local has a type that an object may have.
+pub(crate) fn are_declared(function: &Function) -> bool
+    ensures { IsTrue result ↔ AreDeclared (function_tree function.now) }
+{
+    are_numbers(&function.params) && are_sized(&function.locals)
+}
+
+fn are_numbers(params: &[Member]) -> bool
+    ensures { IsTrue result ↔ All (λ (p : Member). IsNumber (type_tree p.ctype)) params.now }
 {
     for param in params {
-        if param.name.bytes() == name && number == 1 {
-            return Some(&param.ctype);
+        if !is_number(&param.ctype) {
+            return false;
         }
     }
-    None
+    true
 }
 
-/// The declared type of the local with a name and a number.
-fn local_type<'a>(locals: &'a [LocalVar], name: &[u8], number: u32) -> Option<&'a CType>
-    ensures { option_map (λ t. type_tree t.now) result ≡ type_in (map local_tree locals.now) name.now number }
+fn are_sized(locals: &[LocalVar]) -> bool
+    ensures { IsTrue result ↔ All (λ (v : LocalVar). IsSized (type_tree v.ctype)) locals.now }
 {
     for local in locals {
-        if local.name.bytes() == name && local.number == number {
-            return Some(&local.ctype);
-        }
-    }
-    None
-}
-
-/// Whether no two objects of a function have one name and one number. This takes a comparison of names for each two
-/// objects of a frame at most.
-pub(crate) fn objects_differ(function: &Function) -> bool
-    ensures { IsTrue result ↔ AllPairs AreOther (objects_of (function_tree function.now)) }
-{
-    params_differ(&function.params) && are_new(&function.params, &function.locals)
-}
-
-/// Whether the locals differ from each other and from the parameters.
-fn are_new(params: &[Member], locals: &[LocalVar]) -> bool
-    ensures { IsTrue result ↔ (AllPairs (λ (a b : LocalVar). AreOther (local_tree a) (local_tree b)) locals.now × AreApart params.now locals.now) }
-{
-    locals_differ(locals) && are_apart(params, locals)
-}
-
-/// Whether no two parameters have one name.
-fn params_differ(params: &[Member]) -> bool
-    ensures { IsTrue result ↔ AllPairs (λ (a b : Member). a.name ≢ b.name) params.now }
-{
-    for i in 0..params.len() {
-        if !is_new_param(params, i, params[i].name.bytes()) {
-            return false;
-        }
-    }
-    true
-}
-
-/// Whether none of the first `count` parameters has a name.
-fn is_new_param(params: &[Member], count: usize, name: &[u8]) -> bool
-    requires { count ≤ length params.now }
-    ensures { IsTrue result ↔ AllWithin (λ (p : Member). p.name ≢ name.now) params.now 0 count }
-{
-    for i in 0..count {
-        if params[i].name.bytes() == name {
-            return false;
-        }
-    }
-    true
-}
-
-/// Whether no two locals have one name and one number.
-fn locals_differ(locals: &[LocalVar]) -> bool
-    ensures { IsTrue result ↔ AllPairs (λ (a b : LocalVar). AreOther (local_tree a) (local_tree b)) locals.now }
-{
-    for i in 0..locals.len() {
-        let local = &locals[i];
-        if !is_new_local(locals, i, local.name.bytes(), local.number) {
-            return false;
-        }
-    }
-    true
-}
-
-/// Whether none of the first `count` locals has a name with a number.
-fn is_new_local(locals: &[LocalVar], count: usize, name: &[u8], number: u32) -> bool
-    requires { count ≤ length locals.now }
-    ensures { IsTrue result ↔ AllWithin (λ (l : LocalVar). l.name ≡ name.now → l.number ≢ number) locals.now 0 count }
-{
-    for i in 0..count {
-        if locals[i].name.bytes() == name && locals[i].number == number {
-            return false;
-        }
-    }
-    true
-}
-
-/// Whether no local that counts as the first of its name has the name of a parameter.
-fn are_apart(params: &[Member], locals: &[LocalVar]) -> bool
-    ensures { IsTrue result ↔ AreApart params.now locals.now }
-{
-    for local in locals {
-        if local.number == 1 && !is_new_param(params, params.len(), local.name.bytes()) {
+        if !is_sized(&local.ctype) {
             return false;
         }
     }

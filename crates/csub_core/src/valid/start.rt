@@ -3,16 +3,16 @@ ghost use Rattle.std.specs.Prelude.{◌≡◌, ◌↔◌, [], ◌∷◌, Some, N
 ghost use Rattle.csub_types.specs.declared.kind.IntKind.TheVariants.{Int};
 ghost use Rattle.csub_semantics.specs.Labels.{calls, call_tree, label_tree};
 ghost use Rattle.csub_semantics.specs.Syntax.{part_tree, stmt_tree, stmts_of, function_tree};
-ghost use Rattle.csub_semantics.specs.Flows.{start_name, main_name, function_of};
-ghost use Rattle.csub_core.specs.Valid.{BeginsWithStart, IsStart, IsStartBody, IsStartPart, IsMain, start_call};
+ghost use Rattle.csub_semantics.specs.Flows.{start_name, main_name, function_in};
+ghost use Rattle.csub_validity.specs.Valid.{BeginsWithStart, IsStart, IsStartBody, IsStartPart, IsMain, start_call};
 
-use crate::valid::calls::{find_function, is_named, takes_nothing};
 use csub_semantics::{CallLabel, Function, Label, RPart, RStmt};
 use csub_types::IntKind;
+use csub_validity::calls::{find_function, is_named};
 
 /// Whether `main` is defined as an `int` function without parameters (C11 5.1.2.2.1).
 pub(crate) fn has_main(functions: &[Function]) -> bool
-    ensures { IsTrue result ↔ IsMain (function_of (map function_tree functions.now) main_name) }
+    ensures { IsTrue result ↔ IsMain (function_in (map function_tree functions.now) main_name) }
 {
     match find_function(functions, b"main") {
         None => false,
@@ -97,6 +97,13 @@ fn is_start_call(call: &CallLabel) -> bool
     ensures { IsTrue result ↔ (calls (call_tree call.now) ≡ start_call) }
 {
     call.callee.bytes() == b"main".as_slice() && takes_nothing(call) && gives_status(call)
+}
+
+/// Whether a call has no argument, and its callee no parameter.
+fn takes_nothing(call: &CallLabel) -> bool
+    ensures { IsTrue result ↔ (((call_tree call.now).args ≡ []) × ((call_tree call.now).params ≡ [])) }
+{
+    call.args.is_empty() && call.params.is_empty()
 }
 
 fn gives_status(call: &CallLabel) -> bool

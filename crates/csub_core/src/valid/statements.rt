@@ -1,57 +1,59 @@
 //! Whether statements have a label only where there is a point of its kind.
 ghost use Rattle.std.specs.Prelude.{◌≡◌, ◌↔◌, ◌<◌, ◌≤◌, ◌+◌, ◌^◌, ◌⊎◌, All, IsTrue, true, false, length, map};
 ghost use Rattle.std.specs.Option.{option_map};
-ghost use Rattle.csub_semantics.specs.Types.{type_tree};
+ghost use Rattle.csub_objects.specs.Meaning.{type_tree};
 ghost use Rattle.csub_semantics.specs.Trees.{owner_tree};
 ghost use Rattle.csub_semantics.specs.Labels.{answer_tree, init_tree, label_tree};
 ghost use Rattle.csub_semantics.specs.Syntax.{part_tree, stmt_tree, stmts_of, function_tree};
-ghost use Rattle.csub_core.specs.declared.valid.role.Role.TheVariants.{Effect};
-ghost use Rattle.csub_core.specs.Valid.{scope_of, declares, IsAnswer, IsInitialised, IsLast, IsPart, AreParts, IsForHead, IsStmt, stmt_count, most_entries};
-ghost use Rattle.csub_core.specs.Checks.{scope_at, declared_own, IsEnd, AreTogether, IsOneStep};
+ghost use Rattle.csub_validity.specs.declared.role.Role.TheVariants.{Effect};
+ghost use Rattle.csub_validity.specs.Valid.{scope_of, declares, IsAnswer, IsInit, IsInitialised, IsLast, IsPart, AreParts, IsForHead, IsStmt, stmt_count, most_entries};
+ghost use Rattle.csub_validity.specs.Checks.{tree_of, scope_at};
+ghost use Rattle.csub_core.specs.Checks.{declared_own, IsEnd, AreTogether, IsOneStep};
 
-use crate::valid::calls::{are_calls, is_call};
-use crate::valid::expressions::is_expr;
-use crate::valid::objects::is_local;
-use crate::valid::role::{Role, Site, Targets};
+use csub_objects::is_number;
 use csub_semantics::{Answer, CType, Function, Label, Owner, RInit, RPart, RStmt};
+use csub_validity::calls::{are_calls, is_call};
+use csub_validity::expressions::is_expr;
+use csub_validity::objects::is_local;
+use csub_validity::role::{Definitions, Role, Site, Targets};
 
 /// The most statements of a list, and the most parts of a statement.
 const MOST_ENTRIES: usize = 1_048_576;
 
-/// Whether a statement of `function` is valid in the program of `functions`.
+/// Whether a statement of `function` is valid in the program.
 #[cycle(stmts)]
 pub(crate) fn is_stmt(
-    functions: &[Function],
+    program: Definitions<'_>,
     function: &Function,
     targets: Targets,
     stmt: &RStmt,
 ) -> bool
-    ensures { IsTrue result ↔ IsStmt (map function_tree functions.now) (function_tree function.now) targets (stmt_tree stmt.now) }
+    ensures { IsTrue result ↔ IsStmt (tree_of program.entry) (function_tree function.now) targets (stmt_tree stmt.now) }
 {
     match stmt {
-        RStmt::Parts(parts) => are_parts(functions, function, Role::Whole, parts),
+        RStmt::Parts(parts) => are_parts(program, function, Role::Whole, parts),
         RStmt::Block(stmts) => {
-            has_few_stmts(stmts) && are_stmts(functions, function, targets, stmts)
+            has_few_stmts(stmts) && are_stmts(program, function, targets, stmts)
         }
         RStmt::If(test, then, other) => {
-            is_part(functions, function, Role::Test, test)
-                && is_stmt(functions, function, targets, then)
+            is_part(program, function, Role::Test, test)
+                && is_stmt(program, function, targets, then)
                 && match other {
                     None => true,
-                    Some(stmt) => is_stmt(functions, function, targets, stmt),
+                    Some(stmt) => is_stmt(program, function, targets, stmt),
                 }
         }
         RStmt::While(test, body) => {
-            is_part(functions, function, Role::Test, test)
-                && is_stmt(functions, function, Targets::LOOP, body)
+            is_part(program, function, Role::Test, test)
+                && is_stmt(program, function, Targets::LOOP, body)
         }
         RStmt::Do(body, test) => {
-            is_stmt(functions, function, Targets::LOOP, body)
-                && is_part(functions, function, Role::Test, test)
+            is_stmt(program, function, Targets::LOOP, body)
+                && is_part(program, function, Role::Test, test)
         }
         RStmt::For(first, test, third, body) => {
-            is_for_head(functions, function, first, test, third)
-                && is_stmt(functions, function, Targets::LOOP, body)
+            is_for_head(program, function, first, test, third)
+                && is_stmt(program, function, Targets::LOOP, body)
         }
         RStmt::Break => targets.of_break,
         RStmt::Continue => targets.of_continue,
@@ -61,15 +63,15 @@ pub(crate) fn is_stmt(
 /// Whether each of the statements is valid.
 #[cycle(stmts)]
 pub(crate) fn are_stmts(
-    functions: &[Function],
+    program: Definitions<'_>,
     function: &Function,
     targets: Targets,
     stmts: &[RStmt],
 ) -> bool
-    ensures { IsTrue result ↔ All (λ s. IsStmt (map function_tree functions.now) (function_tree function.now) targets (stmt_tree s)) stmts.now }
+    ensures { IsTrue result ↔ All (λ s. IsStmt (tree_of program.entry) (function_tree function.now) targets (stmt_tree s)) stmts.now }
 {
     for stmt in stmts {
-        if !is_stmt(functions, function, targets, stmt) {
+        if !is_stmt(program, function, targets, stmt) {
             return false;
         }
     }
@@ -85,25 +87,25 @@ pub(crate) fn has_few_stmts(stmts: &[RStmt]) -> bool
 
 /// Whether the parts of a `for` before its body are valid.
 fn is_for_head(
-    functions: &[Function],
+    program: Definitions<'_>,
     function: &Function,
     first: &[RPart],
     test: &RPart,
     third: &[RPart],
 ) -> bool
-    ensures { IsTrue result ↔ IsForHead (map function_tree functions.now) (function_tree function.now) (map part_tree first.now) (part_tree test.now) (map part_tree third.now) }
+    ensures { IsTrue result ↔ IsForHead (tree_of program.entry) (function_tree function.now) (map part_tree first.now) (part_tree test.now) (map part_tree third.now) }
 {
-    are_parts(functions, function, Role::Effect, first)
-        && is_part(functions, function, Role::Test, test)
-        && are_steps(functions, function, third)
+    are_parts(program, function, Role::Effect, first)
+        && is_part(program, function, Role::Test, test)
+        && are_steps(program, function, third)
 }
 
 /// Whether there is at most one part, which is valid as an expression that is evaluated for its effects, and declares
 /// nothing.
-fn are_steps(functions: &[Function], function: &Function, parts: &[RPart]) -> bool
-    ensures { IsTrue result ↔ (IsOneStep (map part_tree parts.now) × All (λ p. IsPart (map function_tree functions.now) (function_tree function.now) Effect p) (map part_tree parts.now)) }
+fn are_steps(program: Definitions<'_>, function: &Function, parts: &[RPart]) -> bool
+    ensures { IsTrue result ↔ (IsOneStep (map part_tree parts.now) × All (λ p. IsPart (tree_of program.entry) (function_tree function.now) Effect p) (map part_tree parts.now)) }
 {
-    is_one_step(parts) && are_effects(functions, function, parts)
+    is_one_step(parts) && are_effects(program, function, parts)
 }
 
 /// Whether there is at most one part, and it declares nothing.
@@ -143,17 +145,17 @@ fn is_declared(main: &Option<Label>) -> bool
 }
 
 /// Whether each of the parts is valid as an expression that is evaluated for its effects.
-fn are_effects(functions: &[Function], function: &Function, parts: &[RPart]) -> bool
-    ensures { IsTrue result ↔ All (λ p. IsPart (map function_tree functions.now) (function_tree function.now) Effect p) (map part_tree parts.now) }
+fn are_effects(program: Definitions<'_>, function: &Function, parts: &[RPart]) -> bool
+    ensures { IsTrue result ↔ All (λ p. IsPart (tree_of program.entry) (function_tree function.now) Effect p) (map part_tree parts.now) }
 {
-    are_each(functions, function, Role::Effect, parts)
+    are_each(program, function, Role::Effect, parts)
 }
 
 /// Whether the parts of a statement, or the first of a `for`, are valid in a role.
-fn are_parts(functions: &[Function], function: &Function, role: Role, parts: &[RPart]) -> bool
-    ensures { IsTrue result ↔ AreParts (map function_tree functions.now) (function_tree function.now) role (map part_tree parts.now) }
+fn are_parts(program: Definitions<'_>, function: &Function, role: Role, parts: &[RPart]) -> bool
+    ensures { IsTrue result ↔ AreParts (tree_of program.entry) (function_tree function.now) role (map part_tree parts.now) }
 {
-    are_together(parts) && are_each(functions, function, role, parts)
+    are_together(parts) && are_each(program, function, role, parts)
 }
 
 /// Whether there are at most 1,048,576 parts, and they are at most one, or each declares an object.
@@ -176,11 +178,11 @@ fn all_declare(parts: &[RPart]) -> bool
 }
 
 /// Whether each of the parts is valid in a role.
-fn are_each(functions: &[Function], function: &Function, role: Role, parts: &[RPart]) -> bool
-    ensures { IsTrue result ↔ All (λ p. IsPart (map function_tree functions.now) (function_tree function.now) role (part_tree p)) parts.now }
+fn are_each(program: Definitions<'_>, function: &Function, role: Role, parts: &[RPart]) -> bool
+    ensures { IsTrue result ↔ All (λ p. IsPart (tree_of program.entry) (function_tree function.now) role (part_tree p)) parts.now }
 {
     for part in parts {
-        if !is_part(functions, function, role, part) {
+        if !is_part(program, function, role, part) {
             return false;
         }
     }
@@ -188,26 +190,27 @@ fn are_each(functions: &[Function], function: &Function, role: Role, parts: &[RP
 }
 
 /// Whether a part has calls that fit, and then what may stand last.
-fn is_part(functions: &[Function], function: &Function, role: Role, part: &RPart) -> bool
-    ensures { IsTrue result ↔ IsPart (map function_tree functions.now) (function_tree function.now) role (part_tree part.now) }
+fn is_part(program: Definitions<'_>, function: &Function, role: Role, part: &RPart) -> bool
+    ensures { IsTrue result ↔ IsPart (tree_of program.entry) (function_tree function.now) role (part_tree part.now) }
 {
-    are_calls(functions, function, part) && is_end(functions, function, role, part)
+    are_calls(program, function, part) && is_end(program, function, role, part)
 }
 
 /// Whether the own point of a part may stand behind its calls, or may be missing there.
-fn is_end(functions: &[Function], function: &Function, role: Role, part: &RPart) -> bool
-    ensures { IsTrue result ↔ IsEnd (map function_tree functions.now) (function_tree function.now) (scope_of (function_tree function.now) (part_tree part.now)) role (length part.now.calls.items) (option_map label_tree part.now.main) }
+fn is_end(program: Definitions<'_>, function: &Function, role: Role, part: &RPart) -> bool
+    ensures { IsTrue result ↔ IsEnd (tree_of program.entry) (function_tree function.now) (scope_of (tree_of program.entry) (function_tree function.now) (part_tree part.now)) role (length part.now.calls.items) (option_map label_tree part.now.main) }
 {
     let calls = part.calls.len();
     match &part.main {
         Some(label) => {
             let number = calls + 1;
             let site = Site {
+                program,
                 function,
                 part,
                 number,
             };
-            is_last(functions, role, site, label)
+            is_last(role, site, label)
         }
         None => match role {
             Role::Whole | Role::Effect => calls > 0,
@@ -217,12 +220,12 @@ fn is_end(functions: &[Function], function: &Function, role: Role, part: &RPart)
 }
 
 /// Whether a label may stand last in a part.
-fn is_last(functions: &[Function], role: Role, site: Site<'_>, label: &Label) -> bool
-    ensures { IsTrue result ↔ IsLast (map function_tree functions.now) (function_tree site.entry.function.now) (scope_at site.entry) role site.entry.number (label_tree label.now) }
+fn is_last(role: Role, site: Site<'_>, label: &Label) -> bool
+    ensures { IsTrue result ↔ IsLast (tree_of site.entry.program) (function_tree site.entry.function.now) (scope_at site.entry) role site.entry.number (label_tree label.now) }
 {
     match role {
         Role::Whole => match label {
-            Label::Call(call) => is_call(functions, site, call),
+            Label::Call(call) => is_call(site, call),
             Label::Eval(expr) => is_expr(site, expr),
             Label::Init(owner, ctype, init) => is_initialised(site, owner, ctype, init),
             Label::Return(answer) => is_answer(site, answer),
@@ -233,7 +236,7 @@ fn is_last(functions: &[Function], role: Role, site: Site<'_>, label: &Label) ->
             _ => false,
         },
         Role::Effect => match label {
-            Label::Call(call) => is_call(functions, site, call),
+            Label::Call(call) => is_call(site, call),
             Label::Eval(expr) => is_expr(site, expr),
             Label::Init(owner, ctype, init) => is_initialised(site, owner, ctype, init),
             _ => false,
@@ -245,8 +248,15 @@ fn is_last(functions: &[Function], role: Role, site: Site<'_>, label: &Label) ->
 fn is_initialised(site: Site<'_>, owner: &Owner, ctype: &CType, init: &RInit) -> bool
     ensures { IsTrue result ↔ IsInitialised (function_tree site.entry.function.now) (scope_at site.entry) site.entry.number (owner_tree owner.now) (type_tree ctype.now) (init_tree init.now) }
 {
+    is_local(site.function, owner, ctype) && is_init(site, ctype, init)
+}
+
+/// Whether an initialiser fits its object's type: a number gets an expression (C11 6.7.9p11).
+fn is_init(site: Site<'_>, ctype: &CType, init: &RInit) -> bool
+    ensures { IsTrue result ↔ IsInit (scope_at site.entry) site.entry.number (type_tree ctype.now) (init_tree init.now) }
+{
     let RInit::One(value) = init;
-    is_local(site.function, owner, ctype) && is_expr(site, value)
+    is_number(ctype) && is_expr(site, value)
 }
 
 /// Whether a return fits its function's result type.

@@ -1,6 +1,6 @@
 use Rattle.std.proofs.Common.{◌≢◌}
 use Rattle.csub_semantics.specs.declared.function.Function.{Function}
-use Rattle.csub_core.proofs.ValidLists.{new_from_pairs}
+use Rattle.csub_validity.proofs.LawsLists.{new_from_pairs}
 use Rattle.csub_core.proofs.valid.names_differ.Goals as goal
 
 pub returns-then-not-is_new : goal.returns-then-not-is_new

@@ -1,5 +1,5 @@
 use Rattle.std.proofs.Common.{◌≡◌, map, take}
-use Rattle.csub_semantics.specs.Types.{member_tree}
+use Rattle.csub_objects.specs.Meaning.{member_tree}
 use Rattle.csub_semantics.proofs.copy.copy_members.Given as goal
 
 abbrev pub invariant-loop-member : goal.invariant-loop-member

@@ -1,5 +1,6 @@
 use Rattle.std.proofs.Common.{map}
 use Rattle.csub_semantics.specs.Syntax.{function_tree}
+use Rattle.csub_validity.specs.Checks.{tree_of}
 use Rattle.csub_core.proofs.ValidStmts.{IsStmt-Block}
 use Rattle.csub_core.proofs.valid.statements.+stmts.Goals as goal
 
@@ -9,7 +10,7 @@ is_stmt-returns-in-Parts t c = rw c.in-Parts.is (rw c.deref.ensures.value at c.a
 pub is_stmt-returns-then-has_few_stmts : goal.is_stmt-returns-then-has_few_stmts
 is_stmt-returns-then-has_few_stmts t c =
     rw c.in-Block.is
-    (let f = IsStmt-Block (map function_tree c.args.functions.now) (function_tree c.args.function.now) c.args.targets c.in-Block.stmts in
+    (let f = IsStmt-Block (tree_of c.args.program) (function_tree c.args.function.now) c.args.targets c.in-Block.stmts in
     let few = rw c.deref-in-Block.ensures.value at c.has_few_stmts.ensures in
     let each = rw c.deref-then-has_few_stmts.ensures.value at c.are_stmts.ensures in
     (λ h. f.1 (few.0 c.if-has_few_stmts.true, each.0 h), λ h. each.1 (f.0 h).1))
@@ -17,6 +18,6 @@ is_stmt-returns-then-has_few_stmts t c =
 pub is_stmt-returns-else-has_few_stmts : goal.is_stmt-returns-else-has_few_stmts
 is_stmt-returns-else-has_few_stmts t c =
     rw c.in-Block.is
-    (let f = IsStmt-Block (map function_tree c.args.functions.now) (function_tree c.args.function.now) c.args.targets c.in-Block.stmts in
+    (let f = IsStmt-Block (tree_of c.args.program) (function_tree c.args.function.now) c.args.targets c.in-Block.stmts in
     let few = rw c.deref-in-Block.ensures.value at c.has_few_stmts.ensures in
     (λ h. cc, λ h. few.1 (f.0 h).0))

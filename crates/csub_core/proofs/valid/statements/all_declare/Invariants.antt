@@ -1,7 +1,7 @@
 use Rattle.std.proofs.Common.{ℕ, ◌<◌, ◌≡◌, true, get_or}
 use Rattle.csub_semantics.specs.declared.function.RPart.{RPart}
 use Rattle.csub_semantics.specs.Syntax.{part_tree}
-use Rattle.csub_core.specs.Valid.{declares}
+use Rattle.csub_validity.specs.Valid.{declares}
 use Rattle.csub_core.proofs.valid.statements.all_declare.Given as goal
 
 abbrev pub invariant-loop-part : goal.invariant-loop-part

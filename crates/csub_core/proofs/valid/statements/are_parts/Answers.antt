@@ -1,12 +1,13 @@
 use Rattle.std.proofs.Common.{map}
 use Rattle.csub_semantics.specs.Syntax.{function_tree}
+use Rattle.csub_validity.specs.Checks.{tree_of}
 use Rattle.csub_core.proofs.ValidStmts.{parts_of_map}
 use Rattle.csub_core.proofs.valid.statements.are_parts.Goals as goal
 
 pub returns-then-are_together : goal.returns-then-are_together
 returns-then-are_together c =
     let together = c.are_together.ensures.0 c.if-are_together.true in
-    let each = parts_of_map (map function_tree c.args.functions.now) (function_tree c.args.function.now) c.args.role c.args.parts.now in (
+    let each = parts_of_map (tree_of c.args.program) (function_tree c.args.function.now) c.args.role c.args.parts.now in (
       λ h. record { few = together.0; one = together.1; each = each.1 (c.are_each.ensures.0 h) },
       λ h. c.are_each.ensures.1 (each.0 h.each),
     )

@@ -1,0 +1,81 @@
+-- The globals that a label names. They belong to the label, so that statements count as the same only where each global
+-- that they name is declared with one type and one initial value in both programs.
+use Rattle.std.specs.Prelude.{List, [], ◌∷◌, ◌++◌, Option, Some, None, find}
+use Rattle.std.specs.List.{flat_map}
+use Rattle.std.specs.Ordering.{nat_cmp}
+use Rattle.std.specs.Cmp.Lexicographic.{slice_cmp}
+use Rattle.std.specs.BTreeSet.{insert_key}
+use Rattle.csub_objects.specs.Types.{Name}
+use Rattle.csub_semantics.specs.Types.{name_eq, GlobalTree}
+use Rattle.csub_semantics.specs.Trees.{OwnerTree, global_owner, local_owner, Variable, object, temporary, NamedPlace, variable, NamedExpr, constant}
+use Rattle.csub_semantics.specs.Trees.{reading, unary_operation, conversion, stepping, operation, conjunction, disjunction, choice, assignment}
+use Rattle.csub_semantics.specs.Trees.{update, input_byte, output_byte, NamedArg, value_argument}
+use Rattle.csub_semantics.specs.Labels.{LabelTree, enters, exits, evaluates, initialises, branches, returns, calls, AnswerTree, InitTree, one_value}
+
+-- the names of the globals in a tree, from left to right
+abbrev pub owner_names : OwnerTree → List Name
+owner_names (global_owner a) = a ∷ []
+owner_names (local_owner a n) = []
+
+abbrev pub variable_names : Variable → List Name
+variable_names (object owner t) = owner_names owner
+variable_names (temporary n k) = []
+
+abbrev pub place_names : NamedPlace → List Name
+place_names (variable v) = variable_names v
+
+abbrev pub expr_names : NamedExpr → List Name
+expr_names (constant k v) = []
+expr_names (reading p) = place_names p
+expr_names (unary_operation op k a) = expr_names a
+expr_names (conversion k a) = expr_names a
+expr_names (stepping op p) = place_names p
+expr_names (operation op k a b) = expr_names a ++ expr_names b
+expr_names (conjunction a b) = expr_names a ++ expr_names b
+expr_names (disjunction a b) = expr_names a ++ expr_names b
+expr_names (choice k c a b) = expr_names c ++ (expr_names a ++ expr_names b)
+expr_names (assignment p e) = place_names p ++ expr_names e
+expr_names (update p op k e) = place_names p ++ expr_names e
+expr_names input_byte = []
+expr_names (output_byte e) = expr_names e
+
+abbrev pub arg_names : NamedArg → List Name
+arg_names (value_argument e) = expr_names e
+
+abbrev pub init_names : InitTree → List Name
+init_names (one_value e) = expr_names e
+
+abbrev pub answer_names : Option AnswerTree → List Name
+answer_names None = []
+answer_names (Some a) = expr_names a.value
+
+abbrev pub label_names : LabelTree → List Name
+label_names enters = []
+label_names (exits rule) = []
+label_names (evaluates e) = expr_names e
+label_names (initialises owner t init) = owner_names owner ++ init_names init
+label_names (branches e) = expr_names e
+label_names (returns answer) = answer_names answer
+label_names (calls c) = flat_map arg_names c.args
+
+-- names in the order of their bytes, each once, when more of them are put to some that stand so
+abbrev pub ordered : List Name → List Name → List Name
+ordered before [] = before
+ordered before (a ∷ more) = ordered (insert_key (slice_cmp nat_cmp) before a) more
+
+-- the global of a name
+abbrev pub global_of : List GlobalTree → Name → Option GlobalTree
+global_of globals a = find (λ (g : GlobalTree). name_eq g.name a) globals
+
+abbrev pub found_first : Option GlobalTree → List GlobalTree → List GlobalTree
+found_first None rest = rest
+found_first (Some g) rest = g ∷ rest
+
+-- the globals of some names, in the order of the names
+abbrev pub globals_of : List GlobalTree → List Name → List GlobalTree
+globals_of globals [] = []
+globals_of globals (a ∷ names) = found_first (global_of globals a) (globals_of globals names)
+
+-- the globals that a label's tree names, each once, in the order of their names
+abbrev pub named_globals : List GlobalTree → LabelTree → List GlobalTree
+named_globals globals label = globals_of globals (ordered [] (label_names label))

@@ -1,0 +1,191 @@
+//! Whether expressions have the kinds that C states, and name what is declared.
+ghost use Rattle.std.specs.Prelude.{◌≡◌, ◌↔◌, IsTrue, map};
+ghost use Rattle.csub_types.specs.Kinds.{IsOf, promote, common};
+ghost use Rattle.csub_semantics.specs.Trees.{place_tree, expr_tree, variable, temporary};
+ghost use Rattle.csub_semantics.specs.Syntax.{part_tree};
+ghost use Rattle.csub_types.specs.Arithmetic.{unary_kind, binary_kind};
+ghost use Rattle.csub_validity.specs.Valid.{IsExpr, IsRead, IsTarget, result_of, stage_result, place_kind, kind_of, operation_kind};
+ghost use Rattle.std.specs.Option.{option_map};
+ghost use Rattle.csub_semantics.specs.Labels.{label_tree};
+ghost use Rattle.csub_validity.specs.Checks.{scope_at, own_result};
+
+use crate::objects::is_object;
+use crate::role::Site;
+use csub_objects::{is_number, number_kind};
+use csub_semantics::{Function, Label, Place, RExpr, RPart};
+use csub_text::{BinOp, UnaryOp};
+use csub_types::{IntKind, common, convert, promote};
+
+/// Whether an expression at a stage of a part is valid: every constant is a number of its kind, every operation has the
+/// kind that its operator and operands state (C11 6.5.3.3, 6.5.5 to 6.5.15 and 6.5.16.2p3), every name is that of an
+/// object of the function, and every temporary holds the result of an earlier stage.
+///
+/// This takes a pass over the expression, with a comparison of names for each use of an object and object of the
+/// function. It takes no memory.
+pub fn is_expr(site: Site<'_>, expr: &RExpr) -> bool
+    ensures { IsTrue result ↔ IsExpr (scope_at site.entry) site.entry.number (expr_tree expr.now) }
+{
+    match expr {
+        RExpr::Const(kind, value) => is_of(*kind, *value),
+        RExpr::Read(place) => is_number_place(site, place),
+        RExpr::Temp(temp, kind) => is_temp(site, *temp, *kind),
+        RExpr::Step(_, place) => is_number_place(site, place),
+        RExpr::Getchar => true,
+        RExpr::Putchar(byte) => is_expr(site, byte),
+        RExpr::Unary(_, kind, operand) => {
+            *kind == promote(kind_of(operand)) && is_expr(site, operand)
+        }
+        RExpr::Cast(_, operand) => is_expr(site, operand),
+        RExpr::Binary(op, kind, left, right) => {
+            is_operation(*op, *kind, left, right) && is_expr(site, left) && is_expr(site, right)
+        }
+        RExpr::And(left, right) => is_expr(site, left) && is_expr(site, right),
+        RExpr::Or(left, right) => is_expr(site, left) && is_expr(site, right),
+        RExpr::Choose(kind, test, left, right) => {
+            is_choice(*kind, left, right)
+                && is_expr(site, test)
+                && is_expr(site, left)
+                && is_expr(site, right)
+        }
+        RExpr::Assign(place, value) => is_number_place(site, place) && is_expr(site, value),
+        RExpr::Update(place, op, kind, value) => {
+            is_update(*op, *kind, place, value)
+                && is_number_place(site, place)
+                && is_expr(site, value)
+        }
+    }
+}
+
+/// Whether a `?:` has the common kind of its later operands (C11 6.5.15p5).
+fn is_choice(kind: IntKind, left: &RExpr, right: &RExpr) -> bool
+    ensures { IsTrue result ↔ (kind ≡ common (kind_of (expr_tree left.now)) (kind_of (expr_tree right.now))) }
+{
+    kind == common(kind_of(left), kind_of(right))
+}
+
+/// Whether a kind has a number: exactly then it is converted to itself.
+pub fn is_of(kind: IntKind, value: i64) -> bool
+    ensures { IsTrue result ↔ IsOf kind value }
+{
+    convert(kind, value) == value
+}
+
+/// Whether an operation has the kind that its operator and its operands' kinds state.
+fn is_operation(op: BinOp, kind: IntKind, left: &RExpr, right: &RExpr) -> bool
+    ensures { IsTrue result ↔ (kind ≡ operation_kind op (kind_of (expr_tree left.now)) (kind_of (expr_tree right.now))) }
+{
+    kind == operation_kind(op, kind_of(left), kind_of(right))
+}
+
+/// The kind of an expression's value.
+fn kind_of(expr: &RExpr) -> IntKind
+    ensures { result ≡ kind_of (expr_tree expr.now) }
+{
+    match expr {
+        RExpr::Const(kind, _) => *kind,
+        RExpr::Getchar => IntKind::Int,
+        RExpr::Putchar(_) => IntKind::Int,
+        RExpr::Read(place) => place_kind(place),
+        RExpr::Temp(_, kind) => *kind,
+        RExpr::Step(_, place) => place_kind(place),
+        RExpr::Unary(op, kind, _) => unary_kind(*op, *kind),
+        RExpr::Cast(kind, _) => *kind,
+        RExpr::Binary(op, kind, _, _) => binary_kind(*op, *kind),
+        RExpr::And(_, _) => IntKind::Int,
+        RExpr::Or(_, _) => IntKind::Int,
+        RExpr::Choose(kind, _, _, _) => *kind,
+        RExpr::Assign(place, _) => place_kind(place),
+        RExpr::Update(place, _, _, _) => place_kind(place),
+    }
+}
+
+/// The kind of the number in a place.
+fn place_kind(place: &Place) -> IntKind
+    ensures { result ≡ place_kind (place_tree place.now) }
+{
+    let Place::Var(_, ctype) = place;
+    number_kind(ctype)
+}
+
+/// The kind of a unary operator's result (C11 6.5.3.3p5 for `!`).
+fn unary_kind(op: UnaryOp, kind: IntKind) -> IntKind
+    ensures { result ≡ unary_kind op kind }
+{
+    match op {
+        UnaryOp::Not => IntKind::Int,
+        UnaryOp::Plus | UnaryOp::Minus | UnaryOp::Flip => kind,
+    }
+}
+
+/// The kind of a binary operator's result (C11 6.5.8 and 6.5.9 for comparisons).
+fn binary_kind(op: BinOp, kind: IntKind) -> IntKind
+    ensures { result ≡ binary_kind op kind }
+{
+    match op {
+        BinOp::Lt | BinOp::Gt | BinOp::Le | BinOp::Ge | BinOp::Eq | BinOp::Ne => IntKind::Int,
+        BinOp::Mul | BinOp::Div | BinOp::Rem | BinOp::Add | BinOp::Sub => kind,
+        BinOp::Shl | BinOp::Shr | BinOp::BitAnd | BinOp::BitXor | BinOp::BitOr => kind,
+    }
+}
+
+/// The kind of an operation on operands of two kinds (C11 6.5.7 for shifts).
+fn operation_kind(op: BinOp, left: IntKind, right: IntKind) -> IntKind
+    ensures { result ≡ operation_kind op left right }
+{
+    match op {
+        BinOp::Shl | BinOp::Shr => promote(left),
+        BinOp::Mul | BinOp::Div | BinOp::Rem | BinOp::Add | BinOp::Sub => common(left, right),
+        BinOp::Lt | BinOp::Gt | BinOp::Le | BinOp::Ge => common(left, right),
+        BinOp::Eq | BinOp::Ne | BinOp::BitAnd | BinOp::BitXor | BinOp::BitOr => {
+            common(left, right)
+        }
+    }
+}
+
+/// Whether a place is an object of a function or of file scope, with the type that it is declared with, and a number.
+fn is_number_place(site: Site<'_>, place: &Place) -> bool
+    ensures read { IsTrue result ↔ IsRead (scope_at site.entry) site.entry.number (place_tree place.now) }
+    ensures written { IsTrue result ↔ IsTarget (scope_at site.entry) (place_tree place.now) }
+{
+    let Place::Var(owner, ctype) = place;
+    is_object(site, owner, ctype) && is_number(ctype)
+}
+
+/// Whether a temporary holds the result of an earlier stage than the `number`-th of a part.
+fn is_temp(site: Site<'_>, temp: u32, kind: IntKind) -> bool
+    ensures { IsTrue result ↔ IsRead (scope_at site.entry) site.entry.number (variable (temporary temp kind)) }
+{
+    (temp as usize) < site.number && stage_result(site.part, temp) == Some(kind)
+}
+
+/// The kind of the result of a part's call with a number from 1.
+fn stage_result(part: &RPart, temp: u32) -> Option<IntKind>
+    ensures { result ≡ result_of (map stage_result (part_tree part.now)) temp }
+{
+    let index = (temp as usize).checked_sub(1)?;
+    let calls = part.calls.as_slice();
+    if index < calls.len() {
+        calls[index].label.result
+    } else if index == calls.len() {
+        own_result(&part.main)
+    } else {
+        None
+    }
+}
+
+/// The kind of the result of a part's own point, where that is a call.
+fn own_result(main: &Option<Label>) -> Option<IntKind>
+    ensures { result ≡ own_result (option_map label_tree main.now) }
+{
+    match main {
+        Some(Label::Call(call)) => call.result,
+        _ => None,
+    }
+}
+
+/// Whether a compound assignment has the kind of its operation (C11 6.5.16.2p3).
+fn is_update(op: BinOp, kind: IntKind, place: &Place, value: &RExpr) -> bool
+    ensures { IsTrue result ↔ (kind ≡ operation_kind op (place_kind (place_tree place.now)) (kind_of (expr_tree value.now))) }
+{
+    kind == operation_kind(op, place_kind(place), kind_of(value))
+}
