@@ -1,13 +1,8 @@
-mod Same
-mod Keys
-mod Enters
-mod Adds
 mod MomentLemmas
-mod RunLemmas
 mod EdgeLemmas
 mod RowLemmas
-mod FrameLemmas
 mod Once
-mod BeginLemmas
-mod GraphLemmas
 mod WholeLemmas
+mod WayLemmas
+mod Turns
+mod Moves

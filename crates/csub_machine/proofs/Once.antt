@@ -7,7 +7,7 @@ use Rattle.csub_semantics.specs.Syntax.{ProgramTree}
 use Rattle.csub_semantics.specs.Successors.{Way}
 use Rattle.csub_semantics.specs.Flows.{PlacedNode, point_list, Edge, edges_from, edge_list}
 use Rattle.csub_semantics.specs.Numbers.{Site, site, site_of}
-use Rattle.csub_core.specs.Valid.{IsValid}
+use Rattle.csub_validity.specs.Valid.{IsValid}
 use Rattle.program_laws.proofs.LawsWays.{ExitsOnce, ways_differ}
 use Rattle.flow_graph.proofs.LawsLists.{slice_get_cases_append, made_of}
 use Rattle.flow_graph.proofs.LawsPlaces.{point_placed, points_once}
@@ -71,5 +71,5 @@ edges_once_among (m ∷ ms) places ways i j d e g =
 
 pub edges_once : (P : ProgramTree) → IsValid P → Once (edge_list P)
 edges_once P valid =
-    edges_once_among (point_list P) (points_once P valid.distinct)
-    (λ i a e. let is = point_placed P i a e in ways_differ P valid is.place is.function is.there is.index a.node is.node)
+    edges_once_among (point_list P) (points_once P.functions valid.distinct)
+    (λ i a e. let is = point_placed P.functions i a e in ways_differ P valid is.place is.function is.there is.index a.node is.node)

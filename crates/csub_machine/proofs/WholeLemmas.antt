@@ -6,7 +6,7 @@ use Rattle.csub_semantics.specs.declared.status.Status.{Status}
 use Rattle.csub_semantics.specs.declared.status.Status.TheVariants.{Turns}
 use Rattle.csub_semantics.specs.Flows.{flow_of}
 use Rattle.csub_semantics.specs.Runs.{Moment, running, ended, nowhere, after, Results, results_at, run_of}
-use Rattle.csub_machine.specs.Places.{tree_of}
+use Rattle.csub_semantics.specs.Syntax.{program_tree}
 use Rattle.csub_machine.specs.Moments.{Seen, moment_of, IsRunningAt, IsRunning, status_at, status_of, output_of, turns_of, crossed_of, results_of}
 use Rattle.csub_machine.proofs.MomentLemmas.{after_ended}
 
@@ -28,7 +28,7 @@ running_results k (running es at) h = refl
 running_results k (ended es n t s) h = absurd h
 running_results k nowhere h = absurd h
 
-pub results_running : (m : Seen) → IsRunning m → run_of (flow_of (tree_of m.program)) m.input m.done ≡ Some (results_of Turns m)
+pub results_running : (m : Seen) → IsRunning m → run_of (flow_of (program_tree m.program)) m.input m.done ≡ Some (results_of Turns m)
 results_running m h = running_results m.done (moment_of m) h
 
 ended_results : (m : Seen) (b : ℕ) (status : Status) (x : Moment) → moment_of m ≡ x → status_at x ≡ Some status → m.done ≤ b
@@ -36,16 +36,16 @@ ended_results : (m : Seen) (b : ℕ) (status : Status) (x : Moment) → moment_o
 ended_results m b status (running es at) e h l = absurd (let f : ⊥ = cc in f)
 ended_results m b status nowhere e h l = absurd (let f : ⊥ = cc in f)
 ended_results m b status (ended es n t s) e h l =
-    let F = flow_of (tree_of m.program) in
+    let F = flow_of (program_tree m.program) in
     let later : after F m.input b ≡ ended es n t s = ap (after F m.input) (sym (add-sub_of_le l)) ∙ after_ended F m.input m.done (b - m.done) es n t s e in
     ap (results_at b) later ∙ ap (λ (u : Status). Some (shown b u (ended es n t s))) (same_Some t status h) ∙ ap (λ (x : Moment). Some (shown b status x)) (sym later)
 
-pub results_ended : (m : Seen) (b : ℕ) (status : Status) → status_of m ≡ Some status → m.done ≤ b → run_of (flow_of (tree_of m.program)) m.input b ≡ Some (results_of status (asked m b))
+pub results_ended : (m : Seen) (b : ℕ) (status : Status) → status_of m ≡ Some status → m.done ≤ b → run_of (flow_of (program_tree m.program)) m.input b ≡ Some (results_of status (asked m b))
 results_ended m b status h l = ended_results m b status (moment_of m) refl h l
 
 -- where a run ends after k turns, the rest of its budget changes nothing
 pub whole_ended : (first m last : Seen) (k b : ℕ) (status : Status) → m ≡ asked first k → last ≡ asked m b → status_of m ≡ Some status → k ≤ b
-    → run_of (flow_of (tree_of first.program)) first.input b ≡ Some (results_of status last)
+    → run_of (flow_of (program_tree first.program)) first.input b ≡ Some (results_of status last)
 whole_ended first m last k b status e g h l =
     results_ended (asked first k) b status (ap status_of (sym e) ∙ h) l
     ∙ ap (λ (x : Seen). Some (results_of status x)) (sym (g ∙ ap (λ (x : Seen). asked x b) e))

@@ -3,7 +3,8 @@ use Rattle.std.specs.Prelude.{ℕ, List, map, Bool, ◌&&◌, Option, Some, None
 use Rattle.std.specs.List.{list_any}
 use Rattle.csub_semantics.specs.Syntax.{ProgramTree}
 use Rattle.csub_semantics.specs.Points.{point_eq, exit_eq}
-use Rattle.csub_semantics.specs.Flows.{name_eq, Edge, edge_list}
+use Rattle.csub_semantics.specs.Types.{name_eq}
+use Rattle.csub_semantics.specs.Flows.{Edge, edge_list}
 use Rattle.csub_semantics.specs.Numbers.{edge_at}
 
 abbrev pub edge_eq : Edge → Edge → Bool

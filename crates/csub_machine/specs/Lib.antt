@@ -1,7 +1,5 @@
-pub mod Named
-pub mod States
-pub mod Outcomes
-pub mod Places
 pub mod Moments
 pub mod Crossed
+pub mod Flat
+pub mod Ways
 pub mod Standings

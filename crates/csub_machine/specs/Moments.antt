@@ -1,20 +1,19 @@
 -- What a machine is seen as, and what its calls answer: all of it is said of the moment of its run.
 use Rattle.std.specs.Prelude.{ℕ, List, [], Option, Some, None}
-use Rattle.csub_semantics.specs.declared.function.Function.{Function}
 use Rattle.csub_semantics.specs.declared.status.Status.{Status}
 use Rattle.csub_semantics.specs.Flows.{flow_of, Edge}
 use Rattle.csub_semantics.specs.Runs.{Moment, running, ended, nowhere, after, Results}
-use Rattle.csub_machine.specs.Places.{tree_of}
+use Rattle.csub_semantics.specs.Syntax.{ProgramParts, program_tree}
 
 -- a program, its input, and how many turns were asked for
 pub record Seen : Type 0 where
-  pub program : List Function
+  pub program : ProgramParts
   pub input : List ℕ
   pub done : ℕ
 
 -- the moment of the run after so many turns
 abbrev pub moment_of : Seen → Moment
-moment_of m = after (flow_of (tree_of m.program)) m.input m.done
+moment_of m = after (flow_of (program_tree m.program)) m.input m.done
 
 -- the run still goes on
 abbrev pub IsRunningAt : Moment → Type 0

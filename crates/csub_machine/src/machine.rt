@@ -1,101 +1,127 @@
 //! The machine.
+use crate::flat::{Flat, copy_in};
 use crate::run::{Run, advance, begin, settle};
 use csub_core::Program;
+use csub_flat::{FlatProgram, flatten_program};
 use csub_semantics::Status;
 use edge_trace::EdgeRow;
 use flow_graph::Graph;
 use std::alloc::{AllocError, Global};
 use std::marker::Model;
 
-/// A run of a valid program on an input, with a copy of that input. Contracts see the program, the input and how many
-/// turns were asked for; what the calls answer is said of the moment of the run after so many turns (`specs/Moments`).
-///
-/// No call but `new`, `turn` and `run` takes memory.
+/// A run of a valid program on an input, with a copy of that input and a flat copy of the program's labels. No call but
+/// `new` takes memory.
 #[derive(Drop)]
 pub struct Machine<'a> {
     program: &'a Program,
     graph: &'a Graph,
+    flat: Flat<'a>,
     run: Run,
 }
 
 impl<'a> Model for Machine<'a> {
+    ghost use Rattle.std.specs.Prelude.{◌≡◌};
     ghost use Rattle.std.specs.Coded.{codes};
+    ghost use Rattle.csub_objects.specs.Codes.{type_code, members_code};
     ghost use Rattle.csub_semantics.specs.contracts.expression.RExpr as expr;
     ghost use Rattle.csub_semantics.specs.contracts.function.RStmt as stmt;
+    ghost use Rattle.csub_flat.specs.contracts.flat.FlatExpr as flat_expr;
     ghost use Rattle.flow_graph.specs.Graph.{IsGraphOf};
-    ghost use Rattle.csub_machine.specs.Places.{tree_of};
+    ghost use Rattle.csub_semantics.specs.Syntax.{program_tree};
     ghost use Rattle.csub_machine.specs.Moments.{Seen};
+    ghost use Rattle.csub_flat.specs.Copies.{IsFlatOf};
+    ghost use Rattle.csub_machine.specs.Flat.{flat_of};
     ghost use Rattle.csub_machine.specs.Standings.{IsAt};
 
     ghost Value = { Seen };
 
-    ghost coded = { Prim.hlevel (codes, expr.the_row.coded, stmt.the_row.coded) };
+    ghost coded = { Prim.hlevel (codes, type_code, members_code, expr.the_row.coded, stmt.the_row.coded, flat_expr.the_row.coded) };
 
     ghost view = { λ m. record { program = m.program.now; input = m.run.store.input.items; done = m.run.done } };
 
-    ghost invariant = { λ m. IsGraphOf m.graph.now (tree_of m.program.now) × IsAt (tree_of m.program.now) m.run };
+    ghost invariant = { λ m. IsGraphOf m.graph.now (program_tree m.program.now) × IsAt (program_tree m.program.now) m.run × IsFlatOf (program_tree m.program.now) (flat_of m.flat) × (m.run.store.sizes ≡ (flat_of m.flat).sizes) };
 }
 
 impl<'a> Machine<'a> {
-    ghost use Rattle.std.specs.Prelude.{ℕ, ◌≡◌, ◌<◌, ◌≤◌, ◌+◌, ◌↔◌, Some, length, map, IsTrue, IfOk, OnOk, OnErr, IsSome, IfNone};
+    ghost use Rattle.std.specs.Prelude.{ℕ, ◌≡◌, ◌<◌, ◌≤◌, ◌+◌, ◌↔◌, Some, length, map, IsTrue, IfOk, IsSome, IfNone};
     ghost use Rattle.edge_trace.specs.Rows.{has};
-    ghost use Rattle.csub_semantics.specs.Syntax.{function_tree};
+    ghost use Rattle.csub_semantics.specs.Syntax.{program_tree};
     ghost use Rattle.csub_semantics.specs.Flows.{flow_of, edge_list};
     ghost use Rattle.csub_semantics.specs.Numbers.{IsCrossed};
     ghost use Rattle.csub_semantics.specs.Runs.{run_of};
     ghost use Rattle.flow_graph.specs.Graph.{IsGraphOf};
+    ghost use Rattle.csub_flat.specs.Copies.{IsFlatOf};
     ghost use Rattle.csub_machine.specs.Moments.{IsRunning, status_of, moment_of, output_of, turns_of, crossed_of, results_of};
 
-    /// A machine at the beginning of its run. An `Err` is want of memory.
+    /// A machine at the beginning of its run. An `Err` is want of memory, of which no other call takes any.
     pub fn new(
         alloc: Global,
         program: &'a Program,
         graph: &'a Graph,
         input: &[u8],
     ) -> Result<Machine<'a>, AllocError>
-        requires graph { IsGraphOf graph.now (map function_tree program.now) }
+        requires graph { IsGraphOf graph.now (program_tree program.now) }
         requires short { length input.now ≤ 16384 }
         ensures { IfOk result (λ machine. machine ≡ record { program = program.now; input = input.now; done = 0 }) }
     {
-        let run = begin(alloc, program, graph, input)?;
+        let flat = flatten_program(alloc, program, graph)?;
+        let run = begin(alloc, program, graph, &flat, input)?;
         Ok(Machine {
             program,
             graph,
+            flat: Flat::Own(flat),
             run,
         })
     }
 
-    /// One turn, which acts on one point and answers the status exactly where the run ends with it. An `Err` is want of
-    /// memory; the machine then shows the moment at which it was, and every further turn is refused.
-    ///
-    /// A turn takes the work of its point's label and look-ups in ordered maps and in the names of functions; the end of
-    /// a function goes over all cells.
-    pub fn turn(&mut self) -> Result<Option<Status>, AllocError>
+    /// The same over a flat copy of the program, which several machines may share.
+    pub fn over(
+        alloc: Global,
+        program: &'a Program,
+        graph: &'a Graph,
+        flat: &'a FlatProgram,
+        input: &[u8],
+    ) -> Result<Machine<'a>, AllocError>
+        requires graph { IsGraphOf graph.now (program_tree program.now) }
+        requires copies { IsFlatOf (program_tree program.now) flat.now }
+        requires short { length input.now ≤ 16384 }
+        ensures { IfOk result (λ machine. machine ≡ record { program = program.now; input = input.now; done = 0 }) }
+    {
+        let run = begin(alloc, program, graph, flat, input)?;
+        Ok(Machine {
+            program,
+            graph,
+            flat: Flat::Shared(flat),
+            run,
+        })
+    }
+
+    /// One turn, which acts on one point and answers the status exactly where the run ends with it.
+    pub fn turn(&mut self) -> Option<Status>
         requires running { IsRunning self.old }
         requires few { self.old.done < 10000000 }
-        ensures done { OnOk result (self.new ≡ record self.old { done = self.old.done + 1 }) }
-        ensures onward { IfOk result (λ answer. IfNone answer (IsRunning self.new)) }
-        ensures status { IfOk result (λ answer. answer ≡ status_of self.new) }
-        ensures refused { OnErr result (self.new ≡ self.old) }
+        ensures done { self.new ≡ record self.old { done = self.old.done + 1 } }
+        ensures onward { IfNone result (IsRunning self.new) }
+        ensures status { result ≡ status_of self.new }
     {
-        advance(self.program, self.graph, &mut self.run)
+        advance(self.program, self.graph, copy_in(&self.flat), &mut self.run)
     }
 
     /// A whole run within a budget of turns: its status, and with it the output, the turns and the crossed edges that
-    /// the machine shows from then on. An `Err` is want of memory; the machine isn't used again then.
-    pub fn run(&mut self, budget: u32) -> Result<Status, AllocError>
+    /// the machine shows from then on.
+    pub fn run(&mut self, budget: u32) -> Status
         requires fresh { self.old.done ≡ 0 }
         requires few { budget ≤ 10000000 }
-        ensures done { OnOk result (self.new ≡ record self.old { done = budget }) }
-        ensures results { IfOk result (λ status. run_of (flow_of (map function_tree self.old.program)) self.old.input budget ≡ Some (results_of status self.new)) }
+        ensures done { self.new ≡ record self.old { done = budget } }
+        ensures results { run_of (flow_of (program_tree self.old.program)) self.old.input budget ≡ Some (results_of result self.new) }
     {
         for _turn in 0..budget {
-            if let Some(status) = self.turn()? {
+            if let Some(status) = self.turn() {
                 self.settle(budget);
-                return Ok(status);
+                return status;
             }
         }
-        Ok(Status::Turns)
+        Status::Turns
     }
 
     /// More turns are asked for after the end of the run, and nothing changes.
@@ -123,8 +149,8 @@ impl<'a> Machine<'a> {
 
     /// The edges that the run has crossed, by their numbers; the bound of the row is the number of the program's edges.
     pub fn crossed(&self) -> &EdgeRow
-        ensures edges { length result.now ≡ length (edge_list (map function_tree self.now.program)) }
-        ensures crossed { (e : ℕ) → IsTrue (has result.now e) ↔ IsCrossed (map function_tree self.now.program) (crossed_of (moment_of self.now)) e }
+        ensures edges { length result.now ≡ length (edge_list (program_tree self.now.program)) }
+        ensures crossed { (e : ℕ) → IsTrue (has result.now e) ↔ IsCrossed (program_tree self.now.program) (crossed_of (moment_of self.now)) e }
     {
         &self.run.crossed
     }

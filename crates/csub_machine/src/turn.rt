@@ -1,40 +1,29 @@
-//! One turn of a run.
-ghost use Rattle.std.specs.Prelude.{◌≡◌, ◌<◌, [], ◌∷◌, ◌++◌, length, IfOk, OnOk};
-ghost use Rattle.csub_semantics.specs.Flows.{point_list};
+//! One turn of a run. Nothing here takes memory.
+ghost use Rattle.std.specs.Prelude.{◌≡◌, ◌<◌, ◌≤◌, ◌+◌, [], ◌∷◌, ◌++◌, length, map, List, IfOk, vec_len, vec_capacity};
+ghost use Rattle.csub_semantics.specs.Flows.{flow_of, point_list};
 ghost use Rattle.csub_semantics.specs.Points.{exit_tree};
+ghost use Rattle.csub_semantics.specs.Runs.{Frame as StandingFrame, turn, cross, pop};
+ghost use Rattle.csub_semantics.specs.Acts.{Store as Held};
 ghost use Rattle.flow_graph.specs.Graph.{IsGraphOf};
-ghost use Rattle.csub_machine.specs.Places.{tree_of};
-ghost use Rattle.csub_machine.specs.States.{state_of, OnlyAdds};
-ghost use Rattle.csub_machine.specs.Standings.{AreFrames, GoesAlong, ComesBack, TakesTurn, CrossesOfProgram};
+ghost use Rattle.csub_semantics.specs.Syntax.{program_tree, FunctionTree};
+ghost use Rattle.csub_flat.specs.Sites.{place_of};
+ghost use Rattle.csub_slots.specs.Layout.{live_size};
+ghost use Rattle.csub_flat.specs.Frames.{globals_of};
+ghost use Rattle.csub_slots.specs.Seen.{slot_seen};
+ghost use Rattle.csub_slots.specs.States.{state_of};
+ghost use Rattle.csub_slots.specs.Like.{Like};
+ghost use Rattle.csub_flat.specs.Copies.{IsFlatOf};
+ghost use Rattle.csub_machine.specs.Standings.{frame_of, live_function, live_of, standing_of, AreFrames, Moves, Resumes, Crosses, CrossesOfProgram};
 
-use crate::act::{Outcome, act};
-use crate::stop::Stop;
-use crate::store::{Store, put_result};
-use crate::ways::{entry_of, label_of, step_along};
+use crate::frames::{Frame, Frames};
+use crate::ways::step_along;
 use csub_core::Program;
-use csub_semantics::{ExitLabel, Label, Status};
+use csub_flat::{FlatLabel, FlatProgram};
+use csub_semantics::{ExitLabel, Status};
+use csub_slots::Store;
+use csub_slots::act::{Outcome, act, put_result};
 use flow_graph::Graph;
-use program_laws::flows;
-use std::alloc::AllocError;
 use std::mem;
-
-/// A frame: the number of its point, whose function is the frame's, and what the function returned, if it did.
-#[derive(Clone, Copy, Debug, PartialEq, Eq)]
-pub struct Frame {
-    /// The number of the point.
-    pub point: u32,
-    /// What the function returned, if it did.
-    pub result: Option<i64>,
-}
-
-/// The frames of a run.
-#[derive(Drop)]
-pub struct Frames {
-    /// The top frame.
-    pub top: Frame,
-    /// The frames below it, the lowest first.
-    pub below: Vec<Frame>,
-}
 
 /// What a turn leads to.
 #[derive(Clone, Copy, Debug, PartialEq, Eq)]
@@ -55,11 +44,13 @@ fn leave_by(
     exit: &ExitLabel,
     given: Option<i64>,
 ) -> Turn
-    requires graph { IsGraphOf graph.now (tree_of program.now) }
-    requires point { top.old.point < length (point_list (tree_of program.now)) }
-    ensures moves { GoesAlong (tree_of program.now) top.old (exit_tree exit.now) given result top.new }
-    ensures point { top.new.point < length (point_list (tree_of program.now)) }
-    ensures edge { CrossesOfProgram (tree_of program.now) result }
+    requires graph { IsGraphOf graph.now (program_tree program.now) }
+    requires point { top.old.point < length (point_list (program_tree program.now)) }
+    ensures moves { (below : List StandingFrame) (s : Held) → let P = program_tree program.now in let here = place_of P top.old.point in Crosses P (cross (frame_of P top.old) below (exit_tree exit.now) given s ((flow_of P).succ here.function here.point (exit_tree exit.now))) result (record { frames = frame_of P top.new ∷ below; store = s }) }
+    ensures point { top.new.point < length (point_list (program_tree program.now)) }
+    ensures edge { CrossesOfProgram (program_tree program.now) result }
+    ensures function { (place_of (program_tree program.now) top.new.point).function ≡ (place_of (program_tree program.now) top.old.point).function }
+    ensures base { top.new.base ≡ top.old.base }
 {
     match step_along(program, graph, top.point, exit) {
         None => Turn::Lost,
@@ -71,87 +62,84 @@ fn leave_by(
     }
 }
 
-/// The frame of a call, now on top of so many others, goes on with the result of the callee. An `Err` is want of memory.
-fn resume(
-    program: &Program,
-    graph: &Graph,
-    top: &mut Frame,
-    height: u32,
-    store: &mut Store,
-    given: Option<i64>,
-) -> Result<Turn, AllocError>
-    requires graph { IsGraphOf graph.now (tree_of program.now) }
-    requires point { top.old.point < length (point_list (tree_of program.now)) }
-    ensures moves { IfOk result (λ to. ComesBack (tree_of program.now) height top.old given (state_of store.old) to top.new (state_of store.new)) }
-    ensures point { IfOk result (λ _. top.new.point < length (point_list (tree_of program.now))) }
-    ensures edge { IfOk result (CrossesOfProgram (tree_of program.now)) }
-    ensures kept { OnlyAdds store.old store.new }
+/// A frame comes on top, for which there is room.
+fn push_frame(frames: &mut Frames, point: u32, base: u32)
+    requires { length frames.old.below.items < 256 }
+    ensures top { frames.new.top ≡ record { point = point; result = None; base = base } }
+    ensures below { frames.new.below.items ≡ frames.old.below.items ++ frames.old.top ∷ [] }
 {
-    let Label::Call(call) = label_of(program, graph, top.point) else {
-        return Ok(Turn::Lost);
-    };
-    put_result(store, height, call.temp, given)?;
-    let kept = top.result;
-    Ok(leave_by(program, graph, top, &ExitLabel::Next, kept))
-}
-
-/// A frame of a function comes on top. An `Err` is want of memory.
-fn push_frame(frames: &mut Frames, point: u32) -> Result<(), AllocError>
-    ensures top { OnOk result (frames.new.top ≡ record { point = point; result = None }) }
-    ensures below { OnOk result (frames.new.below.items ≡ frames.old.below.items ++ frames.old.top ∷ []) }
-{
-    frames.below.reserve(1)?;
     let caller = mem::replace(
         &mut frames.top,
         Frame {
             point,
             result: None,
+            base,
         },
     );
-    frames.below.push(caller)?;
-    Ok(())
+    frames.below.push(caller).unwrap();
 }
 
-/// One turn: the act of the top frame's label, and where control goes by it. An `Err` is want of memory, after which
-/// the frames and the store stand for no moment of the run.
-///
-/// Beside the work of the label it looks points, edges and cells up; the end of a function goes over all cells.
+/// The frame of a call, now on top, goes on with the result of the callee.
+fn resume(
+    program: &Program,
+    graph: &Graph,
+    flat: &FlatProgram,
+    top: &mut Frame,
+    store: &mut Store,
+    given: Option<i64>,
+) -> Turn
+    requires graph { IsGraphOf graph.now (program_tree program.now) }
+    requires copies { IsFlatOf (program_tree program.now) flat.now }
+    requires point { top.old.point < length (point_list (program_tree program.now)) }
+    ensures moves { (below : List StandingFrame) (fs : List FunctionTree) (s : Held) → let P = program_tree program.now in length below ≡ length fs → top.old.base ≡ live_size (globals_of P) fs → Like (globals_of P) (live_function P top.old ∷ fs) s (state_of store.old) → Resumes P (pop (flow_of P) (frame_of P top.old ∷ below) given s) result top.new below fs (state_of store.new) }
+    ensures point { top.new.point < length (point_list (program_tree program.now)) }
+    ensures edge { CrossesOfProgram (program_tree program.now) result }
+    ensures function { (place_of (program_tree program.now) top.new.point).function ≡ (place_of (program_tree program.now) top.old.point).function }
+    ensures base { top.new.base ≡ top.old.base }
+    ensures input { store.new.input.items ≡ store.old.input.items }
+    ensures sizes { store.new.sizes ≡ store.old.sizes }
+{
+    let FlatLabel::Call(call) = &flat.labels[top.point as usize] else {
+        return Turn::Lost;
+    };
+    put_result(store, top.base, call.temp, given);
+    let kept = top.result;
+    leave_by(program, graph, top, &ExitLabel::Next, kept)
+}
+
+/// One turn: the act of the top frame's label, and where control goes by it.
 pub fn take_turn(
     program: &Program,
     graph: &Graph,
+    flat: &FlatProgram,
     frames: &mut Frames,
     store: &mut Store,
-) -> Result<Turn, AllocError>
-    requires graph { IsGraphOf graph.now (tree_of program.now) }
-    requires frames { AreFrames (tree_of program.now) frames.old }
-    ensures moves { IfOk result (λ to. TakesTurn (tree_of program.now) frames.old (state_of store.old) to frames.new (state_of store.new)) }
-    ensures frames { IfOk result (λ _. AreFrames (tree_of program.now) frames.new) }
-    ensures edge { IfOk result (CrossesOfProgram (tree_of program.now)) }
-    ensures kept { OnlyAdds store.old store.new }
+) -> Turn
+    requires graph { IsGraphOf graph.now (program_tree program.now) }
+    requires copies { IsFlatOf (program_tree program.now) flat.now }
+    requires sizes { store.old.sizes ≡ flat.now.sizes }
+    requires frames { AreFrames (program_tree program.now) frames.old (length (map slot_seen store.old.slots.items)) }
+    ensures moves { (s : Held) → let P = program_tree program.now in Like (globals_of P) (live_of P frames.old) s (state_of store.old) → Moves P (turn (flow_of P) (standing_of P frames.old s)) result frames.new (state_of store.new) }
+    ensures edge { CrossesOfProgram (program_tree program.now) result }
+    ensures input { store.new.input.items ≡ store.old.input.items }
+    ensures sizes { store.new.sizes ≡ store.old.sizes }
 {
-    flows();
-    let label = label_of(program, graph, frames.top.point);
+    let label = &flat.labels[frames.top.point as usize];
     let count = frames.below.len() as u32 + 1;
-    match act(store, label, count, frames.top.result) {
-        Err(Stop::Memory) => Err(AllocError),
-        Err(Stop::Trap(trap)) => Ok(Turn::Stops(Status::Trap(trap))),
-        Ok(Outcome::Ends(status)) => Ok(Turn::Stops(status)),
-        Ok(Outcome::Leaves(exit, given)) => {
-            Ok(leave_by(program, graph, &mut frames.top, &exit, given))
+    let base = frames.top.base;
+    match act(store, label, count, base, frames.top.result) {
+        Err(trap) => Turn::Stops(Status::Trap(trap)),
+        Ok(Outcome::Ends(status)) => Turn::Stops(status),
+        Ok(Outcome::Leaves(exit, given)) => leave_by(program, graph, &mut frames.top, &exit, given),
+        Ok(Outcome::Pushes(entry, begin)) => {
+            push_frame(frames, entry, begin);
+            Turn::Goes(None)
         }
-        Ok(Outcome::Pushes(callee)) => match entry_of(program, graph, callee) {
-            // No valid program calls a function that isn't defined.
-            None => Ok(Turn::Lost),
-            Some(entry) => {
-                push_frame(frames, entry)?;
-                Ok(Turn::Goes(None))
-            }
-        },
         Ok(Outcome::Pops(given)) => match frames.below.pop() {
-            None => Ok(Turn::Lost),
+            None => Turn::Lost,
             Some(frame) => {
                 frames.top = frame;
-                resume(program, graph, &mut frames.top, count - 2, store, given)
+                resume(program, graph, flat, &mut frames.top, store, given)
             }
         },
     }

@@ -7,7 +7,8 @@ use Rattle.std.proofs.lemmas.Option.{slice_get-map, slice_get_within, same_Some,
 use Rattle.csub_semantics.specs.Points.{PointTree, point_eq}
 use Rattle.csub_semantics.specs.Syntax.{FunctionTree, ProgramTree}
 use Rattle.csub_semantics.specs.Successors.{Node}
-use Rattle.csub_semantics.specs.Flows.{function_nodes, PlacedNode, placed, point_list, edge_list, name_eq, function_of, node_in, node_of}
+use Rattle.csub_semantics.specs.Types.{name_eq}
+use Rattle.csub_semantics.specs.Flows.{function_nodes, PlacedNode, placed, points_of, point_list, edge_list, function_in, node_in, node_of}
 use Rattle.csub_semantics.specs.Numbers.{Site, site_of}
 use Rattle.program_laws.proofs.LawsNames.{same_name, name_itself, same_point, point_itself}
 use Rattle.flow_graph.specs.Graph.{Tables, IsGraphOf, point_count, edge_count, point_at, point_of}
@@ -35,16 +36,16 @@ node_found number (m ∷ ns) a (suc c) (suc k) n h e =
     ap (λ b. cond b (Some m) (node_in ns n.point)) other ∙ node_found number ns (a + 1) c k n (ap rest_of h) e
 
 -- where a point of a program stands
-pub record IsPointOf (P : ProgramTree) (m : PlacedNode) : Type 0 where
+pub record IsPointOf (fs : List FunctionTree) (m : PlacedNode) : Type 0 where
   pub place : ℕ
   pub function : FunctionTree
-  pub there : slice_get P place ≡ Some function
+  pub there : slice_get fs place ≡ Some function
   pub name : m.function ≡ function.name
   pub index : ℕ
   pub node : slice_get (function_nodes function) index ≡ Some m.node
 
 -- a point of the list stands in a function
-pub point_placed : (P : ProgramTree) (n : ℕ) (m : PlacedNode) → slice_get (point_list P) n ≡ Some m → IsPointOf P m
+pub point_placed : (fs : List FunctionTree) (n : ℕ) (m : PlacedNode) → slice_get (points_of fs) n ≡ Some m → IsPointOf fs m
 point_placed [] n m e = absurd cc
 point_placed (f ∷ rest) n m e =
     ⊎_elim
@@ -58,35 +59,35 @@ point_placed (f ∷ rest) n m e =
       node = made.is ∙ ap (λ (x : PlacedNode). Some x.node) made.gives;
     })
     (λ h. let later = point_placed rest h.0 m h.2 in record { place = suc later.place; function = later.function; there = later.there; name = later.name; index = later.index; node = later.node })
-    (slice_get_cases_append (map (placed f.name) (function_nodes f)) (point_list rest) n m e)
+    (slice_get_cases_append (map (placed f.name) (function_nodes f)) (points_of rest) n m e)
 
 -- a function is found by its name
-pub function_found : (P : ProgramTree) (k : ℕ) (f : FunctionTree) → AllPairs (λ f g. f.name ≢ g.name) P → slice_get P k ≡ Some f → function_of P f.name ≡ Some f
+pub function_found : (fs : List FunctionTree) (k : ℕ) (f : FunctionTree) → AllPairs (λ f g. f.name ≢ g.name) fs → slice_get fs k ≡ Some f → function_in fs f.name ≡ Some f
 function_found [] k f d e = absurd cc
 function_found (g ∷ rest) zero f d e =
     let same = same_Some g f e in
-    ap (λ b. cond b (Some g) (function_of rest f.name)) (ap (λ x. name_eq x.name f.name) same ∙ name_itself f.name) ∙ e
+    ap (λ b. cond b (Some g) (function_in rest f.name)) (ap (λ x. name_eq x.name f.name) same ∙ name_itself f.name) ∙ e
 function_found (g ∷ rest) (suc k) f d e =
     let within = slice_get_within rest k f e in
     let is : get_or rest k f ≡ f = same_Some _ _ (sym (slice_get-get_or rest k f within) ∙ e) in
     let differ = d 0 (suc k) f (omega arith) (omega arith) in
     let other = fails (name_eq g.name f.name) (λ t. same_name g.name f.name t) (λ same. differ (same ∙ ap (λ (x : FunctionTree). x.name) (sym is))) in
     let later = function_found rest k f (λ i j x a b. d (suc i) (suc j) x (omega arith) (omega arith)) e in
-    ap (λ b. cond b (Some g) (function_of rest f.name)) other ∙ later
+    ap (λ b. cond b (Some g) (function_in rest f.name)) other ∙ later
 
 -- the very point at a number
-pub found : (P : ProgramTree) (n : ℕ) (m : PlacedNode) → AllPairs (λ f g. f.name ≢ g.name) P → slice_get (point_list P) n ≡ Some m → node_of (function_of P m.function) m.node.point ≡ Some m.node
-found P n m d e =
-    let is = point_placed P n m e in
+pub found : (fs : List FunctionTree) (n : ℕ) (m : PlacedNode) → AllPairs (λ f g. f.name ≢ g.name) fs → slice_get (points_of fs) n ≡ Some m → node_of (function_in fs m.function) m.node.point ≡ Some m.node
+found fs n m d e =
+    let is = point_placed fs n m e in
     let f = is.function in
-    ap (λ x. node_of (function_of P x) m.node.point) is.name
-    ∙ ap (λ o. node_of o m.node.point) (function_found P is.place f d is.there)
+    ap (λ x. node_of (function_in fs x) m.node.point) is.name
+    ∙ ap (λ o. node_of o m.node.point) (function_found fs is.place f d is.there)
     ∙ node_found (number_of f.body) (function_nodes f) 0 (count_function f) is.index m.node (function_places f) is.node
 
-abbrev Distinct : ProgramTree → Type 0
-Distinct P = AllPairs (λ f g. f.name ≢ g.name) P
+abbrev Distinct : List FunctionTree → Type 0
+Distinct fs = AllPairs (λ f g. f.name ≢ g.name) fs
 
-first_differs : (f : FunctionTree) (rest : ProgramTree) (n : ℕ) (o : FunctionTree) → Distinct (f ∷ rest) → slice_get rest n ≡ Some o → f.name ≢ o.name
+first_differs : (f : FunctionTree) (rest : List FunctionTree) (n : ℕ) (o : FunctionTree) → Distinct (f ∷ rest) → slice_get rest n ≡ Some o → f.name ≢ o.name
 first_differs f rest n o differ t =
     let within = slice_get_within rest n o t in
     let is : get_or rest n o ≡ o = same_Some _ _ (sym (slice_get-get_or rest n o within) ∙ t) in
@@ -96,14 +97,14 @@ first_differs f rest n o differ t =
 abbrev own_points : FunctionTree → List PlacedNode
 own_points f = map (placed f.name) (function_nodes f)
 
-abbrev StandsIn : FunctionTree → ProgramTree → ℕ → PlacedNode → Type 0
-StandsIn f rest k x = (slice_get (own_points f) k ≡ Some x) ⊎ ((l : ℕ) × (k ≡ length (own_points f) + l) × (slice_get (point_list rest) l ≡ Some x))
+abbrev StandsIn : FunctionTree → List FunctionTree → ℕ → PlacedNode → Type 0
+StandsIn f rest k x = (slice_get (own_points f) k ≡ Some x) ⊎ ((l : ℕ) × (k ≡ length (own_points f) + l) × (slice_get (points_of rest) l ≡ Some x))
 
 -- no two points of a program are the same
-pub points_once : (P : ProgramTree) → Distinct P → (i j : ℕ) (a b : PlacedNode) → slice_get (point_list P) i ≡ Some a → slice_get (point_list P) j ≡ Some b → site_of a ≡ site_of b → i ≡ j
+pub points_once : (fs : List FunctionTree) → Distinct fs → (i j : ℕ) (a b : PlacedNode) → slice_get (points_of fs) i ≡ Some a → slice_get (points_of fs) j ≡ Some b → site_of a ≡ site_of b → i ≡ j
 points_once [] differ i j a b e g h = absurd cc
 points_once (f ∷ rest) differ i j a b e g h =
-    step (slice_get_cases_append (own_points f) (point_list rest) i a e) (slice_get_cases_append (own_points f) (point_list rest) j b g)
+    step (slice_get_cases_append (own_points f) (points_of rest) i a e) (slice_get_cases_append (own_points f) (points_of rest) j b g)
     (λ k l p q. points_once rest (λ k l x p q. differ (suc k) (suc l) x (omega arith) (omega arith)) k l a b p q h)
   where
     numbered : (k : ℕ) (x : PlacedNode) → slice_get (own_points f) k ≡ Some x → (x.function ≡ f.name) × (number_of f.body x.node.point ≡ k)
@@ -112,12 +113,12 @@ points_once (f ∷ rest) differ i j a b e g h =
         let number = range_at (λ n. number_of f.body n.point) (function_nodes f) 0 (count_function f) k made.value (function_places f) made.is in
         (sym (ap (λ (y : PlacedNode). y.function) made.gives), ap (λ (y : PlacedNode). number_of f.body y.node.point) (sym made.gives) ∙ number ∙ omega arith)
 
-    apart : (x y : PlacedNode) (k l : ℕ) → slice_get (own_points f) k ≡ Some x → slice_get (point_list rest) l ≡ Some y → x.function ≡ y.function → ⊥
+    apart : (x y : PlacedNode) (k l : ℕ) → slice_get (own_points f) k ≡ Some x → slice_get (points_of rest) l ≡ Some y → x.function ≡ y.function → ⊥
     apart x y k l t u s =
         let is = point_placed rest l y u in
         first_differs f rest is.place is.function differ is.there (sym (numbered k x t).0 ∙ s ∙ is.name)
 
-    step : StandsIn f rest i a → StandsIn f rest j b → ((k l : ℕ) → slice_get (point_list rest) k ≡ Some a → slice_get (point_list rest) l ≡ Some b → k ≡ l) → i ≡ j
+    step : StandsIn f rest i a → StandsIn f rest j b → ((k l : ℕ) → slice_get (points_of rest) k ≡ Some a → slice_get (points_of rest) l ≡ Some b → k ≡ l) → i ≡ j
     step (inl t) (inl u) later = sym (numbered i a t).1 ∙ ap (λ (s : Site). number_of f.body s.point) h ∙ (numbered j b u).1
     step (inl t) (inr u) later = absurd (apart a b i u.0 t u.2 (ap (λ (s : Site). s.function) h))
     step (inr t) (inl u) later = absurd (apart b a j t.0 u t.2 (sym (ap (λ (s : Site). s.function) h)))

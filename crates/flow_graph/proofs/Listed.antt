@@ -3,7 +3,7 @@ use Rattle.std.proofs.Common.{◌≡◌, List, [], ◌∷◌, ◌++◌, ◌∙�
 use Rattle.std.proofs.Math.ListN.{drop_of_length-le}
 use Rattle.std.proofs.lemmas.List.{length-append, length-map, map-append, reverse-append, reverse-reverse}
 use Rattle.csub_semantics.specs.declared.function.Function.{Function}
-use Rattle.csub_semantics.specs.Syntax.{function_tree, ProgramTree}
+use Rattle.csub_semantics.specs.Syntax.{function_tree, FunctionTree}
 use Rattle.flow_graph.specs.declared.node.GraphNode.{GraphNode}
 use Rattle.flow_graph.specs.Numbers.{Numbered, numbered_node, NumberedPoint, NumberedFunction, of_function, count_function, count_program, exit_number, function_numbered, program_numbered, functions_numbered}
 use Rattle.flow_graph.proofs.Lengths.{function_numbered-length}
@@ -25,7 +25,7 @@ turned_round entry exit body nodes h =
 pub nodes_made : (nodes : List GraphNode) (f : _) (start : ℕ) → map numbered_node nodes ≡ function_numbered f start → length nodes ≡ count_function f
 nodes_made nodes f start h = sym (length-map nodes numbered_node) ∙ ap length h ∙ function_numbered-length f start
 
-abbrev pub trees_from : List Function → ℕ → ProgramTree
+abbrev pub trees_from : List Function → ℕ → List FunctionTree
 trees_from fs i = map function_tree (drop i fs)
 
 pub trees_from-step : (fs : List Function) (i : ℕ) (x : Function) → i < length fs → x ≡ get_or fs i x → trees_from fs i ≡ function_tree x ∷ trees_from fs (i + 1)

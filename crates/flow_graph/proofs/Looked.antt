@@ -6,13 +6,16 @@ use Rattle.std.proofs.lemmas.List.{length-map}
 use Rattle.std.proofs.lemmas.List.Sums.{sum_by-cons}
 use Rattle.std.proofs.lemmas.Simd.{map-map}
 use Rattle.std.proofs.lemmas.Option.{slice_get-map, same_Some, slice_get-get_or}
-use Rattle.csub_semantics.specs.Types.{Name}
+use Rattle.csub_semantics.specs.declared.types.GlobalVar.{GlobalVar}
+use Rattle.csub_objects.specs.Types.{Name}
+use Rattle.csub_semantics.specs.Types.{name_eq}
+use Rattle.csub_semantics.specs.Globals.{named_globals}
 use Rattle.csub_semantics.specs.Labels.{label_tree}
 use Rattle.csub_semantics.specs.Points.{PointTree, entry, exit, point_tree, ExitTree, exit_tree, exit_eq}
 use Rattle.csub_semantics.specs.Syntax.{FunctionTree, ProgramTree}
 use Rattle.csub_semantics.specs.Successors.{Way}
 use Rattle.csub_semantics.specs.Flows as flows
-use Rattle.csub_semantics.specs.Flows.{PlacedNode, point_list, Edge, edges_from, edge_list, labelled, name_eq, flow_of}
+use Rattle.csub_semantics.specs.Flows.{PlacedNode, point_list, Edge, edges_from, edge_list, labelled, flow_of}
 use Rattle.csub_semantics.specs.Numbers.{Site, site, site_of, site_at, edge_at, name_at}
 use Rattle.flow_graph.specs.declared.node.GraphWay.{GraphWay}
 use Rattle.flow_graph.specs.declared.node.GraphPoint.{GraphPoint}
@@ -28,10 +31,10 @@ use Rattle.flow_graph.proofs.EdgePlaces.{edge_place, firsts-length, sources-leng
 pub at_read : {A : Type 0} (xs : List A) (n : ℕ) (x : A) → n < length xs → x ≡ get_or xs n x → slice_get xs n ≡ Some x
 at_read xs n x h e = slice_get-get_or xs n x h ∙ ap Some (sym e)
 
-pub read_point : (t : Tables) (fs : List GraphFunction) (ps : List GraphPoint) (n : ℕ) (p : GraphPoint) → (fs, ps) ≡ t → n < point_count t → p ≡ get_or ps n p → slice_get t.1 n ≡ Some p
+pub read_point : {gs : List GlobalVar} (t : Tables) (fs : List GraphFunction) (ps : List GraphPoint) (n : ℕ) (p : GraphPoint) → (fs, ps, gs) ≡ t → n < point_count t → p ≡ get_or ps n p → slice_get t.1 n ≡ Some p
 read_point t fs ps n p v h e = ap (λ (x : Tables). slice_get x.1 n) (sym v) ∙ at_read ps n p (subst (λ (x : Tables). n < length x.1) (sym v) h) e
 
-pub read_function : (t : Tables) (fs : List GraphFunction) (ps : List GraphPoint) (n : ℕ) (f : GraphFunction) → (fs, ps) ≡ t → n < function_count t → f ≡ get_or fs n f → slice_get t.0 n ≡ Some f
+pub read_function : {gs : List GlobalVar} (t : Tables) (fs : List GraphFunction) (ps : List GraphPoint) (n : ℕ) (f : GraphFunction) → (fs, ps, gs) ≡ t → n < function_count t → f ≡ get_or fs n f → slice_get t.0 n ≡ Some f
 read_function t fs ps n f v h e = ap (λ (x : Tables). slice_get x.0 n) (sym v) ∙ at_read fs n f (subst (λ (x : Tables). n < length x.0) (sym v) h) e
 
 module _ (P : ProgramTree) (t : Tables) (g : IsGraphOf t P) where
@@ -56,12 +59,12 @@ module _ (P : ProgramTree) (t : Tables) (g : IsGraphOf t P) where
       let m = made_of site_of (slice_get (point_list P) n) s h in
       ap (λ (d : NamedPoint). d.node.point) (point_is n p m.value e m.is) ∙ ap (λ (x : Site). x.point) m.gives
 
-  pub label_looked : (n : ℕ) (p : GraphPoint) (s : Site) → slice_get t.1 n ≡ Some p → site_at P n ≡ Some s → (flow_of P).label s.function s.point ≡ Some (record { tree = label_tree p.node.label; globals = [] })
+  pub label_looked : (n : ℕ) (p : GraphPoint) (s : Site) → slice_get t.1 n ≡ Some p → site_at P n ≡ Some s → (flow_of P).label s.function s.point ≡ Some (record { tree = label_tree p.node.label; globals = named_globals P.globals (label_tree p.node.label) })
   label_looked n p s e h =
       let m = made_of site_of (slice_get (point_list P) n) s h in
       ap (λ (x : Site). (flow_of P).label x.function x.point) (sym m.gives)
-      ∙ ap (option_map labelled) (found P n m.value g.valid.distinct m.is)
-      ∙ ap (λ l. Some (record { tree = l; globals = [] })) (sym (ap (λ (d : NamedPoint). d.node.label) (point_is n p m.value e m.is)))
+      ∙ ap (option_map (labelled P.globals)) (found P.functions n m.value g.valid.distinct m.is)
+      ∙ ap (λ l. Some (record { tree = l; globals = named_globals P.globals l })) (sym (ap (λ (d : NamedPoint). d.node.label) (point_is n p m.value e m.is)))
 
   ways_led : (f : Name) (o : Option GraphWay) (u : Option (Way PointTree)) → option_map (way_at P) o ≡ option_map (way_of f) u → option_and_then (site_at P) (option_map (λ w. w.to) o) ≡ option_map (site f) (option_map (λ w. w.to) u)
   ways_led f None None e = refl
@@ -78,7 +81,7 @@ module _ (P : ProgramTree) (t : Tables) (g : IsGraphOf t P) where
       ∙ find-map (way_of m.function) test m.node.ways
 
   succ_is : (n : ℕ) (m : PlacedNode) (x : ExitTree) → slice_get (point_list P) n ≡ Some m → (flow_of P).succ m.function m.node.point x ≡ option_map (λ w. w.to) (find (λ w. exit_eq w.exit x) m.node.ways)
-  succ_is n m x h = ap (λ o. option_map (λ (w : Way PointTree). w.to) (flows.way_of o x)) (found P n m g.valid.distinct h)
+  succ_is n m x h = ap (λ o. option_map (λ (w : Way PointTree). w.to) (flows.way_of o x)) (found P.functions n m g.valid.distinct h)
 
   pub follow_looked : (n : ℕ) (p : GraphPoint) (s : Site) (o : Option GraphWay) (x : ExitTree) → slice_get t.1 n ≡ Some p → o ≡ find (λ w. exit_eq (exit_tree w.exit) x) p.node.ways.items → site_at P n ≡ Some s → option_and_then (site_at P) (option_map (λ w. w.to) o) ≡ option_map (site s.function) ((flow_of P).succ s.function s.point x)
   follow_looked n p s o x e is h =
@@ -89,10 +92,10 @@ module _ (P : ProgramTree) (t : Tables) (g : IsGraphOf t P) where
       ∙ ap (λ (y : Site). option_map (site y.function) ((flow_of P).succ y.function y.point x)) m.gives
 
   -- functions
-  pub function_is : (n : ℕ) (f : GraphFunction) → slice_get t.0 n ≡ Some f → Made function_of (slice_get P n) (function_at P f)
+  pub function_is : (n : ℕ) (f : GraphFunction) → slice_get t.0 n ≡ Some f → Made function_of (slice_get P.functions n) (function_at P f)
   function_is n f e =
-      made_of function_of (slice_get P n) (function_at P f)
-      (sym (slice_get-map function_of P n) ∙ sym (ap (λ l. slice_get l n) g.functions) ∙ slice_get-map (function_at P) t.0 n ∙ ap (option_map (function_at P)) e)
+      made_of function_of (slice_get P.functions n) (function_at P f)
+      (sym (slice_get-map function_of P.functions n) ∙ sym (ap (λ l. slice_get l n) g.functions) ∙ slice_get-map (function_at P) t.0 n ∙ ap (option_map (function_at P)) e)
 
   pub name_looked : (n : ℕ) (f : GraphFunction) → slice_get t.0 n ≡ Some f → name_at P n ≡ Some f.name
   name_looked n f e =
@@ -111,14 +114,14 @@ module _ (P : ProgramTree) (t : Tables) (g : IsGraphOf t P) where
       let name = same_Some f.name h (sym (name_looked n f e) ∙ k) in
       sym (ap (λ (x : NamedFunction). x.exit) is.gives) ∙ ap (λ x. Some (site x exit)) (ap (λ (x : NamedFunction). x.name) is.gives ∙ name)
 
-  names_same : map (λ (f : GraphFunction). f.name) t.0 ≡ map (λ (f : FunctionTree). f.name) P
+  names_same : map (λ (f : GraphFunction). f.name) t.0 ≡ map (λ (f : FunctionTree). f.name) P.functions
   names_same =
-      sym (map-map (λ (x : NamedFunction). x.name) (function_at P) t.0) ∙ ap (map (λ (x : NamedFunction). x.name)) g.functions ∙ map-map (λ (x : NamedFunction). x.name) function_of P
+      sym (map-map (λ (x : NamedFunction). x.name) (function_at P) t.0) ∙ ap (map (λ (x : NamedFunction). x.name)) g.functions ∙ map-map (λ (x : NamedFunction). x.name) function_of P.functions
 
   named : (o : Option ℕ) → option_and_then (name_at P) o ≡ option_map (λ (f : GraphFunction). f.name) (option_and_then (slice_get t.0) o)
   named None = refl
   named (Some n) =
-      sym (slice_get-map (λ (f : FunctionTree). f.name) P n) ∙ sym (ap (λ l. slice_get l n) names_same) ∙ slice_get-map (λ (f : GraphFunction). f.name) t.0 n
+      sym (slice_get-map (λ (f : FunctionTree). f.name) P.functions n) ∙ sym (ap (λ l. slice_get l n) names_same) ∙ slice_get-map (λ (f : GraphFunction). f.name) t.0 n
 
   pub find_looked : (o : Option ℕ) (name : Name) → option_and_then (slice_get t.0) o ≡ find (λ f. name_eq f.name name) t.0 → option_and_then (name_at P) o ≡ option_map (λ g. g.name) (flows.function_of P name)
   find_looked o name e =
@@ -126,7 +129,7 @@ module _ (P : ProgramTree) (t : Tables) (g : IsGraphOf t P) where
       ∙ ap (option_map (λ (f : GraphFunction). f.name)) e
       ∙ sym (find-map (λ (f : GraphFunction). f.name) (λ n. name_eq n name) t.0)
       ∙ ap (find (λ n. name_eq n name)) names_same
-      ∙ find-map (λ (f : FunctionTree). f.name) (λ n. name_eq n name) P
+      ∙ find-map (λ (f : FunctionTree). f.name) (λ n. name_eq n name) P.functions
 
   -- edges
   counts_same : map way_count t.1 ≡ map (λ m. length m.node.ways) (point_list P)
@@ -187,7 +190,7 @@ module _ (P : ProgramTree) (t : Tables) (g : IsGraphOf t P) where
       let v = is.taken in
       let mine : Edge = record { function = node.function; from = node.node.point; exit = v.exit } in
       let same = same_Some mine e (sym is.edge ∙ edge) in
-      let placed = point_placed P n node is.is_node in
+      let placed = point_placed P.functions n node is.is_node in
       let first_found = found_by_exit node.node.ways (ways_differ P g.valid placed.place placed.function placed.there placed.index node.node placed.node) i v is.is_way in
       record {
         from = ap (option_map site_of) is.is_node ∙ ap (λ (x : Edge). Some (site x.function x.from)) same;
@@ -235,7 +238,7 @@ first_within (q ∷ ps) e (suc n) first p f h =
     let later = first_within ps (e + way_count q) n first p f h in
     omega arith
 
-pub read_first : (t : Tables) (fs : List GraphFunction) (ps : List GraphPoint) (firsts : List ℕ) (n first : ℕ) → (fs, ps) ≡ t → firsts ≡ firsts_of ps 0 → n < point_count t → first ≡ get_or firsts n first → slice_get (firsts_of t.1 0) n ≡ Some first
+pub read_first : {gs : List GlobalVar} (t : Tables) (fs : List GraphFunction) (ps : List GraphPoint) (firsts : List ℕ) (n first : ℕ) → (fs, ps, gs) ≡ t → firsts ≡ firsts_of ps 0 → n < point_count t → first ≡ get_or firsts n first → slice_get (firsts_of t.1 0) n ≡ Some first
 read_first t fs ps firsts n first v is h e =
     let long : length firsts ≡ point_count t = ap length is ∙ firsts-length ps 0 ∙ ap point_count v in
     let within : n < length firsts = omega arith in
@@ -261,7 +264,7 @@ pub record EdgeRead (t : Tables) (k from : ℕ) : Type 0 where
   pub is_edge : first + index ≡ k
   pub within : index < way_count point
 
-pub edge_read : (t : Tables) (fs : List GraphFunction) (ps : List GraphPoint) (sources : List ℕ) (k from : ℕ) → (fs, ps) ≡ t → sources ≡ sources_of ps 0 → k < edge_count t → from ≡ get_or sources k from → EdgeRead t k from
+pub edge_read : {gs : List GlobalVar} (t : Tables) (fs : List GraphFunction) (ps : List GraphPoint) (sources : List ℕ) (k from : ℕ) → (fs, ps, gs) ≡ t → sources ≡ sources_of ps 0 → k < edge_count t → from ≡ get_or sources k from → EdgeRead t k from
 edge_read t fs ps sources k from v is h e =
     let long : length sources ≡ edge_count t = ap length is ∙ sources-length ps 0 ∙ ap edge_count v in
     let within : k < length sources = omega arith in

@@ -8,12 +8,14 @@ use Rattle.std.proofs.lemmas.List.Concat.{length-flat_map}
 use Rattle.std.proofs.lemmas.List.Elements.{All-nil, All-cons, All-head, All-tail, All-same}
 use Rattle.std.proofs.lemmas.Option.{slice_get-map, slice_get_within}
 use Rattle.std.proofs.lemmas.Simd.{map-map}
-use Rattle.csub_semantics.specs.Types.{Name}
+use Rattle.csub_semantics.specs.declared.types.GlobalVar.{GlobalVar}
+use Rattle.csub_objects.specs.Types.{Name}
+use Rattle.csub_semantics.specs.Types.{global_tree}
 use Rattle.csub_semantics.specs.Labels.{label_tree}
 use Rattle.csub_semantics.specs.Points.{PointTree, entry, point_tree}
 use Rattle.csub_semantics.specs.Syntax.{FunctionTree, ProgramTree}
 use Rattle.csub_semantics.specs.Successors.{Node}
-use Rattle.csub_semantics.specs.Flows.{function_nodes, PlacedNode, placed, point_list, edges_from, edge_list}
+use Rattle.csub_semantics.specs.Flows.{function_nodes, PlacedNode, placed, points_of, point_list, edges_from, edge_list}
 use Rattle.csub_semantics.specs.Numbers.{Site, site, site_of, site_at, name_at}
 use Rattle.csub_core.specs.Valid.{IsValid}
 use Rattle.flow_graph.specs.declared.node.GraphPoint.{GraphPoint}
@@ -43,9 +45,9 @@ module _ (P : ProgramTree) where
   named_as f n = record { function = f; node = n }
 
   -- the same functions and points
-  pub record SameProgram (Q : ProgramTree) (f first : ℕ) : Type 0 where
+  pub record SameProgram (Q : List FunctionTree) (f first : ℕ) : Type 0 where
     pub functions : map function_named (functions_numbered Q first) ≡ map function_of Q
-    pub points : map point_named (program_numbered Q f first) ≡ map point_of (point_list Q)
+    pub points : map point_named (program_numbered Q f first) ≡ map point_of (points_of Q)
 
   one_function : (name : Name) (f : ℕ) (xs : List Numbered) (ns : List (Node PointTree)) → name_at P f ≡ Some name → map (node_named (site_at P) name) xs ≡ map (node_of name) ns → map point_named (map (of_function f) xs) ≡ map point_of (map (placed name) ns)
   one_function name f xs ns e g =
@@ -56,18 +58,18 @@ module _ (P : ProgramTree) where
       ∙ map-map (named_as (Some name)) (node_of name) ns
       ∙ sym (map-map point_of (placed name) ns)
 
-  pub program_same : (Q : ProgramTree) (f first : ℕ) → ((k : ℕ) (g : FunctionTree) → slice_get Q k ≡ Some g → name_at P (f + k) ≡ Some g.name) → ((k : ℕ) (m : PlacedNode) → slice_get (point_list Q) k ≡ Some m → site_at P (first + k) ≡ Some (site_of m)) → SameProgram Q f first
+  pub program_same : (Q : List FunctionTree) (f first : ℕ) → ((k : ℕ) (g : FunctionTree) → slice_get Q k ≡ Some g → name_at P (f + k) ≡ Some g.name) → ((k : ℕ) (m : PlacedNode) → slice_get (points_of Q) k ≡ Some m → site_at P (first + k) ≡ Some (site_of m)) → SameProgram Q f first
   program_same [] f first names sites = record { functions = refl; points = refl }
   program_same (g ∷ rest) f first names sites =
       let ns = function_nodes g in
       let mine = map (placed g.name) ns in
-      let held = held_from (site_at P) g.name ns first (λ k n e. sites k (placed g.name n) (slice_get-left mine (point_list rest) k (placed g.name n) (slice_get-map (placed g.name) ns k ∙ ap (option_map (placed g.name)) e))) in
+      let held = held_from (site_at P) g.name ns first (λ k n e. sites k (placed g.name n) (slice_get-left mine (points_of rest) k (placed g.name n) (slice_get-map (placed g.name) ns k ∙ ap (option_map (placed g.name)) e))) in
       let here = function_same (site_at P) g first held in
       let long = length-map ns (placed g.name) ∙ function_nodes-length g in
       let one_on = λ (k : ℕ). let e : f + 1 + k ≡ f + suc k = omega arith in e in
       let later_names = λ (k : ℕ) (h : FunctionTree) (e : slice_get rest k ≡ Some h). ap (name_at P) (one_on k) ∙ names (suc k) h e in
       let later_sites =
-      λ (k : ℕ) (m : PlacedNode) (e : slice_get (point_list rest) k ≡ Some m). ap (site_at P) (add_assoc first (count_function g) k) ∙ sites (count_function g + k) m (slice_get-right mine (point_list rest) (count_function g) k (count_function g + k) long refl ∙ e) in
+      λ (k : ℕ) (m : PlacedNode) (e : slice_get (points_of rest) k ≡ Some m). ap (site_at P) (add_assoc first (count_function g) k) ∙ sites (count_function g + k) m (slice_get-right mine (points_of rest) (count_function g) k (count_function g + k) long refl ∙ e) in
       let later = program_same rest (f + 1) (first + count_function g) later_names later_sites in
       let zero_on : f ≡ f + 0 = omega arith in
       let name = ap (name_at P) zero_on ∙ names 0 g refl in
@@ -81,7 +83,7 @@ module _ (P : ProgramTree) where
             map-append point_named (map (of_function f) numbers) (program_numbered rest (f + 1) (first + count_function g))
             ∙ ap (λ l. l ++ map point_named (program_numbered rest (f + 1) (first + count_function g))) (one_function g.name f numbers ns name here.points)
             ∙ ap (λ l. map point_of mine ++ l) later.points
-            ∙ sym (map-append point_of mine (point_list rest));
+            ∙ sym (map-append point_of mine (points_of rest));
       }
 
   -- the points of the code by what they are
@@ -95,14 +97,15 @@ module _ (P : ProgramTree) where
   functions_named fs = sym (map-map function_named numbered_function fs)
 
 -- what is listed for a valid program is its graph
-pub is_graph : (P : ProgramTree) (fs : List GraphFunction) (ps : List GraphPoint) → IsValid P → map numbered_function fs ≡ functions_numbered P 0 → map numbered_point ps ≡ program_numbered P 0 0 → IsGraphOf (fs, ps) P
-is_graph P fs ps valid e g =
+pub is_graph : (P : ProgramTree) (fs : List GraphFunction) (ps : List GraphPoint) (gs : List GlobalVar) → IsValid P → map numbered_function fs ≡ functions_numbered P.functions 0 → map numbered_point ps ≡ program_numbered P.functions 0 0 → map global_tree gs ≡ P.globals → IsGraphOf (fs, ps, gs) P
+is_graph P fs ps gs valid e g globals =
     let none_before = λ (k : ℕ). let e : 0 + k ≡ k = omega arith in e in
-    let same = program_same P P 0 0 (λ k h e. ap (name_at P) (none_before k) ∙ ap (option_map (λ (g : FunctionTree). g.name)) e) (λ k m e. ap (site_at P) (none_before k) ∙ ap (option_map site_of) e) in
+    let same = program_same P P.functions 0 0 (λ k h e. ap (name_at P) (none_before k) ∙ ap (option_map (λ (g : FunctionTree). g.name)) e) (λ k m e. ap (site_at P) (none_before k) ∙ ap (option_map site_of) e) in
     record {
       valid = valid;
       functions = functions_named P fs ∙ ap (map (function_named P)) e ∙ same.functions;
       points = points_named P ps ∙ ap (map (point_named P)) g ∙ same.points;
+      globals = globals;
     }
 
 sum_by-map : {A : Type 0} {B : Type 0} (f : A → B) (g : B → ℕ) (h : A → ℕ) → ((x : A) → h x ≡ g (f x)) → (xs : List A) → sum_by h xs ≡ sum_by g (map f xs)
@@ -129,12 +132,12 @@ within_points P n h = some_within (slice_get (point_list P) n) refl h
     some_within None e h = absurd cc
     some_within (Some m) e h = slice_get_within (point_list P) n m e
 
-pub within_functions : (P : ProgramTree) (n : ℕ) → IsSome (name_at P n) → n < length P
-within_functions P n h = some_within (slice_get P n) refl h
+pub within_functions : (P : ProgramTree) (n : ℕ) → IsSome (name_at P n) → n < length P.functions
+within_functions P n h = some_within (slice_get P.functions n) refl h
   where
-    some_within : (o : Option FunctionTree) → slice_get P n ≡ o → IsSome (option_map (λ (g : FunctionTree). g.name) o) → n < length P
+    some_within : (o : Option FunctionTree) → slice_get P.functions n ≡ o → IsSome (option_map (λ (g : FunctionTree). g.name) o) → n < length P.functions
     some_within None e h = absurd cc
-    some_within (Some m) e h = slice_get_within P n m e
+    some_within (Some m) e h = slice_get_within P.functions n m e
 
 abbrev HasPlaces : NamedFunction → Type 0
 HasPlaces f = IsSome f.start × IsSome f.exit
@@ -155,10 +158,10 @@ mapped f P h [] = All-nil P
 mapped f P h (x ∷ xs) = All-cons P (f x) (map f xs) (h x) (mapped f P h xs)
 
 -- the numbers of a graph are those of its functions and its points
-pub is_closed : (P : ProgramTree) (fs : List GraphFunction) (ps : List GraphPoint) → IsGraphOf (fs, ps) P → IsClosed (fs, ps)
-is_closed P fs ps g =
+pub is_closed : (P : ProgramTree) (fs : List GraphFunction) (ps : List GraphPoint) (gs : List GlobalVar) → IsGraphOf (fs, ps, gs) P → IsClosed (fs, ps, gs)
+is_closed P fs ps gs g =
     let points : length ps ≡ length (point_list P) = sym (length-map ps (point_at P)) ∙ ap length g.points ∙ length-map (point_list P) point_of in
-    let functions : length fs ≡ length P = sym (length-map fs (function_at P)) ∙ ap length g.functions ∙ length-map P function_of in
+    let functions : length fs ≡ length P.functions = sym (length-map fs (function_at P)) ∙ ap length g.functions ∙ length-map P.functions function_of in
     let edges = edges_listed P ps g.points in
     let few_points = g.valid.points in
     let few_edges = g.valid.edges in
@@ -171,7 +174,7 @@ is_closed P fs ps g =
       few_edges = omega arith;
       functions =
           unmapped (function_at P) HasPlaces (λ f. (f.start < length ps) × (f.exit < length ps)) (λ f h. (inside f.start h.0, inside f.exit h.1)) fs
-          (All-same HasPlaces _ _ g.functions (mapped function_of HasPlaces (λ f. (refl, refl)) P));
+          (All-same HasPlaces _ _ g.functions (mapped function_of HasPlaces (λ f. (refl, refl)) P.functions));
       points =
           unmapped (point_at P) HasFunction (λ p. p.function < length fs) (λ p h. named p.function h) ps
           (All-same HasFunction _ _ g.points (mapped point_of HasFunction (λ m. refl) (point_list P)));
@@ -182,9 +185,9 @@ is_closed P fs ps g =
     }
 
 -- how many points the functions of a program have
-pub program_points : (P : ProgramTree) → length (point_list P) ≡ count_program P
+pub program_points : (fs : List FunctionTree) → length (points_of fs) ≡ count_program fs
 program_points [] = refl
 program_points (f ∷ rest) =
-    length-append (map (placed f.name) (function_nodes f)) (point_list rest)
-    ∙ ap (λ n. n + length (point_list rest)) (length-map (function_nodes f) (placed f.name) ∙ function_nodes-length f)
+    length-append (map (placed f.name) (function_nodes f)) (points_of rest)
+    ∙ ap (λ n. n + length (points_of rest)) (length-map (function_nodes f) (placed f.name) ∙ function_nodes-length f)
     ∙ ap (λ n. count_function f + n) (program_points rest)

@@ -1,7 +1,9 @@
 -- What the graph of a program is: its functions and points in the program's order, with numbers in place of names.
 use Rattle.std.specs.Prelude.{ℕ, ◌≡◌, ◌+◌, ◌^◌, ◌<◌, List, [], ◌∷◌, ◌++◌, map, length, replicate, Option, Some, sum_by, All}
 use Rattle.csub_text.specs.declared.span.Span.{Span}
-use Rattle.csub_semantics.specs.Types.{Name}
+use Rattle.csub_semantics.specs.declared.types.GlobalVar.{GlobalVar}
+use Rattle.csub_objects.specs.Types.{Name}
+use Rattle.csub_semantics.specs.Types.{global_tree}
 use Rattle.csub_semantics.specs.Labels.{LabelTree, label_tree}
 use Rattle.csub_semantics.specs.Points.{PointTree, entry, exit, point_tree, exit_tree}
 use Rattle.csub_semantics.specs.Syntax.{FunctionTree, ProgramTree}
@@ -13,9 +15,9 @@ use Rattle.flow_graph.specs.declared.node.GraphWay.{GraphWay}
 use Rattle.flow_graph.specs.declared.node.GraphPoint.{GraphPoint}
 use Rattle.flow_graph.specs.declared.node.GraphFunction.{GraphFunction}
 
--- what contracts see of a graph: its functions and its points, each by its number
+-- what contracts see of a graph: its functions and its points, each by its number, and the globals
 abbrev pub Tables : Type 0
-Tables = List GraphFunction × List GraphPoint
+Tables = List GraphFunction × List GraphPoint × List GlobalVar
 
 abbrev pub function_count : Tables → ℕ
 function_count g = length g.0
@@ -80,11 +82,12 @@ point_of n = record { function = Some n.function; node = node_of n.function n.no
 abbrev pub function_of : FunctionTree → NamedFunction
 function_of f = record { name = f.name; start = Some (site f.name entry); exit = Some (site f.name exit) }
 
--- the graph of a valid program: its functions and points are the program's, in the program's order
+-- the graph of a valid program: its functions, points and globals are the program's, in the program's order
 pub record IsGraphOf (g : Tables) (P : ProgramTree) : Type 0 where
   pub valid : IsValid P
-  pub functions : map (function_at P) g.0 ≡ map function_of P
+  pub functions : map (function_at P) g.0 ≡ map function_of P.functions
   pub points : map (point_at P) g.1 ≡ map point_of (point_list P)
+  pub globals : map global_tree g.2 ≡ P.globals
 
 -- each number is that of a function or a point of the graph, and all numbers are small
 pub record IsClosed (g : Tables) : Type 0 where

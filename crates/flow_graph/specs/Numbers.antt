@@ -2,11 +2,11 @@
 -- functions of the builder say of themselves. What the whole graph is stands in `Graph`.
 use Rattle.std.specs.Prelude.{ℕ, ◌+◌, List, [], ◌∷◌, ◌++◌, map, length, Option, Some}
 use Rattle.csub_text.specs.declared.span.Span.{Span}
-use Rattle.csub_semantics.specs.Types.{Name}
+use Rattle.csub_objects.specs.Types.{Name}
 use Rattle.csub_semantics.specs.Labels.{LabelTree, enters, exits, label_tree, returns}
 use Rattle.csub_semantics.specs.Points.{PointTree, entry, exit, at, point_tree, exit_tree, next}
 use Rattle.csub_semantics.specs.Syntax.{PartTree, StmtTree, StmtTrees, ElseTree, parts, block, conditional, while_loop, do_loop, for_loop, breaks}
-use Rattle.csub_semantics.specs.Syntax.{continues, no_stmt, more_stmts, no_else, else_stmt, FunctionTree, ProgramTree}
+use Rattle.csub_semantics.specs.Syntax.{continues, no_stmt, more_stmts, no_else, else_stmt, FunctionTree}
 use Rattle.csub_semantics.specs.Successors.{Way, Around, way, leaving, looping, last_ways, test_ways}
 use Rattle.csub_semantics.specs.Flows.{end_rule}
 use Rattle.flow_graph.specs.declared.node.GraphWay.{GraphWay}
@@ -170,7 +170,7 @@ abbrev mutual
 abbrev pub count_function : FunctionTree → ℕ
 count_function f = count_list f.body + 2
 
-abbrev pub count_program : ProgramTree → ℕ
+abbrev pub count_program : List FunctionTree → ℕ
 count_program [] = 0
 count_program (f ∷ rest) = count_function f + count_program rest
 
@@ -205,7 +205,7 @@ abbrev pub of_function : ℕ → Numbered → NumberedPoint
 of_function f n = record { function = f; node = n }
 
 -- the points of functions, the first function having the number f and its entry the number `start`
-abbrev pub program_numbered : ProgramTree → ℕ → ℕ → List NumberedPoint
+abbrev pub program_numbered : List FunctionTree → ℕ → ℕ → List NumberedPoint
 program_numbered [] f start = []
 program_numbered (g ∷ rest) f start =
     map (of_function f) (function_numbered g start) ++ program_numbered rest (f + 1) (start + count_function g)
@@ -216,7 +216,7 @@ pub record NumberedFunction : Type 0 where
   pub start : ℕ
   pub exit : ℕ
 
-abbrev pub functions_numbered : ProgramTree → ℕ → List NumberedFunction
+abbrev pub functions_numbered : List FunctionTree → ℕ → List NumberedFunction
 functions_numbered [] start = []
 functions_numbered (g ∷ rest) start =
     record { name = g.name; start = start; exit = exit_number g start } ∷ functions_numbered rest (start + count_function g)

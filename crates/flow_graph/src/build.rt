@@ -1,5 +1,6 @@
-//! The points of a program.
+//! The points of a program, and its objects of file scope.
 ghost use Rattle.std.specs.Prelude.{◌≡◌, ◌<◌, ◌+◌, ◌^◌, ◌++◌, IfOk, length, map};
+ghost use Rattle.csub_semantics.specs.Types.{global_tree};
 ghost use Rattle.csub_semantics.specs.Flows.{end_rule as end_rule'};
 ghost use Rattle.csub_semantics.specs.Syntax.{function_tree};
 ghost use Rattle.flow_graph.specs.Numbers.{numbered_node, numbered_point, numbered_function, of_function, count_function, count_program, function_numbered, program_numbered, functions_numbered};
@@ -7,7 +8,7 @@ ghost use Rattle.flow_graph.specs.Numbers.{numbered_node, numbered_point, number
 use crate::count::count_all;
 use crate::emit::{Onward, emit_list};
 use crate::node::{GraphFunction, GraphNode, GraphPoint, one_way};
-use csub_semantics::{EndRule, Function, IntKind, Label, Point, Text};
+use csub_semantics::{EndRule, Function, GlobalVar, IntKind, Label, Point, Text, copy_global};
 use std::alloc::{AllocError, Global};
 
 /// The functions and the points of a program, each by its number.
@@ -107,4 +108,15 @@ pub fn list_points(alloc: Global, functions: &[Function]) -> Result<Listed, Allo
         functions: listed,
         points,
     })
+}
+
+/// Equal objects of file scope, in the same order.
+pub fn copy_globals(alloc: Global, globals: &[GlobalVar]) -> Result<Vec<GlobalVar>, AllocError>
+    ensures { IfOk result (λ made. map global_tree made.items ≡ map global_tree globals.now) }
+{
+    let mut made = Vec::new(alloc);
+    for global in globals {
+        made.push(copy_global(alloc, global)?)?;
+    }
+    Ok(made)
 }

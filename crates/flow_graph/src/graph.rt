@@ -1,24 +1,26 @@
 //! The graph of a program.
-ghost use Rattle.std.specs.Prelude.{◌≡◌, ◌<◌, IfOk, IfSome, OnSome, Some, [], length, map, slice_get};
+ghost use Rattle.std.specs.Prelude.{◌≡◌, ◌<◌, IfOk, IfSome, OnSome, Some, length, map, slice_get};
 ghost use Rattle.std.specs.Option.{option_and_then, option_map};
-ghost use Rattle.csub_semantics.specs.Types.{Name};
+ghost use Rattle.csub_objects.specs.Types.{Name};
+ghost use Rattle.csub_semantics.specs.Types.{global_tree};
+ghost use Rattle.csub_semantics.specs.Globals.{named_globals};
 ghost use Rattle.csub_semantics.specs.Labels.{label_tree};
 ghost use Rattle.csub_semantics.specs.Points.{entry, exit, point_tree, exit_tree};
-ghost use Rattle.csub_semantics.specs.Syntax.{ProgramTree, function_tree};
+ghost use Rattle.csub_semantics.specs.Syntax.{ProgramTree, program_tree};
 ghost use Rattle.csub_semantics.specs.Flows.{PlacedNode, Edge, point_list, edge_list, flow_of, function_of};
 ghost use Rattle.csub_semantics.specs.Numbers.{Site, site, site_at, edge_at as edge_at', name_at};
 ghost use Rattle.flow_graph.specs.Graph.{IsGraphOf, point_count, edge_count, function_count};
 
-use crate::build::{Listed, list_points};
+use crate::build::{Listed, copy_globals, list_points};
 use crate::edges::{EdgeNumbers, number_edges};
 use crate::node::{GraphFunction, GraphPoint};
 use crate::search::{find_function, find_way};
 use csub_core::Program;
-use csub_semantics::{ExitLabel, Label, Point, Span, Text};
+use csub_semantics::{ExitLabel, GlobalVar, Label, Point, Span, Text};
 use std::alloc::{AllocError, Global};
 use std::marker::Model;
 
-/// The graph of a program: its points and edges, numbered from 0. Points are numbered function by function, and in a
+/// The graph of a program: its points and edges, numbered from 0, and its objects of file scope. Points are numbered function by function, and in a
 /// function the entry, the points of the body in the order of the text, and the exit; edges by their source points and
 /// then in order, a `Default` last; functions in the program's order, `#start` first.
 #[derive(Drop)]
@@ -27,21 +29,23 @@ pub struct Graph {
     points: Vec<GraphPoint>,
     firsts: Vec<u32>,
     sources: Vec<u32>,
+    globals: Vec<GlobalVar>,
 }
 
 impl Model for Graph {
     ghost use Rattle.std.specs.Prelude.{◌≡◌};
     ghost use Rattle.std.specs.Coded.{codes};
+    ghost use Rattle.csub_objects.specs.Codes.{type_code, members_code};
     ghost use Rattle.csub_semantics.specs.contracts.expression.RExpr as expr;
     ghost use Rattle.flow_graph.specs.Graph.{Tables, IsClosed, firsts_of, sources_of};
 
     ghost Value = { Tables };
 
-    ghost coded = { Prim.hlevel (codes, expr.the_row.coded) };
+    ghost coded = { Prim.hlevel (codes, type_code, members_code, expr.the_row.coded) };
 
-    ghost view = { λ g. (g.functions.items, g.points.items) };
+    ghost view = { λ g. (g.functions.items, g.points.items, g.globals.items) };
 
-    ghost invariant = { λ g. IsClosed (g.functions.items, g.points.items) × (g.firsts.items ≡ firsts_of g.points.items 0) × (g.sources.items ≡ sources_of g.points.items 0) };
+    ghost invariant = { λ g. IsClosed (g.functions.items, g.points.items, g.globals.items) × (g.firsts.items ≡ firsts_of g.points.items 0) × (g.sources.items ≡ sources_of g.points.items 0) };
 }
 
 /// An edge: its source point, its exit label and the point to which it leads.
@@ -59,15 +63,17 @@ impl Graph {
     /// The graph of a program. An `Err` is want of memory. The work is in proportion to the labels, and to the
     /// statements and the points, each times the length of its path.
     pub fn build(alloc: Global, program: &Program) -> Result<Graph, AllocError>
-        ensures { IfOk result (λ graph. IsGraphOf graph (map function_tree program.now)) }
+        ensures { IfOk result (λ graph. IsGraphOf graph (program_tree program.now)) }
     {
         let Listed { functions, points } = list_points(alloc, program.functions())?;
         let EdgeNumbers { firsts, sources } = number_edges(alloc, points.as_slice())?;
+        let globals = copy_globals(alloc, program.globals())?;
         Ok(Graph {
             functions,
             points,
             firsts,
             sources,
+            globals,
         })
     }
 
@@ -122,10 +128,18 @@ impl Graph {
         &self.points[point as usize].node.point
     }
 
-    /// What is done at a point.
+    /// The objects of file scope, in the program's order.
+    pub fn globals(&self) -> &[GlobalVar]
+        ensures value { result.now ≡ self.now.2 }
+        ensures listed { (P : ProgramTree) → IsGraphOf self.now P → map global_tree result.now ≡ P.globals }
+    {
+        self.globals.as_slice()
+    }
+
+    /// What is done at a point: the tree of its label. Beside it a label has the globals that the tree names.
     pub fn label_at(&self, point: u32) -> &Label
         requires { point < point_count self.now }
-        ensures { (P : ProgramTree) (s : Site) → IsGraphOf self.now P → site_at P point ≡ Some s → (flow_of P).label s.function s.point ≡ Some (record { tree = label_tree result.now; globals = [] }) }
+        ensures { (P : ProgramTree) (s : Site) → IsGraphOf self.now P → site_at P point ≡ Some s → (flow_of P).label s.function s.point ≡ Some (record { tree = label_tree result.now; globals = named_globals P.globals (label_tree result.now) }) }
     {
         &self.points[point as usize].node.label
     }

@@ -4,7 +4,7 @@ ghost use Rattle.std.specs.Option.{option_and_then};
 ghost use Rattle.std.specs.Ordering.{int_eq};
 ghost use Rattle.std.specs.Cmp.Lexicographic.{pointwise};
 ghost use Rattle.csub_semantics.specs.Points.{exit_tree, exit_eq};
-ghost use Rattle.csub_semantics.specs.Flows.{name_eq};
+ghost use Rattle.csub_semantics.specs.Types.{name_eq};
 
 use crate::node::{GraphFunction, GraphWay};
 use csub_semantics::{ExitLabel, Text};

@@ -1,31 +1,33 @@
 use Rattle.std.proofs.Common.{arith}
 use Rattle.csub_semantics.specs.Points.{exit_tree}
-use Rattle.csub_machine.specs.Places.{tree_of, place_of}
+use Rattle.csub_semantics.specs.Syntax.{program_tree}
+use Rattle.csub_flat.specs.Sites.{place_of}
 use Rattle.flow_graph.proofs.LawsPlaces.{points_counted, edges_counted}
-use Rattle.csub_machine.proofs.GraphLemmas.{place_is, leads_nowhere, crosses_nothing, leads_to, if_none}
+use Rattle.csub_flat.proofs.LawsSites.{place_is}
+use Rattle.csub_machine.proofs.WayLemmas.{leads_to, leads_nowhere, crosses_nothing, if_none}
 use Rattle.csub_machine.proofs.ways.step_along.Goals as goal
 
 pub follow-requires : goal.follow-requires
-follow-requires c = let count = points_counted c.args.graph.now (tree_of c.args.program.now) c.requires.graph in omega arith
+follow-requires c = let count = points_counted c.args.graph.now (program_tree c.args.program.now) c.requires.graph in omega arith
 
 pub returns-in_err-to-clause-none : goal.returns-in_err-to-clause-none
 returns-in_err-to-clause-none c =
-    let P = tree_of c.args.program.now in
+    let P = program_tree c.args.program.now in
     let n = c.args.point in
     if_none c.from_residual.result (leads_nowhere P n (exit_tree c.args.exit.now) (c.in_err-to.ensures.leads P (place_of P n) c.requires.graph (place_is P n c.requires.point)))
 
 pub edge_number-requires : goal.edge_number-requires
-edge_number-requires c = let count = points_counted c.args.graph.now (tree_of c.args.program.now) c.requires.graph in omega arith
+edge_number-requires c = let count = points_counted c.args.graph.now (program_tree c.args.program.now) c.requires.graph in omega arith
 
 pub returns-in_err-edge-clause-none : goal.returns-in_err-edge-clause-none
 returns-in_err-edge-clause-none c =
-    let P = tree_of c.args.program.now in
+    let P = program_tree c.args.program.now in
     let n = c.args.point in
     if_none c.from_residual-in_err-edge.result (crosses_nothing P n (exit_tree c.args.exit.now) (c.in_err-edge.ensures.number P (place_of P n) c.requires.graph (place_is P n c.requires.point)))
 
 pub returns-clause-some : goal.returns-clause-some
 returns-clause-some c =
-    let P = tree_of c.args.program.now in
+    let P = program_tree c.args.program.now in
     let n = c.args.point in
     let here = place_is P n c.requires.point in
     let points = points_counted c.args.graph.now P c.requires.graph in

@@ -1,7 +1,7 @@
 use Rattle.std.proofs.Common.{rules, arith, ◌≡◌, ◌∙◌, ◌++◌, ◌∷◌, [], ℕ, ◌+◌, ◌-◌, ap, map, length}
 use Rattle.std.proofs.lemmas.List.{map-append, length-map}
 use Rattle.csub_semantics.specs.Syntax.{function_tree}
-use Rattle.csub_semantics.specs.Types.{Name}
+use Rattle.csub_objects.specs.Types.{Name}
 use Rattle.flow_graph.specs.Numbers.{numbered_node, numbered_point, numbered_function, of_function, count_function, function_numbered, exit_number}
 use Rattle.flow_graph.proofs.Listed.{nodes_made, more, count_within, appended_length}
 use Rattle.flow_graph.proofs.build.list_points.Goals as goal

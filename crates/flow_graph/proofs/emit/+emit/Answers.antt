@@ -1,11 +1,10 @@
 use Rattle.std.proofs.Common.{rules, arith, ◌≡◌, ◌+◌, ◌-◌, ◌<◌, ◌∙◌, ap, map, length}
 use Rattle.csub_semantics.specs.declared.function.RStmt.{the_lemmas}
 use denote.Param.Weighed.{at_most}
-use Rattle.csub_semantics.proofs.function.RStmt.TheLaws.{the_size}
 use Rattle.csub_semantics.specs.Syntax.{part_tree, stmt_tree}
 use Rattle.flow_graph.specs.Numbers.{around, count_parts, count_head, enter_part, enter_parts}
 use Rattle.flow_graph.proofs.Emitted.{for_emitted}
-use Rattle.csub_semantics.proofs.LawsRows.{row_trees-list}
+use Rattle.csub_semantics.proofs.LawsRows.{stmt_size, row_trees-list}
 use Rattle.flow_graph.proofs.Rows.{room_back}
 use Rattle.flow_graph.proofs.emit.+emit.Goals as goal
 
@@ -25,8 +24,8 @@ pub emit_list-emit_inner-requires : goal.emit_list-emit_inner-requires
 emit_list-emit_inner-requires t c =
     let room = room_back c.args.stmts.now c.loop-i.i c.loop-i.first c.args.end c.index-stmts-i.result c.loop-i-test.true c.loop-i.auto.i c.index-stmts-i.is c.loop-i.invariant.place c.requires in
     let below : c.loop-i.i - 1 < length c.args.stmts.now = omega arith in
-    let less = at_most the_size c.args.stmts.now (c.loop-i.i - 1) c.index-stmts-i.result below in
-    let same = ap the_size c.index-stmts-i.is in
+    let less = at_most stmt_size c.args.stmts.now (c.loop-i.i - 1) c.index-stmts-i.result below in
+    let same = ap stmt_size c.index-stmts-i.is in
     (search rules, room)
 
 pub emit_for-returns-clause-nodes : goal.emit_for-returns-clause-nodes

@@ -1,5 +1,5 @@
 use Rattle.std.proofs.Common.{◌∙◌, sym}
-use Rattle.csub_semantics.specs.Flows.{name_eq}
+use Rattle.csub_semantics.specs.Types.{name_eq}
 use Rattle.flow_graph.proofs.LawsLists.{find_here}
 use Rattle.flow_graph.proofs.search.find_function.Goals as goal
 

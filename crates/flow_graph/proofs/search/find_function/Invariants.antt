@@ -1,6 +1,6 @@
 use Rattle.std.proofs.Common.{◌≡◌, drop}
 use Rattle.std.specs.List.{find}
-use Rattle.csub_semantics.specs.Flows.{name_eq}
+use Rattle.csub_semantics.specs.Types.{name_eq}
 use Rattle.flow_graph.proofs.search.find_function.Given as goal
 
 abbrev pub invariant-loop-i : goal.invariant-loop-i

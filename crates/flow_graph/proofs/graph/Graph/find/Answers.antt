@@ -1,7 +1,7 @@
 use Rattle.std.proofs.Common.{◌∙◌, ap, sym, Some, None}
 use Rattle.std.specs.List.{slice_get, find}
 use Rattle.std.specs.Option.{option_and_then}
-use Rattle.csub_semantics.specs.Flows.{name_eq}
+use Rattle.csub_semantics.specs.Types.{name_eq}
 use Rattle.flow_graph.specs.Graph.{Tables}
 use Rattle.flow_graph.proofs.Looked.{find_looked}
 use Rattle.flow_graph.proofs.graph.Graph.find.Goals as goal

@@ -1,0 +1,97 @@
+-- Places of objects, by parameters and locals.
+use Rattle.std.proofs.Common.{◌≡◌, ◌≤◌, ◌∙◌, ℕ, zero, suc, ◌+◌, ◌-◌, ◌&&◌, nat_lt, List, [], ◌∷◌, ◌++◌, map, sum_by, Bool, true, false, Option, Some, None, nat_eq, if◌then◌else◌, refl, ap, sym, arith}
+use Rattle.std.specs.Option.{option_map, option_or}
+use Rattle.std.proofs.lemmas.List.Sums.{sum_by-cons}
+use Rattle.csub_objects.specs.declared.types.Member.{Member}
+use Rattle.csub_semantics.specs.declared.function.LocalVar.{LocalVar}
+use Rattle.csub_semantics.specs.declared.function.Function.{Function}
+use Rattle.csub_types.specs.declared.kind.IntKind.TheVariants.{Int}
+use Rattle.csub_objects.specs.Types.{Name, number_type, cells}
+use Rattle.csub_objects.specs.Meaning.{member_tree}
+use Rattle.csub_semantics.specs.Types.{name_eq}
+use Rattle.csub_flat.specs.Flatten.{temp_slot, slot_or}
+use Rattle.csub_semantics.specs.Syntax.{LocalTree, FunctionTree, local_tree, function_tree}
+use Rattle.csub_validity.specs.Valid.{parameter_object, objects_of, frame_cells}
+use Rattle.csub_objects.specs.Paths.{Inside, inside_at, moved}
+use Rattle.csub_flat.specs.Frames.{plain, objects_size, place_in, as_object, frame_size}
+
+pub same_objects : (ps : List Member) → map parameter_object (map member_tree ps) ≡ map as_object ps
+same_objects [] = refl
+same_objects (p ∷ ps) = ap (λ os. as_object p ∷ os) (same_objects ps)
+
+pub size-append : (os us : List LocalTree) → objects_size (os ++ us) ≡ objects_size os + objects_size us
+size-append [] us = omega arith
+size-append (o ∷ os) us = let a = size-append os us in omega arith
+
+pub moved-moved : (i j : ℕ) (o : Option Inside) → moved i (moved j o) ≡ moved (i + j) o
+moved-moved i j None = refl
+moved-moved i j (Some x) = ap (λ n. let r : Option Inside = Some (inside_at n x.ctype) in r) (omega arith)
+
+pub moved_none : (o : Option Inside) → o ≡ moved 0 o
+moved_none None = refl
+moved_none (Some x) = ap (λ n. let r : Option Inside = Some (inside_at n x.ctype) in r) (omega arith)
+
+pub place_in-append : (os us : List LocalTree) (a : Name) (n : ℕ) → place_in (os ++ us) a n ≡ option_or (place_in os a n) (moved (objects_size os) (place_in us a n))
+place_in-append [] us a n = moved_none (place_in us a n)
+place_in-append (o ∷ os) us a n = pick (name_eq o.name a && nat_eq o.number n) (place_in-append os us a n)
+  where
+    either : (p : Option Inside) → moved (cells o.ctype) (option_or p (moved (objects_size os) (place_in us a n))) ≡ option_or (moved (cells o.ctype) p) (moved (objects_size (o ∷ os)) (place_in us a n))
+    either None = moved-moved (cells o.ctype) (objects_size os) (place_in us a n)
+    either (Some x) = refl
+
+    pick : (b : Bool) → place_in (os ++ us) a n ≡ option_or (place_in os a n) (moved (objects_size os) (place_in us a n))
+        → (if b then Some (inside_at 0 (plain o.ctype)) else moved (cells o.ctype) (place_in (os ++ us) a n))
+        ≡ option_or (if b then Some (inside_at 0 (plain o.ctype)) else moved (cells o.ctype) (place_in os a n)) (moved (objects_size (o ∷ os)) (place_in us a n))
+    pick true later = refl
+    pick false later = ap (moved (cells o.ctype)) later ∙ either (place_in os a n)
+
+in_function : (ps : List Member) (ls : List LocalVar) (a : Name) (n : ℕ) → place_in (map parameter_object (map member_tree ps) ++ map local_tree ls) a n ≡ option_or (place_in (map as_object ps) a n) (moved (objects_size (map as_object ps)) (place_in (map local_tree ls) a n))
+in_function ps ls a n =
+    ap (λ (os : List LocalTree). place_in (os ++ map local_tree ls) a n) (same_objects ps)
+    ∙ place_in-append (map as_object ps) (map local_tree ls) a n
+
+-- the slot of what is found
+slot_some : (o : Option Inside) (i : ℕ) → Some i ≡ option_map (λ (x : Inside). x.at) o → (x : Inside) × (o ≡ Some x) × (x.at ≡ i)
+slot_some None i e = cc
+slot_some (Some x) i e = (x, refl, let k : i ≡ x.at = cc in sym k)
+
+slot_none : (o : Option Inside) → ◌≡◌ {A = Option ℕ} None (option_map (λ (x : Inside). x.at) o) → o ≡ None
+slot_none None e = refl
+slot_none (Some x) e = cc
+
+pub slot_in_params : (ps : List Member) (ls : List LocalVar) (a : Name) (n i : ℕ) → Some i ≡ option_map (λ (x : Inside). x.at) (place_in (map as_object ps) a n) → i ≡ slot_or (place_in (map parameter_object (map member_tree ps) ++ map local_tree ls) a n)
+slot_in_params ps ls a n i e =
+    let s = slot_some (place_in (map as_object ps) a n) i e in
+    sym s.2 ∙ ap slot_or (sym (in_function ps ls a n ∙ ap (λ (o : Option Inside). option_or o (moved (objects_size (map as_object ps)) (place_in (map local_tree ls) a n))) s.1))
+
+pub slot_in_locals : (ps : List Member) (ls : List LocalVar) (a : Name) (n i : ℕ) → ◌≡◌ {A = Option ℕ} None (option_map (λ (x : Inside). x.at) (place_in (map as_object ps) a n)) → Some i ≡ option_map (λ (x : Inside). x.at) (place_in (map local_tree ls) a n) → objects_size (map as_object ps) + i ≡ slot_or (place_in (map parameter_object (map member_tree ps) ++ map local_tree ls) a n)
+slot_in_locals ps ls a n i none e =
+    let s = slot_some (place_in (map local_tree ls) a n) i e in
+    ap (λ k. objects_size (map as_object ps) + k) (sym s.2)
+    ∙ ap slot_or (sym (in_function ps ls a n ∙ ap (λ (o : Option Inside). option_or o (moved (objects_size (map as_object ps)) (place_in (map local_tree ls) a n))) (slot_none (place_in (map as_object ps) a n) none) ∙ ap (moved (objects_size (map as_object ps))) s.1))
+
+pub slot_nowhere : (ps : List Member) (ls : List LocalVar) (a : Name) (n : ℕ) → ◌≡◌ {A = Option ℕ} None (option_map (λ (x : Inside). x.at) (place_in (map as_object ps) a n)) → ◌≡◌ {A = Option ℕ} None (option_map (λ (x : Inside). x.at) (place_in (map local_tree ls) a n)) → 0 ≡ slot_or (place_in (map parameter_object (map member_tree ps) ++ map local_tree ls) a n)
+slot_nowhere ps ls a n none also =
+    ap slot_or (sym (in_function ps ls a n ∙ ap (λ (o : Option Inside). option_or o (moved (objects_size (map as_object ps)) (place_in (map local_tree ls) a n))) (slot_none (place_in (map as_object ps) a n) none) ∙ ap (moved (objects_size (map as_object ps))) (slot_none (place_in (map local_tree ls) a n) also)))
+
+-- the slots of a function's objects
+pub size_objects : (f : Function) → objects_size (objects_of (function_tree f)) ≡ objects_size (map as_object f.params.items) + objects_size (map local_tree f.locals.items)
+size_objects f =
+    size-append (map parameter_object (map member_tree f.params.items)) (map local_tree f.locals.items)
+    ∙ ap (λ n. n + objects_size (map local_tree f.locals.items)) (ap objects_size (same_objects f.params.items))
+
+-- they are its cells
+size_sum : (os : List LocalTree) → objects_size os ≡ sum_by (λ o. cells o.ctype) os
+size_sum [] = refl
+size_sum (o ∷ os) = let rest = size_sum os in let sum = sum_by-cons (λ (u : LocalTree). cells u.ctype) o os in omega arith
+
+pub size_cells : (f : FunctionTree) → frame_size f ≡ frame_cells f
+size_cells f = ap (λ n. n + f.temps) (size_sum (objects_of f))
+
+-- the slot of a temporary
+pub slot_of_temporary : (f : FunctionTree) (n first : ℕ) → 1 ≤ n → n ≤ f.temps → first ≡ objects_size (objects_of f) → first + (n - 1) ≡ temp_slot f n
+slot_of_temporary f zero first low high is = absurd (omega arith)
+slot_of_temporary f (suc n) first low high is =
+    let t : nat_lt n f.temps ≡ true = grind arith in
+    let sum : first + (suc n - 1) ≡ objects_size (objects_of f) + n = omega arith in
+    sum ∙ sym (ap (λ b. slot_or (if b then Some (inside_at (objects_size (objects_of f) + n) (number_type Int)) else None)) t)

@@ -1,0 +1,164 @@
+-- The labels of a valid part fit the frame of its function.
+use Rattle.std.proofs.Common.{ℕ, zero, suc, ◌+◌, ◌≡◌, ◌≤◌, List, [], ◌∷◌, map, All, AllPairs, Option, Some, None, IfSome, refl, ◌∙◌, ap, subst, arith}
+use Rattle.std.specs.List.{slice_get}
+use Rattle.std.specs.Option.{option_and_then}
+use Rattle.std.proofs.lemmas.List.Elements.{All-nil, All-cons}
+use Rattle.csub_types.specs.declared.kind.IntKind.{IntKind}
+use Rattle.csub_types.specs.declared.kind.IntKind.TheVariants.{Int}
+use Rattle.csub_objects.specs.Types.{MemberTree, IsNumber}
+use Rattle.csub_semantics.specs.Trees.{NamedPlace, NamedExpr, NamedArg, local_owner, variable, object, temporary, constant, reading, unary_operation, conversion, stepping, operation, conjunction, disjunction, choice, assignment, update, input_byte, output_byte, value_argument}
+use Rattle.csub_semantics.specs.Labels.{LabelTree, enters, exits, evaluates, initialises, branches, returns, calls, AnswerTree, CallTree, InitTree, one_value}
+use Rattle.csub_semantics.specs.Syntax.{PartTree, FunctionTree, ProgramTree}
+use Rattle.csub_semantics.specs.Flows.{function_of}
+use Rattle.csub_validity.specs.declared.role.Role.{Role}
+use Rattle.csub_validity.specs.declared.role.Role.TheVariants.{Whole, Test, Effect}
+use Rattle.csub_validity.specs.Valid.{objects_of, label_result, stage_result, Scope, scope_of, result_of, IsRead, IsTarget, IsExpr, AreArgs, IsInit, temp_of, IsDefinedAs, IsCall, IsAnswer, IsLast, IsEarlier, AreStages, IsPart, AreOther}
+use Rattle.csub_flat.specs.Frames.{globals_of}
+use Rattle.csub_flat.specs.Fits.{HasPlace, FitsPlace, FitsExpr, FitsArg, FitsAnswer, FitsInit, FitsTemp, FitsCall, FitsLabel}
+use Rattle.csub_flat.proofs.Objects.{all_has, object_place, local_place, parameter_place, temporary_has}
+
+module _ (P : ProgramTree) (f : FunctionTree) where
+  -- a call with a result has its temporary within the frame
+  call_temp : (sc : Scope) (k : ℕ) (c : CallTree) (kind : IntKind) → IsCall P sc f.temps k c → c.result ≡ Some kind → k ≤ f.temps
+  call_temp sc k c kind h e = let t : c.temp ≡ Some k = h.temp ∙ ap (λ r. temp_of r k) e in subst (λ o. IfSome o (λ t. t ≤ f.temps)) t h.few
+
+  earlier_temp : (sc : Scope) (k : ℕ) (l : LabelTree) (kind : IntKind) → IsEarlier P f sc k l → label_result l ≡ Some kind → k ≤ f.temps
+  earlier_temp sc k (calls c) kind h e = call_temp sc k c kind h e
+  earlier_temp sc k enters kind h e = absurd h
+  earlier_temp sc k (exits rule) kind h e = absurd h
+  earlier_temp sc k (evaluates x) kind h e = absurd h
+  earlier_temp sc k (initialises owner t init) kind h e = absurd h
+  earlier_temp sc k (branches x) kind h e = absurd h
+  earlier_temp sc k (returns answer) kind h e = absurd h
+
+  last_temp : (sc : Scope) (role : Role) (k : ℕ) (l : LabelTree) (kind : IntKind) → IsLast P f sc role k l → label_result l ≡ Some kind → k ≤ f.temps
+  last_temp sc Whole k (calls c) kind h e = call_temp sc k c kind h e
+  last_temp sc Effect k (calls c) kind h e = call_temp sc k c kind h e
+  last_temp sc Test k (calls c) kind h e = absurd h
+  last_temp sc role k enters kind h e = cc
+  last_temp sc role k (exits rule) kind h e = cc
+  last_temp sc role k (evaluates x) kind h e = cc
+  last_temp sc role k (initialises owner t init) kind h e = cc
+  last_temp sc role k (branches x) kind h e = cc
+  last_temp sc role k (returns answer) kind h e = cc
+
+  -- each result of a part has its temporary within the frame
+  stages_temp : (sc : Scope) (role : Role) (k : ℕ) (ps : PartTree) (i : ℕ) (kind : IntKind) → AreStages P f sc role k ps → slice_get (map stage_result ps) i ≡ Some (Some kind) → k + i ≤ f.temps
+  stages_temp sc role k [] i kind h e = absurd h
+  stages_temp sc role k (s ∷ []) zero kind h e = let r : stage_result s ≡ Some kind = cc in let w = last_temp sc role k s.label kind h r in omega arith
+  stages_temp sc role k (s ∷ []) (suc i) kind h e = cc
+  stages_temp sc role k (s ∷ t ∷ rest) zero kind h e = let r : stage_result s ≡ Some kind = cc in let w = earlier_temp sc k s.label kind h.0 r in omega arith
+  stages_temp sc role k (s ∷ t ∷ rest) (suc i) kind h e = let w = stages_temp sc role (k + 1) (t ∷ rest) i kind h.1 e in omega arith
+
+  -- a temporary that may be read stands in the frame
+  pub result_temp : (role : Role) (p : PartTree) → IsPart P f role p → (n : ℕ) (kind : IntKind) → result_of (map stage_result p) n ≡ Some kind → (1 ≤ n) × (n ≤ f.temps)
+  result_temp role p h zero kind e = cc
+  result_temp role p h (suc i) kind e = pick (slice_get (map stage_result p) i) refl e
+    where
+      pick : (o : Option (Option IntKind)) → slice_get (map stage_result p) i ≡ o → option_and_then (λ r. r) o ≡ Some kind → (1 ≤ suc i) × (suc i ≤ f.temps)
+      pick None g e = cc
+      pick (Some r) g e =
+          let w = stages_temp (scope_of P f p) role 1 p i kind h (g ∙ ap Some e) in
+          (omega arith, omega arith)
+
+  module _ (pairs : AllPairs AreOther (objects_of f)) (p : PartTree) (temps : (n : ℕ) (kind : IntKind) → result_of (map stage_result p) n ≡ Some kind → (1 ≤ n) × (n ≤ f.temps)) where
+    abbrev sc : Scope
+    sc = scope_of P f p
+
+    place_fits : (k : ℕ) (q : NamedPlace) → IsRead sc k q → FitsPlace (globals_of P) f q
+    place_fits k (variable (object owner t)) h = (object_place P.globals f owner t h.0, h.1)
+    place_fits k (variable (temporary n kind)) h = let w = temps n kind h.0.1 in (temporary_has P.globals f n kind w.0 w.1, tt)
+
+    target_fits : (q : NamedPlace) → IsTarget sc q → FitsPlace (globals_of P) f q
+    target_fits (variable (object owner t)) h = (object_place P.globals f owner t h.0, h.1)
+    target_fits (variable (temporary n kind)) h = absurd h.0
+
+    pub expr_fits : (k : ℕ) (e : NamedExpr) → IsExpr sc k e → FitsExpr (globals_of P) f e
+    expr_fits k (constant kind v) h = tt
+    expr_fits k (reading q) h = place_fits k q h
+    expr_fits k (unary_operation op kind a) h = expr_fits k a h.1
+    expr_fits k (conversion kind a) h = expr_fits k a h
+    expr_fits k (stepping op q) h = target_fits q h
+    expr_fits k (operation op kind a b) h = (expr_fits k a h.1, expr_fits k b h.2)
+    expr_fits k (conjunction a b) h = (expr_fits k a h.0, expr_fits k b h.1)
+    expr_fits k (disjunction a b) h = (expr_fits k a h.0, expr_fits k b h.1)
+    expr_fits k (choice kind c a b) h = (expr_fits k c h.1, expr_fits k a h.2, expr_fits k b h.3)
+    expr_fits k (assignment q e) h = (target_fits q h.0, expr_fits k e h.1)
+    expr_fits k (update q op kind e) h = (target_fits q h.1, expr_fits k e h.2)
+    expr_fits k input_byte h = tt
+    expr_fits k (output_byte e) h = expr_fits k e h
+
+    args_fit : (k : ℕ) (params : List MemberTree) (args : List NamedArg) → AreArgs sc k params args → All (FitsArg (globals_of P) f) args
+    args_fit k [] [] h = All-nil (FitsArg (globals_of P) f)
+    args_fit k [] (a ∷ args) h = absurd h
+    args_fit k (q ∷ params) [] h = absurd h
+    args_fit k (q ∷ params) (value_argument e ∷ args) h = All-cons (FitsArg (globals_of P) f) (value_argument e) args (expr_fits k e h.0.1) (args_fit k params args h.1)
+
+    -- each parameter is a number
+    numbers : (k : ℕ) (params : List MemberTree) (args : List NamedArg) → AreArgs sc k params args → All (λ q. IsNumber q.ctype) params
+    numbers k [] [] h = All-nil (λ q. IsNumber q.ctype)
+    numbers k [] (a ∷ args) h = absurd h
+    numbers k (q ∷ params) [] h = absurd h
+    numbers k (q ∷ params) (value_argument e ∷ args) h = All-cons (λ r. IsNumber r.ctype) q params h.0.0 (numbers k params args h.1)
+
+    temp_fits : (k : ℕ) (r : Option IntKind) (o : Option ℕ) → 1 ≤ k → o ≡ temp_of r k → IfSome o (λ t. t ≤ f.temps) → FitsTemp (globals_of P) f o
+    temp_fits k None None low e few = tt
+    temp_fits k None (Some n) low e few = cc
+    temp_fits k (Some kind) None low e few = cc
+    temp_fits k (Some kind) (Some n) low e few = let same : n ≡ k = cc in temporary_has P.globals f n Int (omega arith) few
+
+    module _ (others : (g : FunctionTree) (a : _) → function_of P a ≡ Some g → AllPairs AreOther (objects_of g)) where
+      abbrev IsPlaced : FunctionTree → MemberTree → Type 0
+      IsPlaced g q = HasPlace (globals_of P) g (object (local_owner q.name 1) q.ctype)
+
+      call_fits : (k : ℕ) (c : CallTree) → 1 ≤ k → IsCall P sc f.temps k c → FitsCall P f c
+      call_fits k c low h = pick (function_of P c.callee) refl h.defined
+        where
+          pick : (o : Option FunctionTree) → function_of P c.callee ≡ o → IsDefinedAs o c → FitsCall P f c
+          pick None e d = absurd d
+          pick (Some g) e d = record {
+            callee = g;
+            defined = e;
+            same = d.0;
+            params =
+                let places = subst (λ (ps : List MemberTree). All (IsPlaced g) ps) d.0 (all_has (IsPlaced g) g.params (λ q i. parameter_place P.globals g q (others g c.callee e) i)) in
+                let each = numbers k c.params c.args h.args in
+                λ i q below. (places i q below, each i q below);
+            args = args_fit k c.params c.args h.args;
+            temp = temp_fits k c.result c.temp low h.temp h.few;
+          }
+
+      answer_fits : (k : ℕ) (r : Option IntKind) (a : Option AnswerTree) → IsAnswer sc k r a → FitsAnswer (globals_of P) f a
+      answer_fits k None None h = tt
+      answer_fits k None (Some a) h = absurd h
+      answer_fits k (Some kind) None h = absurd h
+      answer_fits k (Some kind) (Some a) h = expr_fits k a.value h.1
+
+      init_fits : (k : ℕ) (t : _) (init : InitTree) → IsInit sc k t init → FitsInit (globals_of P) f init
+      init_fits k t (one_value e) h = expr_fits k e h.1
+
+      init_number : (k : ℕ) (t : _) (init : InitTree) → IsInit sc k t init → IsNumber t
+      init_number k t (one_value e) h = h.0
+
+      pub last_fits : (role : Role) (k : ℕ) (l : LabelTree) → 1 ≤ k → IsLast P f sc role k l → FitsLabel P f l
+      last_fits Whole k (calls c) low h = call_fits k c low h
+      last_fits Whole k (evaluates e) low h = expr_fits k e h
+      last_fits Whole k (initialises owner t init) low h = ((local_place P.globals f owner t pairs h.0, init_number k t init h.1), init_fits k t init h.1)
+      last_fits Whole k (returns answer) low h = answer_fits k f.result answer h
+      last_fits Whole k enters low h = absurd h
+      last_fits Whole k (exits rule) low h = absurd h
+      last_fits Whole k (branches e) low h = absurd h
+      last_fits Test k (branches e) low h = expr_fits k e h
+      last_fits Test k enters low h = absurd h
+      last_fits Test k (exits rule) low h = absurd h
+      last_fits Test k (evaluates e) low h = absurd h
+      last_fits Test k (initialises owner t init) low h = absurd h
+      last_fits Test k (returns answer) low h = absurd h
+      last_fits Test k (calls c) low h = absurd h
+      last_fits Effect k (calls c) low h = call_fits k c low h
+      last_fits Effect k (evaluates e) low h = expr_fits k e h
+      last_fits Effect k (initialises owner t init) low h = ((local_place P.globals f owner t pairs h.0, init_number k t init h.1), init_fits k t init h.1)
+      last_fits Effect k enters low h = absurd h
+      last_fits Effect k (exits rule) low h = absurd h
+      last_fits Effect k (branches e) low h = absurd h
+      last_fits Effect k (returns answer) low h = absurd h

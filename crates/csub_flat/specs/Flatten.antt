@@ -1,0 +1,63 @@
+-- Flat copies: slots in place of names.
+use Rattle.std.specs.Prelude.{ℕ, List, [], ◌∷◌, Option, Some, None}
+use Rattle.csub_objects.specs.Types.{TypeTree, number_kind, MemberTree}
+use Rattle.csub_semantics.specs.Trees.{NamedPlace, NamedExpr, NamedArg, Variable, variable, object, temporary, OwnerTree, global_owner, local_owner}
+use Rattle.csub_semantics.specs.Trees.{constant, reading, unary_operation, conversion, stepping, operation, conjunction, disjunction, choice}
+use Rattle.csub_semantics.specs.Trees.{assignment, update, input_byte, output_byte, value_argument}
+use Rattle.csub_semantics.specs.Labels.{InitTree, one_value}
+use Rattle.csub_semantics.specs.Syntax.{LocalTree, FunctionTree}
+use Rattle.csub_validity.specs.Valid.{objects_of}
+use Rattle.csub_objects.specs.Paths.{Inside}
+use Rattle.csub_flat.specs.Frames.{objects_size, place_in, temporary_place, variable_place}
+use Rattle.csub_flat.specs.Trees.{FlatVariable, frame_slot, global_slot, FlatPlace, FlatExpr, FlatArg}
+
+-- a place's slot; in a valid program each has one
+abbrev pub slot_or : Option Inside → ℕ
+slot_or None = 0
+slot_or (Some x) = x.at
+
+-- the slot of a temporary of a function
+abbrev pub temp_slot : FunctionTree → ℕ → ℕ
+temp_slot f n = slot_or (temporary_place (objects_size (objects_of f)) f.temps n)
+
+-- a parameter of a function, the first object of its name
+abbrev pub flat_parameter : FunctionTree → MemberTree → FlatVariable
+flat_parameter f p = frame_slot (slot_or (place_in (objects_of f) p.name 1)) (number_kind p.ctype)
+
+-- what stands in a function, beside these globals
+module _ (gs : List LocalTree) (f : FunctionTree) where
+  abbrev pub flat_variable : Variable → FlatVariable
+  flat_variable (object (global_owner a) t) = global_slot (slot_or (variable_place gs f (object (global_owner a) t))) (number_kind t)
+  flat_variable (object (local_owner a n) t) = frame_slot (slot_or (variable_place gs f (object (local_owner a n) t))) (number_kind t)
+  flat_variable (temporary n k) = frame_slot (slot_or (variable_place gs f (temporary n k))) k
+
+  abbrev pub flat_place : NamedPlace → FlatPlace
+  flat_place (variable v) = variable (flat_variable v)
+
+  abbrev pub flattened : NamedExpr → FlatExpr
+  flattened (constant k v) = constant k v
+  flattened (reading p) = reading (flat_place p)
+  flattened (unary_operation op k a) = unary_operation op k (flattened a)
+  flattened (conversion k a) = conversion k (flattened a)
+  flattened (stepping op p) = stepping op (flat_place p)
+  flattened (operation op k a b) = operation op k (flattened a) (flattened b)
+  flattened (conjunction a b) = conjunction (flattened a) (flattened b)
+  flattened (disjunction a b) = disjunction (flattened a) (flattened b)
+  flattened (choice k c a b) = choice k (flattened c) (flattened a) (flattened b)
+  flattened (assignment p e) = assignment (flat_place p) (flattened e)
+  flattened (update p op k e) = update (flat_place p) op k (flattened e)
+  flattened input_byte = input_byte
+  flattened (output_byte e) = output_byte (flattened e)
+
+  abbrev pub flat_arg : NamedArg → FlatExpr
+  flat_arg (value_argument e) = flattened e
+
+  -- the arguments of a call, with the parameters of the callee
+  abbrev pub paired : FunctionTree → List MemberTree → List NamedArg → List FlatArg
+  paired callee [] args = []
+  paired callee (p ∷ params) [] = []
+  paired callee (p ∷ params) (a ∷ args) = record { param = flat_parameter callee p; value = flat_arg a } ∷ paired callee params args
+
+  -- an initialiser is an assignment (C11 6.7.9p11)
+  abbrev pub flat_init : OwnerTree → TypeTree → InitTree → FlatExpr
+  flat_init owner t (one_value e) = assignment (variable (flat_variable (object owner t))) (flattened e)

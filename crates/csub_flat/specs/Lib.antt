@@ -1,0 +1,9 @@
+pub mod Sites
+pub mod Frames
+pub mod Trees
+pub mod Flatten
+pub mod Fits
+pub mod Seen
+pub mod Globals
+pub mod Scopes
+pub mod Copies

@@ -1,0 +1,201 @@
+//! The flat copy of a label, made from the label and where it stands.
+ghost use Rattle.std.specs.Prelude.{◌≡◌, ◌≤◌, [], map, IfOk};
+ghost use Rattle.csub_objects.specs.Meaning.{type_tree, member_tree};
+ghost use Rattle.csub_semantics.specs.Trees.{object, temporary, owner_tree, place_tree, variable, expr_tree, arg_tree};
+ghost use Rattle.csub_semantics.specs.Labels.{init_tree};
+ghost use Rattle.csub_semantics.specs.Syntax.{function_tree};
+ghost use Rattle.csub_validity.specs.Valid.{objects_of};
+ghost use Rattle.csub_flat.specs.Frames.{place_in, frame_size};
+ghost use Rattle.csub_flat.specs.Flatten.{slot_or, flat_variable, flat_place, flattened, flat_parameter, flat_arg, paired, flat_init, temp_slot};
+ghost use Rattle.csub_flat.specs.Scopes.{globals_at, function_at};
+ghost use Rattle.csub_flat.specs.Seen.{variable_seen, expr_seen, arg_seen};
+
+use crate::flat::{FlatArg, FlatExpr, FlatVariable};
+use crate::places::{find_local, find_param, params_size};
+use crate::scope::Scope;
+use csub_objects::number_kind;
+use csub_semantics::{CType, Function, IntKind, Member, Owner, Place, RArg, RExpr, RInit, Text};
+use std::alloc::{AllocError, Global};
+
+/// The slot of an object in a frame of its function; 0 where there is no such object, as in no valid program.
+fn object_slot(function: &Function, name: &[u8], number: u32) -> u32
+    requires { frame_size (function_tree function.now) ≤ 4096 }
+    ensures { result ≡ slot_or (place_in (objects_of (function_tree function.now)) name.now number) }
+{
+    match find_param(&function.params, name, number) {
+        Some(slot) => slot,
+        None => match find_local(&function.locals, name, number) {
+            Some(slot) => params_size(&function.params) + slot,
+            None => 0,
+        },
+    }
+}
+
+/// The slot of a temporary in a frame of its function; 0 where there is no such temporary, as in no valid program.
+pub fn temporary_slot(scope: Scope<'_>, number: u32) -> u32
+    ensures { result ≡ temp_slot (function_at scope.entry) number }
+{
+    if number == 0 {
+        return 0;
+    }
+    if scope.function.temps < number {
+        return 0;
+    }
+    scope.first + (number - 1)
+}
+
+/// The slot of a global; 0 where there is no such global, as in no valid program.
+fn global_slot(scope: Scope<'_>, name: &Text) -> u32
+    ensures { result ≡ slot_or (place_in (globals_at scope.entry) name.now 0) }
+{
+    match scope.slots.get(name) {
+        Some(slot) => *slot,
+        None => 0,
+    }
+}
+
+/// An object with its slot.
+pub fn flatten_object(scope: Scope<'_>, owner: &Owner, ctype: &CType) -> FlatVariable
+    ensures { variable_seen result ≡ flat_variable (globals_at scope.entry) (function_at scope.entry) (object (owner_tree owner.now) (type_tree ctype.now)) }
+{
+    let kind = number_kind(ctype);
+    match owner {
+        Owner::Global(name) => FlatVariable::Global(global_slot(scope, name), kind),
+        Owner::Local(name, number) => {
+            FlatVariable::Frame(object_slot(scope.function, name.bytes(), *number), kind)
+        }
+    }
+}
+
+/// A temporary with its slot.
+pub fn flatten_temporary(scope: Scope<'_>, number: u32, kind: IntKind) -> FlatVariable
+    ensures { variable_seen result ≡ flat_variable (globals_at scope.entry) (function_at scope.entry) (temporary number kind) }
+{
+    FlatVariable::Frame(temporary_slot(scope, number), kind)
+}
+
+fn flatten_place(scope: Scope<'_>, place: &Place) -> FlatVariable
+    ensures { variable (variable_seen result) ≡ flat_place (globals_at scope.entry) (function_at scope.entry) (place_tree place.now) }
+{
+    let Place::Var(owner, ctype) = place;
+    flatten_object(scope, owner, ctype)
+}
+
+/// The flat copy of an expression. An `Err` is want of memory.
+#[cycle(flattening)]
+pub fn flatten_expr(alloc: Global, scope: Scope<'_>, expr: &RExpr) -> Result<FlatExpr, AllocError>
+    ensures { IfOk result (λ made. expr_seen made ≡ flattened (globals_at scope.entry) (function_at scope.entry) (expr_tree expr.now)) }
+{
+    match expr {
+        RExpr::Const(kind, value) => Ok(FlatExpr::Const(*kind, *value)),
+        RExpr::Getchar => Ok(FlatExpr::Getchar),
+        RExpr::Putchar(byte) => Ok(FlatExpr::Putchar(flatten_boxed(alloc, scope, byte)?)),
+        RExpr::Read(place) => Ok(FlatExpr::Read(flatten_place(scope, place))),
+        RExpr::Temp(number, kind) => {
+            Ok(FlatExpr::Read(flatten_temporary(scope, *number, *kind)))
+        }
+        RExpr::Step(op, place) => Ok(FlatExpr::Step(*op, flatten_place(scope, place))),
+        RExpr::Assign(place, value) => {
+            let target = flatten_place(scope, place);
+            Ok(FlatExpr::Assign(target, flatten_boxed(alloc, scope, value)?))
+        }
+        RExpr::Update(place, op, kind, value) => {
+            let target = flatten_place(scope, place);
+            Ok(FlatExpr::Update(target, *op, *kind, flatten_boxed(alloc, scope, value)?))
+        }
+        RExpr::Unary(op, kind, operand) => {
+            Ok(FlatExpr::Unary(*op, *kind, flatten_boxed(alloc, scope, operand)?))
+        }
+        RExpr::Cast(kind, operand) => {
+            Ok(FlatExpr::Cast(*kind, flatten_boxed(alloc, scope, operand)?))
+        }
+        RExpr::Binary(op, kind, left, right) => {
+            let new_left = flatten_boxed(alloc, scope, left)?;
+            Ok(FlatExpr::Binary(*op, *kind, new_left, flatten_boxed(alloc, scope, right)?))
+        }
+        RExpr::And(left, right) => {
+            let new_left = flatten_boxed(alloc, scope, left)?;
+            Ok(FlatExpr::And(new_left, flatten_boxed(alloc, scope, right)?))
+        }
+        RExpr::Or(left, right) => {
+            let new_left = flatten_boxed(alloc, scope, left)?;
+            Ok(FlatExpr::Or(new_left, flatten_boxed(alloc, scope, right)?))
+        }
+        RExpr::Choose(kind, test, left, right) => {
+            let new_test = flatten_boxed(alloc, scope, test)?;
+            let new_left = flatten_boxed(alloc, scope, left)?;
+            Ok(FlatExpr::Choose(
+                *kind,
+                new_test,
+                new_left,
+                flatten_boxed(alloc, scope, right)?,
+            ))
+        }
+    }
+}
+
+#[cycle(flattening)]
+fn flatten_boxed(alloc: Global, scope: Scope<'_>, expr: &RExpr) -> Result<Box<FlatExpr>, AllocError>
+    ensures { IfOk result (λ made. expr_seen made.value ≡ flattened (globals_at scope.entry) (function_at scope.entry) (expr_tree expr.now)) }
+{
+    let made = flatten_expr(alloc, scope, expr)?;
+    Ok(Box::new(alloc, made)?)
+}
+
+/// The flat copies of the arguments of a call, with the parameters of the callee. An `Err` is want of memory.
+pub fn flatten_args(
+    alloc: Global,
+    scope: Scope<'_>,
+    callee: &Function,
+    params: &[Member],
+    args: &[RArg],
+) -> Result<Vec<FlatArg>, AllocError>
+    requires { frame_size (function_tree callee.now) ≤ 4096 }
+    ensures { IfOk result (λ made. map arg_seen made.items ≡ paired (globals_at scope.entry) (function_at scope.entry) (function_tree callee.now) (map member_tree params.now) (map arg_tree args.now)) }
+{
+    let mut made = Vec::new(alloc);
+    let mut rest = args;
+    for param in params {
+        let [arg, others @ ..] = rest else {
+            return Ok(made);
+        };
+        made.push(flatten_arg(alloc, scope, callee, param, arg)?)?;
+        rest = others;
+    }
+    Ok(made)
+}
+
+fn flatten_arg(
+    alloc: Global,
+    scope: Scope<'_>,
+    callee: &Function,
+    param: &Member,
+    arg: &RArg,
+) -> Result<FlatArg, AllocError>
+    requires { frame_size (function_tree callee.now) ≤ 4096 }
+    ensures { IfOk result (λ made. arg_seen made ≡ record { param = flat_parameter (function_tree callee.now) (member_tree param.now); value = flat_arg (globals_at scope.entry) (function_at scope.entry) (arg_tree arg.now) }) }
+{
+    let RArg::Value(expr) = arg;
+    let slot = object_slot(callee, param.name.bytes(), 1);
+    let kind = number_kind(&param.ctype);
+    let value = flatten_expr(alloc, scope, expr)?;
+    Ok(FlatArg {
+        param: FlatVariable::Frame(slot, kind),
+        value,
+    })
+}
+
+/// The flat copy of an initialiser, as an assignment. An `Err` is want of memory.
+pub fn flatten_init(
+    alloc: Global,
+    scope: Scope<'_>,
+    owner: &Owner,
+    ctype: &CType,
+    init: &RInit,
+) -> Result<FlatExpr, AllocError>
+    ensures { IfOk result (λ made. expr_seen made ≡ flat_init (globals_at scope.entry) (function_at scope.entry) (owner_tree owner.now) (type_tree ctype.now) (init_tree init.now)) }
+{
+    let RInit::One(expr) = init;
+    let target = flatten_object(scope, owner, ctype);
+    Ok(FlatExpr::Assign(target, flatten_boxed(alloc, scope, expr)?))
+}

@@ -1,0 +1,21 @@
+//! Flat copies of programs: labels with numbered slots in place of the names of objects.
+//!
+//! The objects and the temporaries of a function have slots in its frame, one after another, and the objects of file
+//! scope have slots of their own in the same way (`specs/Frames`). A flat label is the label of a point with the slots of
+//! what it names (`specs/Trees`, `Flatten`), so that a run looks no name up.
+//!
+//! What is promised of the code: [`flatten_program`] gives for each point of a valid program a copy of its label, in
+//! which every object has its place in the frame of its function or among the globals, and the counts of slots of the
+//! globals and of the greatest frame (`IsFlatOf` of `specs/Copies`). Proofs above cite `proofs/LawsSites`, points and functions by their numbers and
+//! names, and `proofs/LawsOrder`, numbers in order.
+#![tactic(auto)]
+
+pub mod flat;
+mod flatten;
+mod globals;
+mod places;
+pub mod program;
+mod scope;
+
+pub use flat::{FlatArg, FlatCall, FlatExpr, FlatLabel, FlatVariable};
+pub use program::{FlatProgram, Sizes, first_slots, flatten_program};

@@ -1,0 +1,88 @@
+//! The slots of objects among others, one after another.
+ghost use Rattle.std.specs.Prelude.{◌≡◌, ◌&&◌, ◌≤◌, nat_eq, map, IfSome};
+ghost use Rattle.std.specs.Option.{option_map};
+ghost use Rattle.csub_objects.specs.Types.{cells};
+ghost use Rattle.csub_objects.specs.Meaning.{type_tree};
+ghost use Rattle.csub_objects.specs.Paths.{Inside};
+ghost use Rattle.csub_semantics.specs.Types.{name_eq};
+ghost use Rattle.csub_semantics.specs.Syntax.{local_tree};
+ghost use Rattle.csub_flat.specs.Frames.{place_in, objects_size, as_object};
+
+use csub_objects::{CType, cells};
+use csub_semantics::{LocalVar, Member};
+
+/// How many slots an object of a type has.
+pub fn slots_of(ctype: &CType) -> u32
+    requires { cells (type_tree ctype.now) ≤ 65536 }
+    ensures { result ≡ cells (type_tree ctype.now) }
+{
+    cells(ctype) as u32
+}
+
+/// The slot of a parameter among parameters.
+pub fn find_param(params: &[Member], name: &[u8], number: u32) -> Option<u32>
+    requires { objects_size (map as_object params.now) ≤ 4096 }
+    ensures within { IfSome result (λ slot. slot ≤ 4096) }
+    ensures place { result ≡ option_map (λ (x : Inside). x.at) (place_in (map as_object params.now) name.now number) }
+{
+    let mut slot = 0;
+    for param in params {
+        if is_param(param, name, number) {
+            return Some(slot);
+        }
+        slot += slots_of(&param.ctype);
+    }
+    None
+}
+
+fn is_param(param: &Member, name: &[u8], number: u32) -> bool
+    ensures { result ≡ (name_eq param.now.name name.now && nat_eq 1 number) }
+{
+    param.name.bytes() == name && number == 1
+}
+
+/// The slot of a local among locals.
+pub fn find_local(locals: &[LocalVar], name: &[u8], number: u32) -> Option<u32>
+    requires { objects_size (map local_tree locals.now) ≤ 4096 }
+    ensures within { IfSome result (λ slot. slot ≤ 4096) }
+    ensures place { result ≡ option_map (λ (x : Inside). x.at) (place_in (map local_tree locals.now) name.now number) }
+{
+    let mut slot = 0;
+    for local in locals {
+        if is_local(local, name, number) {
+            return Some(slot);
+        }
+        slot += slots_of(&local.ctype);
+    }
+    None
+}
+
+fn is_local(local: &LocalVar, name: &[u8], number: u32) -> bool
+    ensures { result ≡ (name_eq local.now.name name.now && nat_eq local.now.number number) }
+{
+    local.name.bytes() == name && local.number == number
+}
+
+/// How many slots parameters have.
+pub fn params_size(params: &[Member]) -> u32
+    requires { objects_size (map as_object params.now) ≤ 4096 }
+    ensures { result ≡ objects_size (map as_object params.now) }
+{
+    let mut size = 0;
+    for param in params {
+        size += slots_of(&param.ctype);
+    }
+    size
+}
+
+/// How many slots locals have.
+pub fn locals_size(locals: &[LocalVar]) -> u32
+    requires { objects_size (map local_tree locals.now) ≤ 4096 }
+    ensures { result ≡ objects_size (map local_tree locals.now) }
+{
+    let mut size = 0;
+    for local in locals {
+        size += slots_of(&local.ctype);
+    }
+    size
+}

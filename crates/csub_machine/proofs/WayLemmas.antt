@@ -1,0 +1,53 @@
+-- What a graph's answers say of where ways out lead.
+use Rattle.std.proofs.Common.{◌≡◌, ◌<◌, ◌∙◌, ℕ, length, Option, Some, None, refl, sym, ap}
+use Rattle.std.specs.Option.{option_map, IfNone}
+use Rattle.csub_objects.specs.Types.{Name}
+use Rattle.csub_semantics.specs.Syntax.{ProgramTree}
+use Rattle.csub_semantics.specs.Points.{PointTree, ExitTree}
+use Rattle.csub_semantics.specs.Flows.{Edge, point_list, edge_list, flow_of}
+use Rattle.csub_semantics.specs.Numbers.{Site, site, site_at, edge_at}
+use Rattle.csub_flat.specs.Sites.{place_of, LeadsNowhere}
+use Rattle.csub_flat.proofs.LawsSites.{place_is}
+use Rattle.csub_machine.specs.Ways.{LeadsTo}
+
+no_way : (f : Name) (o : Option PointTree) → ◌≡◌ {A = Option Site} None (option_map (site f) o) → o ≡ None
+no_way f None e = refl
+no_way f (Some q) e = cc
+
+no_edge : (s : Site) (x : ExitTree) (o : Option PointTree) → ◌≡◌ {A = Option Edge} None (option_map (λ q. record { function = s.function; from = s.point; exit = x }) o) → o ≡ None
+no_edge s x None e = refl
+no_edge s x (Some q) e = cc
+
+pub leads_nowhere : (P : ProgramTree) (n : ℕ) (x : ExitTree) → ◌≡◌ {A = Option Site} None (option_map (site (place_of P n).function) ((flow_of P).succ (place_of P n).function (place_of P n).point x)) → LeadsNowhere P n x
+leads_nowhere P n x e = no_way (place_of P n).function ((flow_of P).succ (place_of P n).function (place_of P n).point x) e
+
+pub crosses_nothing : (P : ProgramTree) (n : ℕ) (x : ExitTree)
+    → ◌≡◌ {A = Option Edge} None (option_map (λ q. record { function = (place_of P n).function; from = (place_of P n).point; exit = x }) ((flow_of P).succ (place_of P n).function (place_of P n).point x)) → LeadsNowhere P n x
+crosses_nothing P n x e = no_edge (place_of P n) x ((flow_of P).succ (place_of P n).function (place_of P n).point x) e
+
+pub leads_to : (P : ProgramTree) (n to edge : ℕ) (x : ExitTree) → to < length (point_list P) → edge < length (edge_list P)
+    → site_at P to ≡ option_map (site (place_of P n).function) ((flow_of P).succ (place_of P n).function (place_of P n).point x)
+    → edge_at P edge ≡ option_map (λ q. record { function = (place_of P n).function; from = (place_of P n).point; exit = x }) ((flow_of P).succ (place_of P n).function (place_of P n).point x)
+    → LeadsTo P n x (record { to = to; edge = edge })
+leads_to P n to edge x h l e g = step ((flow_of P).succ (place_of P n).function (place_of P n).point x) refl e g
+  where
+    step : (o : Option PointTree) → (flow_of P).succ (place_of P n).function (place_of P n).point x ≡ o
+        → site_at P to ≡ option_map (site (place_of P n).function) o
+        → edge_at P edge ≡ option_map (λ q. record { function = (place_of P n).function; from = (place_of P n).point; exit = x }) o
+        → LeadsTo P n x (record { to = to; edge = edge })
+    step None s e g = absurd (let k = sym (place_is P to h) ∙ e in let f : ⊥ = cc in f)
+    step (Some q) s e g =
+        let k = sym (place_is P to h) ∙ e in
+        let here : place_of P to ≡ site (place_of P n).function q = cc in
+        record {
+          point = h;
+          edge = l;
+          function = ap (λ (s : Site). s.function) here;
+          leads = s ∙ ap (λ (s : Site). Some s.point) (sym here);
+          crosses = g;
+        }
+
+-- what holds anyway holds where there is nothing
+pub if_none : {A : Type 0} {X : Type 0} (o : Option A) → X → IfNone o X
+if_none None x = x
+if_none (Some a) x = tt

@@ -1,0 +1,98 @@
+-- What bounds frames, arguments and slots.
+use Rattle.std.proofs.Common.{int_eq, pos, ◌≡◌, ◌≤◌, ◌<◌, ◌+◌, ◌*◌, ℕ, ℤ, List, [], ◌∷◌, ◌++◌, length, replicate, All, Bool, true, false, Option, Some, None, nat_le, if◌then◌else◌, refl, ap, sym, subst, arith}
+use Rattle.std.proofs.lemmas.Bool.{leb-false}
+use Rattle.csub_types.specs.Kinds.{convert}
+use Rattle.csub_semantics.specs.declared.label.EndRule.{EndRule}
+use Rattle.csub_semantics.specs.declared.status.Status.TheVariants.{Exit, Trap}
+use Rattle.csub_semantics.specs.Trees.{reading, variable, NamedArg}
+use Rattle.csub_semantics.specs.Points.{next, on_true, on_false}
+use Rattle.csub_semantics.specs.Evaluation.{eval}
+use Rattle.csub_flat.specs.Trees.{FlatVariable, FlatCall, FlatLabel, goes_on, leaves_by, does, tests, answers, enters_callee}
+use Rattle.csub_slots.specs.Memory.{flat}
+use Rattle.std.proofs.lemmas.List.Elements.{All-head, All-tail}
+use Rattle.csub_types.specs.declared.trap.Trap.TheVariants.{Depth}
+use Rattle.csub_objects.specs.Types.{MemberTree}
+use Rattle.csub_semantics.specs.Labels.{LabelTree, enters, exits, evaluates, initialises, branches, returns, calls}
+use Rattle.csub_semantics.specs.Syntax.{LocalTree, FunctionTree, ProgramTree}
+use Rattle.csub_semantics.specs.Memory.{Answer, value, trapped, low_byte}
+use Rattle.csub_semantics.specs.Acts.{most_frames}
+use Rattle.csub_semantics.specs.declared.label.EndRule.TheVariants.{Nothing, Value, Main, Start}
+use Rattle.csub_validity.specs.Valid.{IsValid, most_parameters}
+use Rattle.csub_flat.proofs.LawsSites.{found_has}
+use Rattle.csub_slots.specs.Layout.{empty, live_size}
+use Rattle.csub_flat.specs.Frames.{objects_size, frame_size, globals_of}
+use Rattle.csub_flat.specs.Fits.{FitsLabel, FitsCall}
+use Rattle.csub_slots.specs.Acts.{FlatStore, FlatOutcome, leaves, pushes, pops, ends, flat_after, flat_arguments, flat_entered, flat_exit, flat_act}
+use Rattle.csub_flat.specs.Flatten.{paired}
+use Rattle.csub_flat.specs.Copies.{IsFlatCall, IsFlat}
+use Rattle.csub_slots.specs.States.{FitsMost}
+
+-- live frames have room for the greatest each
+pub live_room : (gs : List LocalTree) (fs : List FunctionTree) (most : ℕ) → All (λ f. frame_size f ≤ most) fs → live_size gs fs ≤ objects_size gs + length fs * most
+live_room gs [] most h = omega arith
+live_room gs (f ∷ below) most h =
+    let Q : FunctionTree → Type 0 = λ f. frame_size f ≤ most in
+    let one : frame_size f ≤ most = All-head Q f below h in
+    let rest = live_room gs below most (All-tail Q f below h) in
+    grind arith
+
+paired_few : (gs : List LocalTree) (f g : FunctionTree) (params : List MemberTree) (args : List NamedArg) → length (paired gs f g params args) ≤ length params
+paired_few gs f g [] args = omega arith
+paired_few gs f g (p ∷ params) [] = omega arith
+paired_few gs f g (p ∷ params) (a ∷ args) = let h = paired_few gs f g params args in omega arith
+
+module _ (P : ProgramTree) (f : FunctionTree) (most : ℕ) (valid : IsValid P) (sizes : All (λ f. frame_size f ≤ most) P.functions) where
+  call_most : (c : _) (d : FlatCall) → FitsCall P f c → IsFlatCall P f c d → FitsMost most (enters_callee d)
+  call_most c d fit copy =
+      let size : frame_size copy.callee ≤ most = found_has P (λ g. frame_size g ≤ most) c.callee copy.callee sizes copy.defined in
+      let params : length fit.callee.params ≤ most_parameters = found_has P (λ g. length g.params ≤ most_parameters) c.callee fit.callee valid.parameters fit.defined in
+      let same : length fit.callee.params ≡ length c.params = ap length fit.same in
+      let few = paired_few (globals_of P) f copy.callee c.params c.args in
+      let args = ap length copy.args in
+      let e = copy.size in
+      (omega arith, omega arith)
+
+  -- a call of a valid program has a frame no larger than the greatest, and at most 16 arguments
+  pub fits_most : (l : LabelTree) (m : FlatLabel) → FitsLabel P f l → IsFlat P f l m → FitsMost most m
+  fits_most enters m fit copy = subst (FitsMost most) (sym copy) tt
+  fits_most (exits rule) m fit copy = subst (FitsMost most) (sym copy) tt
+  fits_most (evaluates e) m fit copy = subst (FitsMost most) (sym copy) tt
+  fits_most (initialises owner t init) m fit copy = subst (FitsMost most) (sym copy) tt
+  fits_most (branches e) m fit copy = subst (FitsMost most) (sym copy) tt
+  fits_most (returns None) m fit copy = subst (FitsMost most) (sym copy) tt
+  fits_most (returns (Some a)) m fit copy = subst (FitsMost most) (sym copy) tt
+  fits_most (calls c) m fit copy = subst (FitsMost most) (sym copy.1) (call_most c copy.0 fit copy.2)
+
+-- only where fewer than 256 frames stand does one come on top
+abbrev pub PushesBelow : ℕ → FlatOutcome → Type 0
+PushesBelow n (leaves x r s) = Unit {0}
+PushesBelow n (pushes e b s) = n < most_frames
+PushesBelow n (pops r s) = Unit {0}
+PushesBelow n (ends t s) = Unit {0}
+
+after_few : {X : Type 0} (n : ℕ) (a : Answer X FlatStore) (go : X → FlatStore → FlatOutcome) → ((x : X) (s : FlatStore) → PushesBelow n (go x s)) → PushesBelow n (flat_after a go)
+after_few n (value x s) go h = h x s
+after_few n (trapped t s) go h = tt
+
+depth_few : (n e b : ℕ) (t u : FlatStore) (deep : Bool) → nat_le most_frames n ≡ deep → PushesBelow n (if deep then ends (Trap Depth) t else pushes e b u)
+depth_few n e b t u true h = tt
+depth_few n e b t u false h = leb-false most_frames n h
+
+exit_few : (n : ℕ) (rule : EndRule) (v : FlatVariable) (base : ℕ) (r : Option ℤ) (s : FlatStore) → PushesBelow n (flat_exit rule v base r s)
+exit_few n Nothing v base r s = tt
+exit_few n Value v base None s = tt
+exit_few n Value v base (Some w) s = tt
+exit_few n Main v base None s = tt
+exit_few n Main v base (Some w) s = tt
+exit_few n Start v base r s = after_few n (eval (flat base) (reading (variable v)) s) (λ w t. ends (Exit (low_byte w)) t) (λ w t. tt)
+
+-- and so by each act
+pub act_few : (m : FlatLabel) (n base : ℕ) (r : Option ℤ) (s : FlatStore) → PushesBelow n (flat_act m n base r s)
+act_few goes_on n base r s = tt
+act_few (leaves_by rule v) n base r s = exit_few n rule v base r s
+act_few (does e) n base r s = after_few n (eval (flat base) e s) (λ v t. leaves next r t) (λ v t. tt)
+act_few (tests e) n base r s = after_few n (eval (flat base) e s) (λ v t. leaves (if int_eq v (pos 0) then on_false else on_true) r t) (λ v t. tt)
+act_few (answers k e) n base r s = after_few n (eval (flat base) e s) (λ v t. leaves next (Some (convert k v)) t) (λ v t. tt)
+act_few (enters_callee c) n base r s =
+    after_few n (flat_arguments base c.args s) (λ vs t. if nat_le most_frames n then ends (Trap Depth) t else pushes c.entry (length t.cells) (record t { cells = flat_entered (length t.cells) c.args vs (t.cells ++ replicate c.size empty) }))
+    (λ vs t. depth_few n c.entry (length t.cells) t _ (nat_le most_frames n) refl)

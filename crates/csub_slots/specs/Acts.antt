@@ -1,0 +1,88 @@
+-- What is done at a point, over slots.
+use Rattle.std.specs.Prelude.{ℕ, ◌+◌, ◌++◌, ℤ, pos, List, [], ◌∷◌, length, take, replicate, slice_set, Option, Some, None, nat_le}
+use Rattle.std.specs.Prelude.{if◌then◌else◌}
+use Rattle.std.specs.Ordering.{int_eq}
+use Rattle.csub_types.specs.declared.trap.Trap.TheVariants.{Depth, Missing}
+use Rattle.csub_types.specs.Kinds.{convert}
+use Rattle.csub_semantics.specs.declared.label.EndRule.{EndRule}
+use Rattle.csub_semantics.specs.declared.label.EndRule.TheVariants.{Nothing, Value, Main, Start}
+use Rattle.csub_semantics.specs.declared.status.Status.{Status}
+use Rattle.csub_semantics.specs.declared.status.Status.TheVariants.{Exit, Trap}
+use Rattle.csub_semantics.specs.Trees.{reading, variable}
+use Rattle.csub_semantics.specs.Points.{ExitTree, next, on_true, on_false}
+use Rattle.csub_semantics.specs.Memory.{State, Answer, value, trapped, then_do, low_byte}
+use Rattle.csub_semantics.specs.Evaluation.{eval}
+use Rattle.csub_semantics.specs.Acts.{most_frames}
+use Rattle.csub_slots.specs.Layout.{Slot, empty, holding}
+use Rattle.csub_flat.specs.Trees.{FlatVariable, variable_kind, FlatArg, FlatCall, FlatLabel, goes_on, leaves_by, does, tests, answers, enters_callee}
+use Rattle.csub_slots.specs.Memory.{flat_spot, flat}
+
+-- input left, output so far and slots
+abbrev pub FlatStore : Type 0
+FlatStore = State (List Slot)
+
+-- what an act leads to
+pub data FlatOutcome : Type 0 where
+  -- control leaves along a way out; the frame has this result from now on
+  leaves : ExitTree → Option ℤ → FlatStore → FlatOutcome
+  -- a frame at this entry comes on top, whose slots begin there
+  pushes : ℕ → ℕ → FlatStore → FlatOutcome
+  -- the top frame goes, with its result
+  pops : Option ℤ → FlatStore → FlatOutcome
+  -- the run ends
+  ends : Status → FlatStore → FlatOutcome
+
+-- goes on with a value; a trap ends the run
+abbrev pub flat_after : {X : Type 0} → Answer X FlatStore → (X → FlatStore → FlatOutcome) → FlatOutcome
+flat_after (value v s) go = go v s
+flat_after (trapped t s) go = ends (Trap t) s
+
+-- what an argument gives to its parameter, converted to the declared kind (C11 6.5.2.2)
+abbrev pub flat_argument : ℕ → FlatArg → FlatStore → Answer ℤ FlatStore
+flat_argument base a s = then_do (eval (flat base) a.value s) (λ v t. value (convert (variable_kind a.param) v) t)
+
+-- the arguments of a call, from left to right
+abbrev pub flat_arguments : ℕ → List FlatArg → FlatStore → Answer (List ℤ) FlatStore
+flat_arguments base [] s = value [] s
+flat_arguments base (a ∷ args) s = then_do (flat_argument base a s) (λ v t. then_do (flat_arguments base args t) (λ vs u. value (v ∷ vs) u))
+
+-- parameters get their numbers, in order
+abbrev pub flat_entered : ℕ → List FlatArg → List ℤ → List Slot → List Slot
+flat_entered base [] vs slots = slots
+flat_entered base (a ∷ args) [] slots = slots
+flat_entered base (a ∷ args) (v ∷ vs) slots = flat_entered base args vs (slice_set slots (flat_spot base a.param).slot (holding v))
+
+-- a call where n frames stand: its arguments, then the trap `depth` or a frame of empty slots with its parameters
+abbrev pub flat_call : FlatCall → ℕ → ℕ → FlatStore → FlatOutcome
+flat_call c n base s =
+    flat_after (flat_arguments base c.args s)
+    (λ vs t. if nat_le most_frames n then ends (Trap Depth) t
+    else pushes c.entry (length t.cells) (record t { cells = flat_entered (length t.cells) c.args vs (t.cells ++ replicate c.size empty) }))
+
+-- the top frame goes with its slots
+abbrev pub flat_leave : ℕ → Option ℤ → FlatStore → FlatOutcome
+flat_leave base r s = pops r (record s { cells = take base s.cells })
+
+-- the end of a function; that of `#start` has its first temporary, which holds what `main` gave
+abbrev pub flat_exit : EndRule → FlatVariable → ℕ → Option ℤ → FlatStore → FlatOutcome
+flat_exit Nothing v base r s = flat_leave base r s
+flat_exit Value v base None s = ends (Trap Missing) s
+flat_exit Value v base (Some w) s = flat_leave base (Some w) s
+flat_exit Main v base None s = flat_leave base (Some (pos 0)) s
+flat_exit Main v base (Some w) s = flat_leave base (Some w) s
+flat_exit Start v base r s = flat_after (eval (flat base) (reading (variable v)) s) (λ w t. ends (Exit (low_byte w)) t)
+
+-- the act of a label for the top one of n frames, whose slots begin at a base, and which has this result
+abbrev pub flat_act : FlatLabel → ℕ → ℕ → Option ℤ → FlatStore → FlatOutcome
+flat_act goes_on n base r s = leaves next r s
+flat_act (leaves_by rule v) n base r s = flat_exit rule v base r s
+flat_act (does e) n base r s = flat_after (eval (flat base) e s) (λ v t. leaves next r t)
+flat_act (tests e) n base r s = flat_after (eval (flat base) e s) (λ v t. leaves (if int_eq v (pos 0) then on_false else on_true) r t)
+flat_act (answers k e) n base r s = flat_after (eval (flat base) e s) (λ v t. leaves next (Some (convert k v)) t)
+flat_act (enters_callee c) n base r s = flat_call c n base s
+
+-- a result goes into the temporary's slot
+abbrev pub flat_result : ℕ → Option ℕ → Option ℤ → FlatStore → FlatStore
+flat_result base None r s = s
+flat_result base (Some k) None s = s
+flat_result base (Some k) (Some v) s = record s { cells = slice_set s.cells (base + k) (holding v) }

@@ -1,0 +1,7 @@
+pub mod Layout
+pub mod Begins
+pub mod Memory
+pub mod Acts
+pub mod Like
+pub mod Seen
+pub mod States

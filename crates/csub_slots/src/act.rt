@@ -1,0 +1,212 @@
+//! The acts of flat labels. Nothing here takes memory.
+ghost use Rattle.std.specs.Prelude.{ℕ, ◌≡◌, ◌+◌, ◌*◌, ◌<◌, ◌≤◌, ◌++◌, [], ◌∷◌, length, map, take, replicate, vec_len, vec_capacity};
+ghost use Rattle.csub_semantics.specs.declared.label.EndRule.{EndRule as Rule};
+ghost use Rattle.csub_slots.specs.Layout as layout;
+ghost use Rattle.csub_slots.specs.Acts.{flat_act, flat_call, flat_exit, flat_arguments, flat_entered, flat_result};
+ghost use Rattle.csub_flat.specs.Seen.{variable_seen, arg_seen, call_seen, label_seen};
+ghost use Rattle.csub_slots.specs.Seen.{slot_seen};
+ghost use Rattle.csub_slots.specs.States.{state_of, Gives, Acts, Keeps, FitsMost};
+
+use crate::eval::{eval, locate, put_at, read};
+use crate::slot::Slot;
+use crate::store::Store;
+use csub_flat::{FlatArg, FlatCall, FlatLabel, FlatVariable};
+use csub_semantics::{EndRule, ExitLabel, Status, Trap};
+use csub_types::kind::convert;
+
+/// How many frames a run may have.
+const MOST_FRAMES: u32 = 256;
+
+/// What an act leads to, but for a trap.
+#[derive(Drop)]
+pub enum Outcome {
+    /// Control leaves along a way out; the frame has this result from now on.
+    Leaves(ExitLabel, Option<i64>),
+    /// A frame comes on top, at this entry, with its slots from a base on.
+    Pushes(u32, u32),
+    /// The top frame goes, with its result.
+    Pops(Option<i64>),
+    /// The run ends.
+    Ends(Status),
+}
+
+/// The act of a label for the top one of so many frames, whose slots begin at a base, and which has this result.
+pub fn act(
+    store: &mut Store,
+    label: &FlatLabel,
+    count: u32,
+    base: u32,
+    answer: Option<i64>,
+) -> Result<Outcome, Trap>
+    requires few { count ≤ 256 }
+    requires room { length store.old.slots.items ≤ store.old.sizes.globals + count * store.old.sizes.most }
+    requires fits { FitsMost store.old.sizes.most (label_seen label.now) }
+    ensures value { Acts (flat_act (label_seen label.now) count base answer (state_of store.old)) result (state_of store.new) }
+    ensures input { store.new.input.items ≡ store.old.input.items }
+    ensures sizes { store.new.sizes ≡ store.old.sizes }
+{
+    match label {
+        FlatLabel::Next => Ok(Outcome::Leaves(ExitLabel::Next, answer)),
+        FlatLabel::Exit(rule, variable) => act_exit(store, *rule, *variable, base, answer),
+        FlatLabel::Eval(expr) => {
+            eval(store, base, expr)?;
+            Ok(Outcome::Leaves(ExitLabel::Next, answer))
+        }
+        FlatLabel::Branch(expr) => {
+            let value = eval(store, base, expr)?;
+            let exit = if value == 0 {
+                ExitLabel::False
+            } else {
+                ExitLabel::True
+            };
+            Ok(Outcome::Leaves(exit, answer))
+        }
+        FlatLabel::Return(kind, expr) => {
+            let given = eval(store, base, expr)?;
+            Ok(Outcome::Leaves(ExitLabel::Next, Some(convert(*kind, given))))
+        }
+        FlatLabel::Call(call) => act_call(store, call, count, base),
+    }
+}
+
+/// The act at the end of a function.
+fn act_exit(
+    store: &mut Store,
+    rule: EndRule,
+    first: FlatVariable,
+    base: u32,
+    answer: Option<i64>,
+) -> Result<Outcome, Trap>
+    ensures value { Acts (flat_exit rule (variable_seen first) base answer (state_of store.old)) result (state_of store.new) }
+    ensures input { store.new.input.items ≡ store.old.input.items }
+    ensures sizes { store.new.sizes ≡ store.old.sizes }
+{
+    let given = match rule {
+        EndRule::Nothing => answer,
+        EndRule::Value => match answer {
+            None => return Err(Trap::Missing),
+            Some(value) => Some(value),
+        },
+        EndRule::Main => match answer {
+            None => Some(0),
+            Some(value) => Some(value),
+        },
+        EndRule::Start => {
+            let value = read(store, base, first)?;
+            return Ok(Outcome::Ends(Status::Exit(value.rem_euclid(256) as u8)));
+        }
+    };
+    leave(store, base);
+    Ok(Outcome::Pops(given))
+}
+
+/// The slots from a base on go.
+fn leave(store: &mut Store, base: u32)
+    ensures value { state_of store.new ≡ record (state_of store.old) { cells = take base (map slot_seen store.old.slots.items) } }
+    ensures input { store.new.input.items ≡ store.old.input.items }
+    ensures sizes { store.new.sizes ≡ store.old.sizes }
+{
+    store.slots.truncate(base as usize);
+}
+
+/// The act of a call, where so many frames stand: its arguments, then a frame with its parameters.
+fn act_call(store: &mut Store, call: &FlatCall, count: u32, base: u32) -> Result<Outcome, Trap>
+    requires few { count ≤ 256 }
+    requires room { length store.old.slots.items ≤ store.old.sizes.globals + count * store.old.sizes.most }
+    requires size { call.now.size ≤ store.old.sizes.most }
+    requires args { length (map arg_seen call.now.args.items) ≤ 16 }
+    ensures value { Acts (flat_call (call_seen call.now) count base (state_of store.old)) result (state_of store.new) }
+    ensures input { store.new.input.items ≡ store.old.input.items }
+    ensures sizes { store.new.sizes ≡ store.old.sizes }
+{
+    eval_args(store, base, &call.args)?;
+    if MOST_FRAMES <= count {
+        return Err(Trap::Depth);
+    }
+    let begin = store.slots.len() as u32;
+    enter(store, call.size, &call.args, count);
+    Ok(Outcome::Pushes(call.entry, begin))
+}
+
+/// What the arguments of a call give to its parameters, from left to right, goes into the store's values.
+fn eval_args(store: &mut Store, base: u32, args: &[FlatArg]) -> Result<(), Trap>
+    requires { length (map arg_seen args.now) ≤ 16 }
+    ensures value { Gives (λ _. store.new.values.items) (flat_arguments base (map arg_seen args.now) (state_of store.old)) result (state_of store.new) }
+    ensures input { store.new.input.items ≡ store.old.input.items }
+    ensures sizes { store.new.sizes ≡ store.old.sizes }
+    ensures count { length store.new.slots.items ≡ length store.old.slots.items }
+{
+    store.values.clear();
+    for arg in args {
+        let value = eval(store, base, &arg.value)?;
+        push_value(&mut store.values, convert(arg.param.kind(), value));
+    }
+    Ok(())
+}
+
+/// One more value, for which there is room.
+fn push_value(values: &mut Vec<i64>, value: i64)
+    requires { vec_len values.old < vec_capacity values.old }
+    ensures items { values.new.items ≡ values.old.items ++ value ∷ [] }
+    ensures len { vec_len values.new ≡ vec_len values.old + 1 }
+    ensures capacity { vec_capacity values.old ≤ vec_capacity values.new }
+{
+    values.push(value).unwrap();
+}
+
+/// A frame comes on top of so many others, with the store's values in its parameters.
+fn enter(store: &mut Store, size: u32, args: &[FlatArg], count: u32)
+    requires few { count < 256 }
+    requires room { length store.old.slots.items ≤ store.old.sizes.globals + count * store.old.sizes.most }
+    requires size { size ≤ store.old.sizes.most }
+    ensures value { state_of store.new ≡ record (state_of store.old) { cells = flat_entered (length (map slot_seen store.old.slots.items)) (map arg_seen args.now) store.old.values.items (map slot_seen store.old.slots.items ++ replicate size layout.empty) } }
+    ensures input { store.new.input.items ≡ store.old.input.items }
+    ensures sizes { store.new.sizes ≡ store.old.sizes }
+{
+    let begin = store.slots.len();
+    grow(&mut store.slots, size as usize);
+    fill(store, begin, args);
+}
+
+/// More slots, for which there is room, and which are empty.
+pub fn grow(slots: &mut Vec<Slot>, size: usize)
+    requires { vec_len slots.old + size ≤ vec_capacity slots.old }
+    ensures items { map slot_seen slots.new.items ≡ map slot_seen slots.old.items ++ replicate size layout.empty }
+    ensures capacity { vec_capacity slots.old ≤ vec_capacity slots.new }
+{
+    let begin = slots.len();
+    slots.resize(begin + size, Slot::Empty).unwrap();
+}
+
+/// Parameters get the store's values, in order.
+fn fill(store: &mut Store, base: usize, args: &[FlatArg])
+    requires base { base ≤ length store.old.slots.items }
+    requires small { base ≤ 4294967295 }
+    ensures value { state_of store.new ≡ record (state_of store.old) { cells = flat_entered base (map arg_seen args.now) store.old.values.items (map slot_seen store.old.slots.items) } }
+    ensures input { store.new.input.items ≡ store.old.input.items }
+    ensures sizes { store.new.sizes ≡ store.old.sizes }
+{
+    for i in 0..args.len() {
+        if store.values.len() <= i {
+            return;
+        }
+        let value = store.values[i];
+        let slot = locate(base, args[i].param);
+        put_at(store, slot, value);
+    }
+}
+
+/// A result goes into the slot of a temporary of the frame whose slots begin at a base, where there are both.
+pub fn put_result(store: &mut Store, base: u32, temp: Option<u32>, given: Option<i64>)
+    ensures value { state_of store.new ≡ flat_result base temp given (state_of store.old) }
+    ensures input { store.new.input.items ≡ store.old.input.items }
+    ensures sizes { store.new.sizes ≡ store.old.sizes }
+{
+    let Some(slot) = temp else {
+        return;
+    };
+    let Some(value) = given else {
+        return;
+    };
+    put_at(store, base as usize + slot as usize, value);
+}

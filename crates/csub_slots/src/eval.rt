@@ -1,0 +1,230 @@
+//! What expressions give, over slots. Nothing here takes memory.
+ghost use Rattle.std.specs.Prelude.{◌≡◌, ◌≤◌, ◌+◌, map, length, pos, slice_index_or, slice_set, Ok};
+ghost use Rattle.csub_types.specs.Kinds.{promote, convert};
+ghost use Rattle.csub_types.specs.Arithmetic.{unary, binary};
+ghost use Rattle.csub_semantics.specs.Trees.{stepping, update, output_byte, variable};
+ghost use Rattle.csub_semantics.specs.Memory.{value, then_do, get_byte, put_byte, low_byte};
+ghost use Rattle.csub_semantics.specs.Evaluation as the;
+ghost use Rattle.csub_semantics.specs.Evaluation.{right_operand, computed, computed_unary, is_nonzero, eval, fetch};
+ghost use Rattle.csub_slots.specs.Layout as layout;
+ghost use Rattle.csub_slots.specs.Memory.{flat, flat_slot, flat_spot};
+ghost use Rattle.csub_flat.specs.Seen.{variable_seen, expr_seen};
+ghost use Rattle.csub_slots.specs.Seen.{slot_seen};
+ghost use Rattle.csub_slots.specs.States.{state_of, Gives, same, nothing, Keeps};
+
+use crate::slot::Slot;
+use crate::store::Store;
+use csub_flat::{FlatExpr, FlatVariable};
+use csub_semantics::{BinOp, IntKind, StepOp, Trap, UnaryOp};
+use csub_types::arithmetic::{binary, unary};
+use csub_types::kind::{convert, promote};
+
+/// How many bytes a run may write.
+const MOST_OUTPUT: usize = 16_384;
+
+/// An operation in a kind, to which its operands are converted first.
+fn compute(op: BinOp, kind: IntKind, left: i64, right: i64) -> Result<i64, Trap>
+    ensures { result ≡ binary op (promote kind) (convert (promote kind) left) (right_operand op (promote kind) right) }
+{
+    let promoted = promote(kind);
+    let operand = match op {
+        BinOp::Shl | BinOp::Shr => right,
+        _ => convert(promoted, right),
+    };
+    binary(op, promoted, convert(promoted, left), operand)
+}
+
+/// The same of one operand.
+fn compute_unary(op: UnaryOp, kind: IntKind, operand: i64) -> Result<i64, Trap>
+    ensures { result ≡ unary op (promote kind) (convert (promote kind) operand) }
+{
+    let promoted = promote(kind);
+    unary(op, promoted, convert(promoted, operand))
+}
+
+/// The slot at a place; behind the last one nothing.
+fn slot_at(slots: &[Slot], at: usize) -> Slot
+    ensures { slot_seen result ≡ slice_index_or (map slot_seen slots.now) at layout.empty }
+{
+    if at < slots.len() {
+        slots[at]
+    } else {
+        Slot::Empty
+    }
+}
+
+/// Puts a number into a slot.
+fn set_slot(slots: &mut [Slot], at: usize, value: i64)
+    ensures { map slot_seen slots.new ≡ slice_set (map slot_seen slots.old) at (layout.holding value) }
+{
+    if at < slots.len() {
+        slots[at] = Slot::Holding(value);
+    }
+}
+
+/// A number goes into a slot.
+pub fn put_at(store: &mut Store, at: usize, value: i64)
+    ensures value { state_of store.new ≡ record (state_of store.old) { cells = slice_set (map slot_seen store.old.slots.items) at (layout.holding value) } }
+    ensures kept { Keeps store.old store.new }
+{
+    set_slot(store.slots.as_mut_slice(), at, value);
+}
+
+/// Where a variable is among the slots, for the frame whose slots begin at a base.
+pub fn locate(base: usize, variable: FlatVariable) -> usize
+    requires { base ≤ 4294967295 }
+    ensures { result ≡ flat_slot base (variable_seen variable) }
+{
+    match variable {
+        FlatVariable::Frame(slot, _) => base + slot as usize,
+        FlatVariable::Global(slot, _) => slot as usize,
+    }
+}
+
+/// The next byte of the input, or -1 at its end (C11 7.21.7.6).
+fn next_byte(store: &mut Store) -> i64
+    ensures value { get_byte (state_of store.old) (state_of store.old).input ≡ value result (state_of store.new) }
+    ensures kept { Keeps store.old store.new }
+{
+    if store.place < store.input.len() {
+        let byte = store.input[store.place];
+        store.place += 1;
+        i64::from(byte)
+    } else {
+        -1
+    }
+}
+
+/// Writes a byte, for which there is room; past 16,384 bytes it is the trap `flood`.
+fn write_byte(store: &mut Store, byte: u8) -> Result<(), Trap>
+    ensures value { Gives nothing (put_byte byte (state_of store.old)) result (state_of store.new) }
+    ensures kept { Keeps store.old store.new }
+{
+    if store.output.len() < MOST_OUTPUT {
+        store.output.push(byte).unwrap();
+        Ok(())
+    } else {
+        Err(Trap::Flood)
+    }
+}
+
+/// Writes the low 8 bits of a number, and gives them as an unsigned byte.
+fn write_low(store: &mut Store, number: i64) -> Result<i64, Trap>
+    ensures value { Gives same (then_do (put_byte (low_byte number) (state_of store.old)) (λ x u. value (pos (low_byte number)) u)) result (state_of store.new) }
+    ensures kept { Keeps store.old store.new }
+{
+    let byte = number.rem_euclid(256) as u8;
+    write_byte(store, byte)?;
+    Ok(i64::from(byte))
+}
+
+/// The number in a variable of the frame at a base.
+pub fn read(store: &Store, base: u32, variable: FlatVariable) -> Result<i64, Trap>
+    ensures { Gives same (fetch (flat base) (flat_spot base (variable_seen variable)) (state_of store.now)) result (state_of store.now) }
+{
+    match slot_at(store.slots.as_slice(), locate(base as usize, variable)) {
+        Slot::Holding(value) => Ok(convert(variable.kind(), value)),
+        Slot::Empty => Err(Trap::Unset),
+    }
+}
+
+/// A number goes into a variable, converted to its kind, and is given so.
+fn put(store: &mut Store, base: u32, variable: FlatVariable, number: i64) -> i64
+    ensures value { Gives same (the.store (flat base) (flat_spot base (variable_seen variable)) number (state_of store.old)) (Ok result) (state_of store.new) }
+    ensures kept { Keeps store.old store.new }
+{
+    let stored = convert(variable.kind(), number);
+    put_at(store, locate(base as usize, variable), stored);
+    stored
+}
+
+/// What `++` and `--` give at a variable (C11 6.5.2.4 and 6.5.3.1).
+fn step(store: &mut Store, base: u32, op: StepOp, spot: FlatVariable) -> Result<i64, Trap>
+    ensures value { Gives same (eval (flat base) (stepping op (variable (variable_seen spot))) (state_of store.old)) result (state_of store.new) }
+    ensures kept { Keeps store.old store.new }
+{
+    let before = read(store, base, spot)?;
+    let by = match op {
+        StepOp::PreUp | StepOp::PostUp => 1,
+        StepOp::PreDown | StepOp::PostDown => -1,
+    };
+    let value = compute(BinOp::Add, spot.kind(), before, by)?;
+    let after = put(store, base, spot, value);
+    match op {
+        StepOp::PreUp | StepOp::PreDown => Ok(after),
+        StepOp::PostUp | StepOp::PostDown => Ok(before),
+    }
+}
+
+/// What an expression gives for the frame at a base (C11 6.5).
+#[cycle(expressions)]
+pub fn eval(store: &mut Store, base: u32, expr: &FlatExpr) -> Result<i64, Trap>
+    ensures value { Gives same (eval (flat base) (expr_seen expr.now) (state_of store.old)) result (state_of store.new) }
+    ensures kept { Keeps store.old store.new }
+{
+    match expr {
+        FlatExpr::Const(_, value) => Ok(*value),
+        FlatExpr::Read(variable) => read(store, base, *variable),
+        FlatExpr::Unary(op, kind, operand) => {
+            let value = eval(store, base, operand)?;
+            compute_unary(*op, *kind, value)
+        }
+        FlatExpr::Cast(kind, operand) => {
+            let value = eval(store, base, operand)?;
+            Ok(convert(*kind, value))
+        }
+        FlatExpr::Step(op, variable) => step(store, base, *op, *variable),
+        FlatExpr::Binary(op, kind, left, right) => {
+            let a = eval(store, base, left)?;
+            let b = eval(store, base, right)?;
+            compute(*op, *kind, a, b)
+        }
+        FlatExpr::And(left, right) => match eval(store, base, left)? {
+            0 => Ok(0),
+            _ => eval_truth(store, base, right),
+        },
+        FlatExpr::Or(left, right) => match eval(store, base, left)? {
+            0 => eval_truth(store, base, right),
+            _ => Ok(1),
+        },
+        FlatExpr::Choose(kind, test, left, right) => match eval(store, base, test)? {
+            0 => eval_as(store, base, *kind, right),
+            _ => eval_as(store, base, *kind, left),
+        },
+        FlatExpr::Assign(variable, operand) => {
+            let value = eval(store, base, operand)?;
+            Ok(put(store, base, *variable, value))
+        }
+        FlatExpr::Update(variable, op, kind, operand) => {
+            let before = read(store, base, *variable)?;
+            let value = eval(store, base, operand)?;
+            let after = compute(*op, *kind, before, value)?;
+            Ok(put(store, base, *variable, after))
+        }
+        FlatExpr::Getchar => Ok(next_byte(store)),
+        FlatExpr::Putchar(inner) => {
+            let value = eval(store, base, inner)?;
+            write_low(store, value)
+        }
+    }
+}
+
+/// What an expression gives, converted to a kind.
+#[cycle(expressions)]
+fn eval_as(store: &mut Store, base: u32, kind: IntKind, expr: &FlatExpr) -> Result<i64, Trap>
+    ensures value { Gives same (then_do (eval (flat base) (expr_seen expr.now) (state_of store.old)) (λ w u. value (convert kind w) u)) result (state_of store.new) }
+    ensures kept { Keeps store.old store.new }
+{
+    let value = eval(store, base, expr)?;
+    Ok(convert(kind, value))
+}
+
+/// Whether what an expression gives isn't 0, as 1 or 0.
+#[cycle(expressions)]
+fn eval_truth(store: &mut Store, base: u32, expr: &FlatExpr) -> Result<i64, Trap>
+    ensures value { Gives same (then_do (eval (flat base) (expr_seen expr.now) (state_of store.old)) (λ w u. value (is_nonzero w) u)) result (state_of store.new) }
+    ensures kept { Keeps store.old store.new }
+{
+    let value = eval(store, base, expr)?;
+    Ok(i64::from(value != 0))
+}

@@ -1,0 +1,26 @@
+//! Acts of flat labels over numbered slots, which take no memory.
+//!
+//! The slots of the globals come first, and behind them frame upon frame, the lowest first (`specs/Layout`); a store of
+//! slots is like one of named cells where each cell is held in its slot (`specs/Like`). What is promised of the code:
+//!
+//! - [`make_store`] takes the memory of a whole run, in whose slots the globals have their initial contents
+//!   (`specs/Begins`); no other call here takes any.
+//! - [`act::act`]: the outcome of a flat label and the store that is left are those of `specs/Acts`, for the frame whose slots
+//!   begin at a base. Expressions are evaluated by the definitions of `csub_semantics`, over the memory of slots
+//!   (`specs/Memory`).
+//! - [`act::put_result`]: a result goes into the slot of the call's temporary.
+//!
+//! Proofs above cite `proofs/LawsActs`: the act of a flat copy is like the act of its label over named cells;
+//! `proofs/LawsFrames`: how frames come and go, and where results go; `proofs/LawsBegins`: the slots at the beginning of a
+//! run stand for its first cells; and `proofs/LawsBounds`: what bounds frames, arguments and slots.
+#![tactic(auto)]
+
+pub mod act;
+mod begin;
+mod eval;
+mod slot;
+mod store;
+
+pub use begin::make_store;
+pub use slot::Slot;
+pub use store::Store;
