@@ -7,7 +7,7 @@ use Rattle.csub_types.specs.Kinds.{convert}
 use Rattle.csub_semantics.specs.declared.label.EndRule.{EndRule}
 use Rattle.csub_semantics.specs.declared.label.EndRule.TheVariants.{Nothing, Value, Main, Start}
 use Rattle.csub_semantics.specs.declared.status.Status.TheVariants.{Trap}
-use Rattle.csub_semantics.specs.Types.{number_kind, MemberTree}
+use Rattle.csub_objects.specs.Types.{number_kind, MemberTree}
 use Rattle.csub_semantics.specs.Trees.{NamedArg, value_argument, reading, assignment, variable, object, temporary}
 use Rattle.csub_semantics.specs.Labels.{LabelTree, enters, exits, evaluates, initialises, branches, returns, calls, AnswerTree, CallTree, one_value}
 use Rattle.csub_semantics.specs.Memory.{Answer}

@@ -1,6 +1,6 @@
 -- What is done to cells keeps that two stores agree on a set of roots.
 use Rattle.std.proofs.Common.{◌≡◌, ℕ, ℤ, List, [], ◌∷◌, Bool, true, false, Option, Some, None, refl, if◌then◌else◌, IsTrue}
-use Rattle.csub_semantics.specs.Types.{MemberTree}
+use Rattle.csub_objects.specs.Types.{MemberTree}
 use Rattle.csub_semantics.specs.Cells.{Root, temp_root, Cell, Content, number, reference, Cells, cell_eq, written, of_frame, dropped, parameter_cell, entered}
 use Rattle.csub_semantics.specs.Acts.{Store}
 use Rattle.csub_semantics.specs.Runs.{put_result}

@@ -1,12 +1,12 @@
 -- What the answers of a graph say of its program.
-use Rattle.std.proofs.Common.{◌≡◌, ℕ, [], Option, Some, None, option_map, refl, sym, ap, ◌∙◌}
+use Rattle.std.proofs.Common.{◌≡◌, ℕ, Option, Some, None, option_map, refl, sym, ap, ◌∙◌}
 use Rattle.std.specs.Prelude.{MatchOption}
 use Rattle.std.proofs.lemmas.Option.{same_Some}
 use Rattle.csub_semantics.specs.declared.label.CallLabel.{CallLabel}
 use Rattle.csub_semantics.specs.declared.label.Label.{Label}
 use Rattle.csub_semantics.specs.declared.label.Label.TheVariants.{Call}
-use Rattle.csub_semantics.specs.Types.{Name}
-use Rattle.csub_semantics.specs.Labels.{LabelTree, calls, call_of, PointLabel, label_tree, call_tree}
+use Rattle.csub_objects.specs.Types.{Name}
+use Rattle.csub_semantics.specs.Labels.{calls, call_of, PointLabel, label_tree, call_tree}
 use Rattle.csub_semantics.specs.Points.{PointTree}
 use Rattle.csub_semantics.specs.Syntax.{ProgramTree}
 use Rattle.csub_semantics.specs.Flows.{flow_of}
@@ -17,10 +17,6 @@ use Rattle.flow_graph.specs.Graph.{Tables, IsGraphOf}
 use Rattle.call_walk.specs.declared.ask.Callee.{Callee}
 use Rattle.call_walk.specs.Moments.{Defines, IsFunction, IsCallee}
 use Rattle.call_walk.proofs.Numbered.{callee_defined}
-
--- a label without globals
-abbrev pub bare : LabelTree → PointLabel
-bare t = record { tree = t; globals = [] }
 
 -- no point is led to
 pub leads_none : (P : ProgramTree) (f : Name) (o : Option PointTree) → None ≡ option_map (site f) o → (q : PointTree) → o ≡ Some q → ⊥
@@ -36,28 +32,23 @@ pub leads_some : (P : ProgramTree) (f : Name) (o : Option PointTree) (n : ℕ) (
 leads_some P f None n s there e = let both : ◌≡◌ {A = Option Site} (Some s) None = sym there ∙ e in absurd (cc)
 leads_some P f (Some q) n s there e = record { to = q; leads = refl; at = e }
 
--- labels that stand at points with one label
-pub same_trees : (a b : LabelTree) (l : PointLabel) (o o' : Option PointLabel) → o ≡ Some (bare a) → o' ≡ Some (bare b) → o ≡ Some l → o' ≡ Some l → a ≡ b
-same_trees a b l o o' ea eb la lb =
-    ap (λ (x : PointLabel). x.tree) (same_Some (bare a) l (sym ea ∙ la)) ∙ ap (λ (x : PointLabel). x.tree) (same_Some l (bare b) (sym lb ∙ eb))
-
 -- what is no call has the tree of none
 pub no_call : (l : Label) → ((k : CallLabel) → l ≡ Call k → ⊥) → call_of (label_tree l) ≡ None
 no_call (Call k) n = absurd (n k refl)
 no_call _ n = refl
 
--- a call that stands at a point of both programs
-module _ (g g' : Tables) (P P' : ProgramTree) (ok : IsGraphOf g P) (ok' : IsGraphOf g' P') (f : Name) (p p' : PointTree) (same : SameLabel (flow_of P) (flow_of P') f p p') (k : CallLabel) (labelled : (flow_of P).label f p ≡ Some (bare (calls (call_tree k)))) where
+-- a label whose tree is a call stands at a point of both programs
+module _ (g g' : Tables) (P P' : ProgramTree) (ok : IsGraphOf g P) (ok' : IsGraphOf g' P') (f : Name) (p p' : PointTree) (same : SameLabel (flow_of P) (flow_of P') f p p') (k : CallLabel) (l : PointLabel) (tree : l.tree ≡ calls (call_tree k)) (labelled : (flow_of P).label f p ≡ Some l) where
   pub calls_name : CallsAt (flow_of P) f p k.callee
-  calls_name = record { label = bare (calls (call_tree k)); labelled = labelled; call = call_tree k; is = refl; callee = refl }
+  calls_name = record { label = l; labelled = labelled; call = call_tree k; is = ap call_of tree; callee = refl }
 
   pub old_defines : Defines P k.callee
-  old_defines = callee_defined P (is_flow P ok.valid) f p (bare (calls (call_tree k))) (call_tree k) labelled refl
+  old_defines = callee_defined P (is_flow P ok.valid) f p l (call_tree k) labelled (ap call_of tree)
 
   pub new_defines : Defines P' k.callee
   new_defines =
-      let one : same.label ≡ bare (calls (call_tree k)) = same_Some _ _ (sym same.old ∙ labelled) in
-      callee_defined P' (is_flow P' ok'.valid) f p' same.label (call_tree k) same.new (ap (λ (l : PointLabel). call_of l.tree) one)
+      let one : same.label ≡ l = same_Some _ _ (sym same.old ∙ labelled) in
+      callee_defined P' (is_flow P' ok'.valid) f p' same.label (call_tree k) same.new (ap (λ (x : PointLabel). call_of x.tree) one ∙ ap call_of tree)
 
   pub is_callee : (o : Option Callee) → MatchOption o ⊥ (IsFunction P P' k.callee) → MatchOption o (IsNoCallAt (flow_of P) f p) (IsCallee P P' f p)
   is_callee None h = absurd h

@@ -1,12 +1,12 @@
 -- Where a call stands, the only way out is Next.
 use Rattle.std.proofs.Common.{◌≡◌, Option, Some, None, option_map, refl, sym, ap, ◌∙◌}
-use Rattle.csub_semantics.specs.Types.{Name}
+use Rattle.csub_objects.specs.Types.{Name}
 use Rattle.csub_semantics.specs.Labels.{CallTree, call_of, PointLabel}
 use Rattle.csub_semantics.specs.Syntax.{ProgramTree}
 use Rattle.csub_semantics.specs.Points.{PointTree, ExitTree, next}
 use Rattle.csub_semantics.specs.Successors.{Way}
 use Rattle.csub_semantics.specs.Flows.{function_nodes, way_in, flow_of}
-use Rattle.csub_core.specs.Valid.{IsValid}
+use Rattle.csub_validity.specs.Valid.{IsValid}
 use Rattle.program_laws.proofs.LawsStanding.{IsPoint, succ_at, node_is}
 use Rattle.program_laws.proofs.LawsFlows.{labelled_at}
 use Rattle.program_laws.proofs.LawsWays.{OnlyNext, call_next}

@@ -1,93 +1,134 @@
 -- A label of a valid program lists each global that its tree names, so that two programs with that label declare these
--- alike. A valid program has no globals yet, so that no tree names one.
-use Rattle.std.proofs.Common.{◌≡◌, ℕ, ℤ, List, [], ◌∷◌, ◌||◌, Bool, true, false, Option, Some, None, All, refl, sym, ap, subst, subst₂, IsTrue}
-use Rattle.std.specs.List.{AllByRecursion, list_any}
-use Rattle.std.proofs.lemmas.List.Elements.{All-nil, All-cons, recursion_from_All, All-weaker}
+-- alike.
+use Rattle.std.proofs.Common.{◌≡◌, inl, ℕ, List, [], ◌∷◌, ◌++◌, ◌||◌, Bool, true, false, Option, Some, None, is_some, All, refl, sym, subst, subst₂, IsTrue}
+use Rattle.std.specs.List.{AllByRecursion, list_any, flat_map}
+use Rattle.std.specs.Option.{option_map}
+use Rattle.std.specs.Ordering.{int_eq}
+use Rattle.std.specs.Cmp.Lexicographic.{pointwise}
+use Rattle.std.proofs.lemmas.Bool.{and_from}
+use Rattle.std.proofs.lemmas.List.Elements.{All-nil, All-cons, All-head, All-tail, recursion_from_All}
 use Rattle.std.specs.Cmp.Rules.{signed_items}
-use Rattle.csub_core.specs.declared.valid.role.Role.{Role}
-use Rattle.csub_core.specs.declared.valid.role.Role.TheVariants.{Whole, Test, Effect}
-use Rattle.csub_semantics.specs.Types.{Name, TypeTree, MemberTree}
+use Rattle.csub_validity.specs.declared.role.Role.{Role}
+use Rattle.csub_validity.specs.declared.role.Role.TheVariants.{Whole, Test, Effect}
+use Rattle.csub_objects.specs.Types.{Name, TypeTree, type_eq, MemberTree}
+use Rattle.csub_semantics.specs.Types.{name_eq, GlobalTree}
+use Rattle.csub_semantics.specs.Globals.{owner_names, variable_names, place_names, expr_names, arg_names, init_names, label_names, global_of, named_globals}
 use Rattle.csub_semantics.specs.Trees.{OwnerTree, global_owner, local_owner, Variable, object, temporary, NamedPlace, variable, NamedExpr, constant, reading, unary_operation, conversion, stepping, operation, conjunction, disjunction, choice, assignment, update, input_byte, output_byte, NamedArg, value_argument}
-use Rattle.csub_semantics.specs.Labels.{LabelTree, enters, exits, evaluates, initialises, branches, returns, calls, Initial, PointLabel, CallTree, AnswerTree, InitTree, one_value}
+use Rattle.csub_semantics.specs.Labels.{LabelTree, enters, exits, evaluates, initialises, branches, returns, calls, PointLabel, CallTree, AnswerTree, InitTree, one_value}
 use Rattle.csub_semantics.specs.Syntax.{LocalTree, FunctionTree, ProgramTree}
 use Rattle.csub_semantics.specs.Points.{PointTree}
-use Rattle.csub_semantics.specs.Flows.{Flow, name_eq, flow_of}
+use Rattle.csub_semantics.specs.Flows.{Flow, flow_of}
 use Rattle.csub_semantics.specs.Cells.{Root, global_root, local_root, temp_root}
-use Rattle.csub_core.specs.Valid.{Scope, IsObject, IsPlace, IsTarget, IsExpr, AreArgs, IsCall, IsAnswer, IsInitialised, IsLast, IsValid}
+use Rattle.csub_validity.specs.Valid.{Scope, scope_of, IsObject, IsPlace, IsTarget, IsExpr, AreArgs, IsCall, IsAnswer, IsInitialised, IsLast, IsValid}
 use Rattle.program_laws.proofs.LawsFlows.{labelled_at}
 use Rattle.program_laws.proofs.LawsNames.{same_name}
+use Rattle.program_laws.proofs.LawsGlobals.{Among, among_left, among_right, named_is_listed, type_itself}
 use Rattle.program_laws.proofs.LawsNodes.{MayStand}
 use Rattle.call_walk.specs.Shared.{declared_alike, shared}
 use Rattle.call_walk.specs.Locality.{CoversOwner, CoversVariable, CoversPlace, CoversExpr, CoversArg, CoversAnswer, CoversInit, CoversLabel}
 use Rattle.call_walk.proofs.EveryLabel.{every_label}
 
 -- the roots of all frames, and those of the globals of a list
-abbrev pub listed : List Initial → Root → Bool
+abbrev pub listed : List GlobalTree → Root → Bool
 listed gs (global_root a) = list_any (λ g. name_eq g.name a) gs
 listed gs (local_root h a n) = true
 listed gs (temp_root h n) = true
 
--- a set with more globals covers as much
-module _ (S T : Root → Bool) (more : (a : Name) → IsTrue (S (global_root a)) → IsTrue (T (global_root a))) where
-  more_owner : (owner : OwnerTree) → CoversOwner S owner → CoversOwner T owner
-  more_owner (global_owner a) h = more a h
-  more_owner (local_owner a n) h = tt
+-- a set that has the globals of a tree which another has covers the tree as well
+module _ (S T : Root → Bool) where
+  abbrev More : List Name → Type 0
+  More names = (a : Name) → Among names a → IsTrue (S (global_root a)) → IsTrue (T (global_root a))
 
-  more_variable : (v : Variable) → CoversVariable S v → CoversVariable T v
-  more_variable (object owner t) h = more_owner owner h
-  more_variable (temporary n k) h = tt
+  first_more : (names others : List Name) → More (names ++ others) → More names
+  first_more names others more a h = more a (among_left names others a h)
 
-  more_place : (p : NamedPlace) → CoversPlace S p → CoversPlace T p
-  more_place (variable v) h = more_variable v h
+  later_more : (names others : List Name) → More (names ++ others) → More others
+  later_more names others more a h = more a (among_right names others a h)
 
-  more_expr : (e : NamedExpr) → CoversExpr S e → CoversExpr T e
-  more_expr (constant k v) h = tt
-  more_expr (reading p) h = more_place p h
-  more_expr (unary_operation op k a) h = more_expr a h
-  more_expr (conversion k a) h = more_expr a h
-  more_expr (stepping op p) h = more_place p h
-  more_expr (operation op k a b) h = (more_expr a h.0, more_expr b h.1)
-  more_expr (conjunction a b) h = (more_expr a h.0, more_expr b h.1)
-  more_expr (disjunction a b) h = (more_expr a h.0, more_expr b h.1)
-  more_expr (choice k c a b) h = (more_expr c h.0, more_expr a h.1, more_expr b h.2)
-  more_expr (assignment p e) h = (more_place p h.0, more_expr e h.1)
-  more_expr (update p op k e) h = (more_place p h.0, more_expr e h.1)
-  more_expr input_byte h = tt
-  more_expr (output_byte e) h = more_expr e h
+  more_owner : (owner : OwnerTree) → More (owner_names owner) → CoversOwner S owner → CoversOwner T owner
+  more_owner (global_owner a) more h = more a (inl refl) h
+  more_owner (local_owner a n) more h = tt
 
-  more_arg : (a : NamedArg) → CoversArg S a → CoversArg T a
-  more_arg (value_argument e) h = more_expr e h
+  more_variable : (v : Variable) → More (variable_names v) → CoversVariable S v → CoversVariable T v
+  more_variable (object owner t) more h = more_owner owner more h
+  more_variable (temporary n k) more h = tt
 
-  more_init : (init : InitTree) → CoversInit S init → CoversInit T init
-  more_init (one_value e) h = more_expr e h
+  more_place : (p : NamedPlace) → More (place_names p) → CoversPlace S p → CoversPlace T p
+  more_place (variable v) more h = more_variable v more h
 
-  pub covers_more : (l : LabelTree) → CoversLabel S l → CoversLabel T l
-  covers_more enters h = tt
-  covers_more (exits rule) h = tt
-  covers_more (evaluates e) h = more_expr e h
-  covers_more (initialises owner t init) h = (more_owner owner h.0, more_init init h.1)
-  covers_more (branches e) h = more_expr e h
-  covers_more (returns None) h = tt
-  covers_more (returns (Some a)) h = more_expr a.value h
-  covers_more (calls c) h = All-weaker (CoversArg S) (CoversArg T) more_arg c.args h
+  more_expr : (e : NamedExpr) → More (expr_names e) → CoversExpr S e → CoversExpr T e
+  more_expr (constant k v) more h = tt
+  more_expr (reading p) more h = more_place p more h
+  more_expr (unary_operation op k a) more h = more_expr a more h
+  more_expr (conversion k a) more h = more_expr a more h
+  more_expr (stepping op p) more h = more_place p more h
+  more_expr (operation op k a b) more h = (more_expr a (first_more (expr_names a) (expr_names b) more) h.0, more_expr b (later_more (expr_names a) (expr_names b) more) h.1)
+  more_expr (conjunction a b) more h = (more_expr a (first_more (expr_names a) (expr_names b) more) h.0, more_expr b (later_more (expr_names a) (expr_names b) more) h.1)
+  more_expr (disjunction a b) more h = (more_expr a (first_more (expr_names a) (expr_names b) more) h.0, more_expr b (later_more (expr_names a) (expr_names b) more) h.1)
+  more_expr (choice k c a b) more h =
+      let later = later_more (expr_names c) (expr_names a ++ expr_names b) more in
+      (more_expr c (first_more (expr_names c) (expr_names a ++ expr_names b) more) h.0, more_expr a (first_more (expr_names a) (expr_names b) later) h.1, more_expr b (later_more (expr_names a) (expr_names b) later) h.2)
+  more_expr (assignment p e) more h = (more_place p (first_more (place_names p) (expr_names e) more) h.0, more_expr e (later_more (place_names p) (expr_names e) more) h.1)
+  more_expr (update p op k e) more h = (more_place p (first_more (place_names p) (expr_names e) more) h.0, more_expr e (later_more (place_names p) (expr_names e) more) h.1)
+  more_expr input_byte more h = tt
+  more_expr (output_byte e) more h = more_expr e more h
 
--- what validity allows names no global
-module _ (S : Root → Bool) (sc : Scope) (k : ℕ) where
-  valid_object : (objects : List LocalTree) (owner : OwnerTree) (t : TypeTree) → IsObject objects owner t → CoversOwner S owner
-  valid_object objects (global_owner a) t h = absurd h
-  valid_object objects (local_owner a n) t h = tt
+  more_arg : (a : NamedArg) → More (arg_names a) → CoversArg S a → CoversArg T a
+  more_arg (value_argument e) more h = more_expr e more h
+
+  more_args : (args : List NamedArg) → More (flat_map arg_names args) → All (CoversArg S) args → All (CoversArg T) args
+  more_args [] more h = All-nil (CoversArg T)
+  more_args (a ∷ args) more h =
+      All-cons (CoversArg T) a args (more_arg a (first_more (arg_names a) (flat_map arg_names args) more) (All-head (CoversArg S) a args h))
+      (more_args args (later_more (arg_names a) (flat_map arg_names args) more) (All-tail (CoversArg S) a args h))
+
+  more_init : (init : InitTree) → More (init_names init) → CoversInit S init → CoversInit T init
+  more_init (one_value e) more h = more_expr e more h
+
+  pub covers_more : (l : LabelTree) → More (label_names l) → CoversLabel S l → CoversLabel T l
+  covers_more enters more h = tt
+  covers_more (exits rule) more h = tt
+  covers_more (evaluates e) more h = more_expr e more h
+  covers_more (initialises owner t init) more h = (more_owner owner (first_more (owner_names owner) (init_names init) more) h.0, more_init init (later_more (owner_names owner) (init_names init) more) h.1)
+  covers_more (branches e) more h = more_expr e more h
+  covers_more (returns None) more h = tt
+  covers_more (returns (Some a)) more h = more_expr a.value more h
+  covers_more (calls c) more h = more_args c.args more h
+
+-- the roots of all frames, and those of the globals that are declared
+abbrev declared : List GlobalTree → Root → Bool
+declared gs (global_root a) = is_some (global_of gs a)
+declared gs (local_root h a n) = true
+declared gs (temp_root h n) = true
+
+has_type : (o : Option GlobalTree) (t : TypeTree) → option_map (λ (g : GlobalTree). g.ctype) o ≡ Some t → IsTrue (is_some o)
+has_type None t e = cc
+has_type (Some g) t e = refl
+
+-- what validity allows names declared globals alone
+module _ (gs : List GlobalTree) (sc : Scope) (same : sc.globals ≡ gs) (k : ℕ) where
+  abbrev S : Root → Bool
+  S = declared gs
+
+  valid_object : (owner : OwnerTree) (t : TypeTree) → IsObject sc.globals sc.objects owner t → CoversOwner S owner
+  valid_object (global_owner a) t h = subst (λ us. IsTrue (is_some (global_of us a))) same (has_type (global_of sc.globals a) t h)
+  valid_object (local_owner a n) t h = tt
+
+  valid_local : (objects : List LocalTree) (owner : OwnerTree) (t : TypeTree) → IsObject [] objects owner t → CoversOwner S owner
+  valid_local objects (global_owner a) t h = cc
+  valid_local objects (local_owner a n) t h = tt
 
   valid_place : (p : NamedPlace) → IsPlace sc k p → CoversPlace S p
-  valid_place (variable (object owner t)) h = valid_object sc.objects owner t h
+  valid_place (variable (object owner t)) h = valid_object owner t h
   valid_place (variable (temporary n kind)) h = tt
 
   valid_target : (p : NamedPlace) → IsTarget sc p → CoversPlace S p
-  valid_target (variable (object owner t)) h = valid_object sc.objects owner t h
-  valid_target (variable (temporary n kind)) h = absurd h
+  valid_target (variable (object owner t)) h = valid_object owner t h.0
+  valid_target (variable (temporary n kind)) h = absurd h.0
 
   valid_expr : (e : NamedExpr) → IsExpr sc k e → CoversExpr S e
   valid_expr (constant kind v) h = tt
-  valid_expr (reading p) h = valid_place p h
+  valid_expr (reading p) h = valid_place p h.0
   valid_expr (unary_operation op kind a) h = valid_expr a h.1
   valid_expr (conversion kind a) h = valid_expr a h
   valid_expr (stepping op p) h = valid_target p h
@@ -105,7 +146,7 @@ module _ (S : Root → Bool) (sc : Scope) (k : ℕ) where
   valid_args [] (a ∷ args) h = absurd h
   valid_args (p ∷ params) [] h = absurd h
   valid_args (p ∷ params) (value_argument e ∷ args) h =
-      All-cons (CoversArg S) (value_argument e) args (valid_expr e h.0) (valid_args params args h.1)
+      All-cons (CoversArg S) (value_argument e) args (valid_expr e h.0.1) (valid_args params args h.1)
 
   valid_answer : (result : Option _) (a : Option AnswerTree) → IsAnswer sc k result a → CoversAnswer S a
   valid_answer None None h = tt
@@ -118,7 +159,7 @@ module _ (S : Root → Bool) (sc : Scope) (k : ℕ) where
     valid_call temps c h = valid_args c.params c.args h.args
 
     valid_init : (f : FunctionTree) (owner : OwnerTree) (t : TypeTree) (init : InitTree) → IsInitialised f sc k owner t init → CoversLabel S (initialises owner t init)
-    valid_init f owner t (one_value e) h = (valid_object f.locals owner t h.0, valid_expr e h.1)
+    valid_init f owner t (one_value e) h = (valid_local f.locals owner t h.0, valid_expr e h.1.1)
 
     valid_whole : (f : FunctionTree) (l : LabelTree) → IsLast P f sc Whole k l → CoversLabel S l
     valid_whole f (evaluates e) h = valid_expr e h
@@ -137,31 +178,42 @@ module _ (S : Root → Bool) (sc : Scope) (k : ℕ) where
     valid_effect f (calls c) h = valid_call f.temps c h
     valid_effect f _ h = absurd h
 
-valid_label : (S : Root → Bool) (P : ProgramTree) (f : FunctionTree) (role : Role) (l : LabelTree) → MayStand P f role l → CoversLabel S l
-valid_label S P f Whole l m = valid_whole S m.scope m.stage P f l m.last
-valid_label S P f Test l m = valid_test S m.scope m.stage P f l m.last
-valid_label S P f Effect l m = valid_effect S m.scope m.stage P f l m.last
+valid_label : (P : ProgramTree) (f : FunctionTree) (role : Role) (l : LabelTree) → MayStand P f role l → CoversLabel (declared P.globals) l
+valid_label P f Whole l m = valid_whole P.globals (scope_of P f m.within.part) refl m.stage P f l m.last
+valid_label P f Test l m = valid_test P.globals (scope_of P f m.within.part) refl m.stage P f l m.last
+valid_label P f Effect l m = valid_effect P.globals (scope_of P f m.within.part) refl m.stage P f l m.last
 
--- a label lists the globals that its tree names
+-- a label of a program lists the globals that its tree names
+declared_listed : (gs : List GlobalTree) (l : LabelTree) (a : Name) → Among (label_names l) a → IsTrue (is_some (global_of gs a)) → IsTrue (listed (named_globals gs l) (global_root a))
+declared_listed gs l a there is = pick (global_of gs a) refl is
+  where
+    pick : (o : Option GlobalTree) → global_of gs a ≡ o → IsTrue (is_some o) → IsTrue (listed (named_globals gs l) (global_root a))
+    pick None e is = cc
+    pick (Some g) e is = named_is_listed gs l a g e there
+
 pub label_lists : (P : ProgramTree) → IsValid P → (f : Name) (p : PointTree) (l : PointLabel) → (flow_of P).label f p ≡ Some l → CoversLabel (listed l.globals) l.tree
 label_lists P valid f p l e =
     let at = labelled_at P f p l e in
-    subst (λ t. CoversLabel (listed l.globals) t) (ap (λ (m : PointLabel). m.tree) at.is)
-    (every_label P (CoversLabel (listed l.globals)) tt (λ rule. tt) (valid_label (listed l.globals) P) valid f p at.stands)
+    let tree = at.stands.node.label in
+    let covers = every_label P (CoversLabel (declared P.globals)) tt (λ rule. tt) (valid_label P) valid f p at.stands in
+    subst (λ (m : PointLabel). CoversLabel (listed m.globals) m.tree) at.is
+    (covers_more (declared P.globals) (listed (named_globals P.globals tree)) tree (declared_listed P.globals tree) covers)
 
-contents_same : (o o' : Option (List ℤ)) (vs : List ℤ) → o ≡ Some vs → o' ≡ Some vs → IsTrue (declared_alike o o')
-contents_same o o' vs e e' = subst₂ (λ x y. IsTrue (declared_alike x y)) (sym e) (sym e') ((signed_items vs vs).1 refl)
+alike : (o o' : Option GlobalTree) (g : GlobalTree) → o ≡ Some g → o' ≡ Some g → IsTrue (declared_alike o o')
+alike o o' g e e' =
+    subst₂ (λ x y. IsTrue (declared_alike x y)) (sym e) (sym e')
+    (and_from (type_eq g.ctype g.ctype) (pointwise int_eq g.initial g.initial) (type_itself g.ctype) ((signed_items g.initial g.initial).1 refl))
 
 -- what both programs have of a listed global is what the label has of it
 module _ (P P' : Flow) where
-  pub listed_shared : (gs : List Initial) (a : Name) → AllByRecursion (λ g. P.initial g.name ≡ Some g.contents) gs → AllByRecursion (λ g. P'.initial g.name ≡ Some g.contents) gs → IsTrue (listed gs (global_root a)) → IsTrue (shared P P' (global_root a))
+  pub listed_shared : (gs : List GlobalTree) (a : Name) → AllByRecursion (λ g. P.global g.name ≡ Some g) gs → AllByRecursion (λ g. P'.global g.name ≡ Some g) gs → IsTrue (listed gs (global_root a)) → IsTrue (shared P P' (global_root a))
   listed_shared [] a h h' e = cc
   listed_shared (g ∷ gs) a h h' e = pick (name_eq g.name a) refl e (λ rest. listed_shared gs a h.1 h'.1 rest)
     where
       pick : (b : Bool) → name_eq g.name a ≡ b → IsTrue (b || list_any (λ i. name_eq i.name a) gs) → (IsTrue (listed gs (global_root a)) → IsTrue (shared P P' (global_root a))) → IsTrue (shared P P' (global_root a))
-      pick true is e below = subst (λ n. IsTrue (declared_alike (P.initial n) (P'.initial n))) (same_name g.name a is) (contents_same (P.initial g.name) (P'.initial g.name) g.contents h.0 h'.0)
+      pick true is e below = subst (λ n. IsTrue (declared_alike (P.global n) (P'.global n))) (same_name g.name a is) (alike (P.global g.name) (P'.global g.name) g h.0 h'.0)
       pick false is e below = below e
 
-  pub label_covers : (l : PointLabel) → All (λ g. P.initial g.name ≡ Some g.contents) l.globals → All (λ g. P'.initial g.name ≡ Some g.contents) l.globals → CoversLabel (listed l.globals) l.tree → CoversLabel (shared P P') l.tree
+  pub label_covers : (l : PointLabel) → All (λ g. P.global g.name ≡ Some g) l.globals → All (λ g. P'.global g.name ≡ Some g) l.globals → CoversLabel (listed l.globals) l.tree → CoversLabel (shared P P') l.tree
   label_covers l h h' covers =
-      covers_more (listed l.globals) (shared P P') (λ a. listed_shared l.globals a (recursion_from_All (λ g. P.initial g.name ≡ Some g.contents) l.globals h) (recursion_from_All (λ g. P'.initial g.name ≡ Some g.contents) l.globals h')) l.tree covers
+      covers_more (listed l.globals) (shared P P') l.tree (λ a there. listed_shared l.globals a (recursion_from_All (λ g. P.global g.name ≡ Some g) l.globals h) (recursion_from_All (λ g. P'.global g.name ≡ Some g) l.globals h')) covers

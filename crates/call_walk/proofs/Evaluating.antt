@@ -8,11 +8,11 @@ use Rattle.csub_types.specs.declared.trap.Trap.{Trap}
 use Rattle.csub_types.specs.declared.trap.Trap.TheVariants.{Flood}
 use Rattle.csub_types.specs.Kinds.{convert, promote}
 use Rattle.csub_types.specs.Arithmetic.{unary, binary}
-use Rattle.csub_semantics.specs.Types.{TypeTree, number_type}
+use Rattle.csub_objects.specs.Types.{TypeTree, number_type, array_type, struct_type, loose_type}
 use Rattle.csub_semantics.specs.Trees.{global_owner, local_owner, Variable, object, temporary, NamedPlace, variable, NamedExpr, constant, reading, unary_operation, conversion, stepping, operation, conjunction, disjunction, choice, assignment, update, input_byte, output_byte}
 use Rattle.csub_semantics.specs.Memory.{Answer, value, trapped, then_do, given, found, get_byte, most_output, put_byte, low_byte}
 use Rattle.csub_semantics.specs.Evaluation.{right_operand, computed, step_by, step_value, fetch, locate, store, step, eval}
-use Rattle.csub_semantics.specs.Cells.{Root, root_of, Cell, cell_of, type_of, Spot, stand_at, number, number_in, named}
+use Rattle.csub_semantics.specs.Cells.{Root, root_of, Cell, cell_of, type_of, Spot, referred, stand_at, Content, number, reference, number_in, named}
 use Rattle.csub_semantics.specs.Acts.{Store}
 use Rattle.call_walk.specs.Shared.{Agree}
 use Rattle.call_walk.specs.Locality.{HasFrames, CoversVariable, CoversPlace, CoversExpr}
@@ -69,8 +69,22 @@ module _ (S : Root → Bool) (frames : HasFrames S) (h : ℕ) where
       then_same (same_found (number_in (s.cells l.cell)) (number_in (s'.cells l.cell)) s s' (number_at (s.cells l.cell) (s'.cells l.cell) (agree.cells l.cell inside)) agree)
       (λ v t t' q r. both_give tt r)
 
+  -- both array parameters refer to one place, which is in the set
+  same_referred : (t : TypeTree) (o o' : Option Content) (s s' : Store) → o ≡ o' → ((d : Cell) (n : ℕ) → o ≡ Some (reference d n) → IsTrue (S d.root))
+      → Agree S s s' → SameAnswer IsIn (Agree S) (found (referred t o) s) (found (referred t o') s')
+  same_referred t o o' s s' e refers agree = subst (λ p. SameAnswer IsIn (Agree S) (found (referred t o) s) (found (referred t p) s')) e (at o refers)
+    where
+      at : (o : Option Content) → ((d : Cell) (n : ℕ) → o ≡ Some (reference d n) → IsTrue (S d.root))
+          → SameAnswer IsIn (Agree S) (found (referred t o) s) (found (referred t o) s')
+      at None refers = both_trap agree
+      at (Some (number v)) refers = both_trap agree
+      at (Some (reference d n)) refers = both_give (refers d n refl) agree
+
   same_stand : (c : Cell) (t : TypeTree) (s s' : Store) → IsTrue (S c.root) → Agree S s s' → SameAnswer IsIn (Agree S) (found (stand_at c t s.cells) s) (found (stand_at c t s'.cells) s')
   same_stand c (number_type k) s s' inside agree = both_give inside agree
+  same_stand c (array_type t n) s s' inside agree = both_give inside agree
+  same_stand c (struct_type tag ms) s s' inside agree = both_give inside agree
+  same_stand c (loose_type t) s s' inside agree = same_referred t (s.cells c) (s'.cells c) s s' (agree.cells c inside) (agree.refers c) agree
 
   pub same_locate : (p : NamedPlace) (s s' : Store) → CoversPlace S p → Agree S s s' → SameAnswer IsIn (Agree S) (locate (named h) p s) (locate (named h) p s')
   same_locate (variable v) s s' covers agree = same_stand (cell_of h v) (type_of v) s s' (root_in S frames h v covers) agree

@@ -1,15 +1,15 @@
 -- What holds of each label that validity allows holds of each label of a valid program.
 use Rattle.std.proofs.Common.{List}
 use Rattle.csub_semantics.specs.declared.label.EndRule.{EndRule}
-use Rattle.csub_semantics.specs.Types.{Name}
+use Rattle.csub_objects.specs.Types.{Name}
 use Rattle.csub_semantics.specs.Labels.{LabelTree, enters, exits}
 use Rattle.csub_semantics.specs.Syntax.{FunctionTree, ProgramTree}
 use Rattle.csub_semantics.specs.Points.{PointTree}
 use Rattle.csub_semantics.specs.Successors.{Way}
 use Rattle.csub_semantics.specs.Flows.{function_nodes, end_rule}
-use Rattle.csub_core.specs.declared.valid.role.Role.{Role}
-use Rattle.csub_core.specs.declared.valid.role.Role.TheVariants.{Whole, Test}
-use Rattle.csub_core.specs.Valid.{IsValid}
+use Rattle.csub_validity.specs.declared.role.Role.{Role}
+use Rattle.csub_validity.specs.declared.role.Role.TheVariants.{Whole, Test}
+use Rattle.csub_validity.specs.Valid.{IsValid}
 use Rattle.program_laws.proofs.LawsNodes.{MayStand, IsNode, begins, ends, goes_on, tests}
 use Rattle.program_laws.proofs.LawsStanding.{IsPoint, Stands, node_is}
 

@@ -4,13 +4,13 @@ use Rattle.std.specs.Prelude.{slice_get}
 use Rattle.std.proofs.lemmas.Bool.{cases_lt}
 use Rattle.std.proofs.lemmas.List.{length-replicate}
 use Rattle.std.proofs.lemmas.Option.{slice_get_within, same_Some}
-use Rattle.csub_semantics.specs.Types.{Name}
+use Rattle.csub_objects.specs.Types.{Name}
 use Rattle.csub_semantics.specs.Points.{PointTree, entry, exit, ExitTree, next}
 use Rattle.csub_semantics.specs.Syntax.{ProgramTree}
 use Rattle.csub_semantics.specs.Flows.{flow_of, start_name}
 use Rattle.csub_semantics.specs.Numbers.{site, site_at}
 use Rattle.csub_semantics.specs.Books.{IsNoCallAt, Reached, SameLabel}
-use Rattle.csub_core.specs.Valid.{IsValid}
+use Rattle.csub_validity.specs.Valid.{IsValid}
 use Rattle.flow_graph.specs.Graph.{Tables, IsGraphOf, point_count}
 use Rattle.call_walk.specs.declared.fact.Fact.{Fact}
 use Rattle.call_walk.specs.declared.ask.Callee.{Callee}

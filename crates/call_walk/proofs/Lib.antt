@@ -10,6 +10,7 @@ mod Turns
 mod Together
 mod Respecting
 mod Indexed
+mod Labelling
 mod Numbered
 mod Asked
 mod Naming

@@ -3,7 +3,7 @@ use Rattle.std.proofs.Common.{◌≡◌, ℕ, ◌+◌, ◌<◌, ◌≤◌, List,
 use Rattle.std.specs.Prelude.{slice_get, is_some, IfSome, IfNone}
 use Rattle.std.proofs.lemmas.Bool.{cases_lt, cases_eq}
 use Rattle.std.proofs.lemmas.Option.{slice_get_within, same_Some}
-use Rattle.csub_semantics.specs.Types.{Name}
+use Rattle.csub_objects.specs.Types.{Name}
 use Rattle.csub_semantics.specs.Labels.{CallTree, call_of, PointLabel}
 use Rattle.csub_semantics.specs.Points.{PointTree, exit, ExitTree, next}
 use Rattle.csub_semantics.specs.Syntax.{ProgramTree}
@@ -11,7 +11,7 @@ use Rattle.csub_semantics.specs.Flows.{Edge, flow_of}
 use Rattle.csub_semantics.specs.Numbers.{Site, site, edge_at}
 use Rattle.csub_semantics.specs.Books.{Together, CallsAt, IsNoCallAt, Reached, Dangerous}
 use Rattle.csub_semantics.proofs.LawsLabels.{call_or_none}
-use Rattle.csub_core.specs.Valid.{IsValid}
+use Rattle.csub_validity.specs.Valid.{IsValid}
 use Rattle.edge_trace.specs.Rows.{has}
 use Rattle.call_walk.specs.declared.fact.Fact.{Fact}
 use Rattle.call_walk.specs.declared.ask.Callee.{Callee}

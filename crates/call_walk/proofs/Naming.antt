@@ -3,14 +3,14 @@ use Rattle.std.proofs.Common.{◌≡◌, ℕ, List, take, option_map, Some, sym,
 use Rattle.std.specs.Prelude.{slice_get, Contains}
 use Rattle.std.proofs.lemmas.List.{take-map}
 use Rattle.std.proofs.lemmas.Option.{slice_get-map, slice_get_within, same_Some, get_or_from_slice_get}
-use Rattle.csub_semantics.specs.Types.{Name}
+use Rattle.csub_objects.specs.Types.{Name}
 use Rattle.csub_semantics.specs.Points.{PointTree}
 use Rattle.csub_semantics.specs.Syntax.{ProgramTree}
 use Rattle.csub_semantics.specs.Flows.{flow_of}
 use Rattle.csub_semantics.specs.Numbers.{Site, site}
 use Rattle.csub_semantics.specs.Books as books
 use Rattle.csub_semantics.specs.Books.{SameLabel, Justified, IsBook, Reached}
-use Rattle.csub_core.specs.Valid.{IsValid}
+use Rattle.csub_validity.specs.Valid.{IsValid}
 use Rattle.program_laws.proofs.LawsFlows.{is_flow}
 use Rattle.flow_graph.proofs.LawsLists.{Made, made_of}
 use Rattle.call_walk.specs.declared.fact.Fact.{Fact}

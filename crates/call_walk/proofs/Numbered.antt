@@ -4,14 +4,15 @@ use Rattle.std.specs.Prelude.{slice_get}
 use Rattle.std.specs.Option.{option_and_then}
 use Rattle.std.specs.List.{flat_map}
 use Rattle.std.proofs.lemmas.Option.{slice_get-map, slice_get_within, same_Some}
-use Rattle.csub_semantics.specs.Types.{Name}
+use Rattle.csub_objects.specs.Types.{Name}
+use Rattle.csub_semantics.specs.Types.{name_eq}
 use Rattle.csub_semantics.specs.Labels.{CallTree, call_of, PointLabel}
 use Rattle.csub_semantics.specs.Points.{PointTree, entry, ExitTree, exit_eq}
 use Rattle.csub_semantics.specs.Syntax.{FunctionTree, ProgramTree}
 use Rattle.csub_semantics.specs.Successors.{Way}
-use Rattle.csub_semantics.specs.Flows.{point_list, Edge, edges_from, name_eq, function_of, node_of, way_in, way_of, labelled, flow_of, start_name}
+use Rattle.csub_semantics.specs.Flows.{points_of, point_list, Edge, edges_from, function_of, node_of, way_in, way_of, labelled, flow_of, start_name}
 use Rattle.csub_semantics.specs.Numbers.{Site, site, site_of, site_at, edge_at, name_at}
-use Rattle.csub_core.specs.Valid.{BeginsWithStart, IsValid}
+use Rattle.csub_validity.specs.Valid.{BeginsWithStart, IsValid}
 use Rattle.program_laws.specs.Flows.{entry_label, IsFlow}
 use Rattle.program_laws.proofs.LawsNames.{same_name, same_exit}
 use Rattle.flow_graph.specs.Graph.{Tables, IsGraphOf, point_count}
@@ -25,7 +26,7 @@ pub site_one : (P : ProgramTree) → IsValid P → (n m : ℕ) (s : Site) → si
 site_one P valid n m s a b =
     let x = made_of site_of (slice_get (point_list P) n) s a in
     let y = made_of site_of (slice_get (point_list P) m) s b in
-    points_once P valid.distinct n m x.value y.value x.is y.is (x.gives ∙ sym y.gives)
+    points_once P.functions valid.distinct n m x.value y.value x.is y.is (x.gives ∙ sym y.gives)
 
 -- the numbers of points are those below their count
 pub site_within : (g : Tables) (P : ProgramTree) (n : ℕ) → IsGraphOf g P → n < point_count g → (s : Site) × (site_at P n ≡ Some s)
@@ -39,12 +40,12 @@ site_below g P n s ok e =
     subst (λ k. n < k) (sym (points_counted g P ok)) (slice_get_within (point_list P) n m.value m.is)
 
 -- the first point is the entry of `#start`
-start_site : (P : ProgramTree) → BeginsWithStart P → site_at P 0 ≡ Some (site start_name entry)
+start_site : (fs : List FunctionTree) → BeginsWithStart fs → option_map site_of (slice_get (points_of fs) 0) ≡ Some (site start_name entry)
 start_site [] h = absurd h
 start_site (f ∷ rest) h = ap (λ n. Some (site n entry)) h.name
 
 pub first_site : (P : ProgramTree) → IsValid P → site_at P 0 ≡ Some (site start_name entry)
-first_site P valid = start_site P valid.start
+first_site P valid = start_site P.functions valid.start
 
 -- a way out has a number
 flat_at : {A B : Type 0} (f : A → List B) (xs : List A) (n i : ℕ) (x : A) (y : B) → slice_get xs n ≡ Some x → slice_get (f x) i ≡ Some y → (k : ℕ) × (slice_get (flat_map f xs) k ≡ Some y)
@@ -68,7 +69,7 @@ edge_of P valid n f p q x h leads =
     let node = m.value in
     let same_name' : node.function ≡ f = ap (λ (s : Site). s.function) m.gives in
     let same_point' : node.node.point ≡ p = ap (λ (s : Site). s.point) m.gives in
-    let there : node_of (function_of P f) p ≡ Some node.node = subst₂ (λ a b. node_of (function_of P a) b ≡ Some node.node) same_name' same_point' (found P n node valid.distinct m.is) in
+    let there : node_of (function_of P f) p ≡ Some node.node = subst₂ (λ a b. node_of (function_of P a) b ≡ Some node.node) same_name' same_point' (found P.functions n node valid.distinct m.is) in
     let w = made_of (λ (w : Way PointTree). w.to) (way_in node.node.ways x) q (sym (ap (λ o. option_map (λ (w : Way PointTree). w.to) (way_of o x)) there) ∙ leads) in
     let at = found_at (λ (w : Way PointTree). exit_eq w.exit x) node.node.ways w.value w.is in
     let one_exit : w.value.exit ≡ x = same_exit w.value.exit x at.2 in
@@ -81,7 +82,7 @@ edge_of P valid n f p q x h leads =
 pub defined_by : (P : ProgramTree) (g : Name) (l : PointLabel) → (flow_of P).label g entry ≡ Some l → Defines P g
 defined_by P g l e = pick (function_of P g) refl e
   where
-    pick : (o : Option FunctionTree) → function_of P g ≡ o → option_map labelled (node_of o entry) ≡ Some l → Defines P g
+    pick : (o : Option FunctionTree) → function_of P g ≡ o → option_map (labelled P.globals) (node_of o entry) ≡ Some l → Defines P g
     pick None is e = absurd cc
     pick (Some f) is e = record { function = f; is = is }
 
@@ -89,7 +90,7 @@ pub callee_defined : (P : ProgramTree) → IsFlow (flow_of P) → (f : Name) (p 
 callee_defined P ok f p l k e is = defined_by P k.callee entry_label (ok.called f p l k e is)
 
 pub defined_name : (P : ProgramTree) (g : Name) (d : Defines P g) → d.function.name ≡ g
-defined_name P g d = same_name d.function.name g (found_at (λ (f : FunctionTree). name_eq f.name g) P d.function d.is).2
+defined_name P g d = same_name d.function.name g (found_at (λ (f : FunctionTree). name_eq f.name g) P.functions d.function d.is).2
 
 -- its number is found by its name
 pub number_found : (P : ProgramTree) (g : Name) → Defines P g → (o : Option ℕ) → option_and_then (name_at P) o ≡ option_map (λ (f : FunctionTree). f.name) (function_of P g) → (k : ℕ) × (o ≡ Some k) × (name_at P k ≡ Some g)

@@ -1,6 +1,6 @@
 -- The reached pairs and the dangerous edges are a closed claim.
 use Rattle.std.proofs.Common.{◌≡◌, Option, Some, None, refl, sym, ap, ◌∙◌, subst, ◌⊎◌, inl, inr}
-use Rattle.csub_semantics.specs.Types.{Name}
+use Rattle.csub_objects.specs.Types.{Name}
 use Rattle.csub_semantics.specs.Labels.{CallTree, call_of, PointLabel}
 use Rattle.csub_semantics.specs.Points.{PointTree, entry, exit, ExitTree, next}
 use Rattle.csub_semantics.specs.Flows.{Flow}

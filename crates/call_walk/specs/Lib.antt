@@ -2,4 +2,5 @@ pub mod Shared
 pub mod Locality
 pub mod Lockstep
 pub mod Walks
+pub mod LabelRows
 pub mod Moments

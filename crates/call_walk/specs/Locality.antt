@@ -2,7 +2,7 @@
 -- these refer to.
 use Rattle.std.specs.Prelude.{ℕ, ℤ, Bool, IsTrue, All, Option, Some, None}
 use Rattle.csub_semantics.specs.declared.status.Status.{Status}
-use Rattle.csub_semantics.specs.Types.{Name}
+use Rattle.csub_objects.specs.Types.{Name}
 use Rattle.csub_semantics.specs.Trees.{OwnerTree, global_owner, local_owner, Variable, object, temporary, NamedPlace, variable, NamedExpr, constant}
 use Rattle.csub_semantics.specs.Trees.{reading, unary_operation, conversion, stepping, operation, conjunction, disjunction, choice, assignment}
 use Rattle.csub_semantics.specs.Trees.{update, input_byte, output_byte, NamedArg, value_argument}

@@ -2,7 +2,7 @@
 use Rattle.std.specs.Prelude.{ℕ, ◌≡◌, List, All, Some, Contains}
 use Rattle.std.specs.List.{AllZip}
 use Rattle.csub_semantics.specs.declared.status.Status.{Status}
-use Rattle.csub_semantics.specs.Types.{Name}
+use Rattle.csub_objects.specs.Types.{Name}
 use Rattle.csub_semantics.specs.Points.{PointTree, ExitTree}
 use Rattle.csub_semantics.specs.Flows.{Flow, Edge}
 use Rattle.csub_semantics.specs.Acts.{Store}

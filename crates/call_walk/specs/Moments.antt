@@ -1,7 +1,7 @@
 -- A walk at a moment, for the functions inside: the facts that are held so far, the index of them by old points, the
 -- calls that wait, and what has been followed.
 use Rattle.std.specs.Prelude.{ℕ, ◌≡◌, ◌<◌, ◌^◌, ◌++◌, ◌⊎◌, List, length, slice_get, take, Some, Bool, IsTrue}
-use Rattle.csub_semantics.specs.Types.{Name}
+use Rattle.csub_objects.specs.Types.{Name}
 use Rattle.csub_semantics.specs.Points.{PointTree, entry, exit, ExitTree, next}
 use Rattle.csub_semantics.specs.Syntax.{FunctionTree, ProgramTree}
 use Rattle.csub_semantics.specs.Flows.{Edge, flow_of, function_of}
@@ -65,7 +65,8 @@ pub record IsWithin (g g' : Tables) (c : Fact) : Type 0 where
 
 -- each fact is explained by those before it, whatever programs the graphs are of
 pub record AreExplained (g g' : Tables) (facts : List Fact) : Type 0 where
-  pub each : (P P' : ProgramTree) → IsGraphOf g P → IsGraphOf g' P' → (i : ℕ) (c : Fact) → slice_get facts i ≡ Some c → IsExplained P P' (take i facts) c
+  pub each : (P P' : ProgramTree) → IsGraphOf g P → IsGraphOf g' P' → (i : ℕ) (c : Fact) → slice_get facts i ≡ Some c
+      → IsExplained P P' (take i facts) c
 
 -- a walk at a moment
 pub record IsMoment (g g' : Tables) (pairs : Pairs) : Type 0 where
@@ -196,7 +197,8 @@ AreResumed P P' facts waiting back =
 -- every reached pair is held
 abbrev pub HoldsAll : Tables → Tables → List Fact → Type 0
 HoldsAll g g' facts =
-    (P P' : ProgramTree) → IsGraphOf g P → IsGraphOf g' P' → (f : Name) (p p' : PointTree) → Reached (flow_of P) (flow_of P') f p p' → IsHeld P P' facts f p p'
+    (P P' : ProgramTree) → IsGraphOf g P → IsGraphOf g' P' → (f : Name) (p p' : PointTree) → Reached (flow_of P) (flow_of P') f p p'
+    → IsHeld P P' facts f p p'
 
 -- what is called at a point comes back: the pair of its exits is held
 abbrev pub ComesBack : ProgramTree → ProgramTree → List Fact → Name → PointTree → Type 0

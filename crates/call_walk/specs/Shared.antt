@@ -1,19 +1,21 @@
 -- What two runs have in common: the cells of all frames, and those of the globals that both programs declare alike.
-use Rattle.std.specs.Prelude.{ℕ, ℤ, ◌≡◌, List, Bool, true, false, IsTrue, Option, Some}
+use Rattle.std.specs.Prelude.{ℕ, ◌≡◌, ◌&&◌, Bool, true, false, IsTrue, Option, Some}
 use Rattle.std.specs.Cmp.Lexicographic.{pointwise}
 use Rattle.std.specs.Ordering.{int_eq}
+use Rattle.csub_objects.specs.Types.{type_eq}
+use Rattle.csub_semantics.specs.Types.{GlobalTree}
 use Rattle.csub_semantics.specs.Flows.{Flow}
 use Rattle.csub_semantics.specs.Cells.{Root, global_root, local_root, temp_root, Cell, reference, Cells}
 use Rattle.csub_semantics.specs.Acts.{Store}
 
--- a global is declared alike where both programs have it with the same initial contents
-abbrev pub declared_alike : Option (List ℤ) → Option (List ℤ) → Bool
-declared_alike (Some vs) (Some ws) = pointwise int_eq vs ws
-declared_alike contents other = false
+-- a global is declared alike where both programs have one of its name, with the same type and the same initial contents
+abbrev pub declared_alike : Option GlobalTree → Option GlobalTree → Bool
+declared_alike (Some g) (Some h) = type_eq g.ctype h.ctype && pointwise int_eq g.initial h.initial
+declared_alike global other = false
 
 -- whose cells are shared: those of every frame, and of each global that both programs declare alike
 abbrev pub shared : Flow → Flow → Root → Bool
-shared P P' (global_root g) = declared_alike (P.initial g) (P'.initial g)
+shared P P' (global_root a) = declared_alike (P.global a) (P'.global a)
 shared P P' (local_root h a n) = true
 shared P P' (temp_root h n) = true
 

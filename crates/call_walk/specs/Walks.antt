@@ -1,6 +1,6 @@
 -- What a walk of two programs is: its facts by names are a book, and its row holds the dangerous edges.
 use Rattle.std.specs.Prelude.{ℕ, ◌≡◌, ◌↔◌, List, [], map, length, take, slice_get, Option, Some, None, Contains, IsTrue}
-use Rattle.csub_semantics.specs.Types.{Name}
+use Rattle.csub_objects.specs.Types.{Name}
 use Rattle.csub_semantics.specs.Points.{PointTree, entry, ExitTree, next}
 use Rattle.csub_semantics.specs.Syntax.{ProgramTree}
 use Rattle.csub_semantics.specs.Flows.{Edge, edge_list, flow_of}
@@ -72,7 +72,8 @@ pub record IsWalk (P P' : ProgramTree) (result : WalkResult) : Type 0 where
   -- each fact's own reason is the one that justifies it
   pub reasons : (i : ℕ) (c : Fact) → slice_get result.facts.items i ≡ Some c → IsExplained P P' (take i result.facts.items) c
   -- no pair stands twice
-  pub once : (i j : ℕ) (c d : Fact) → slice_get result.facts.items i ≡ Some c → slice_get result.facts.items j ≡ Some d → c.old ≡ d.old → c.new ≡ d.new → i ≡ j
+  pub once : (i j : ℕ) (c d : Fact) → slice_get result.facts.items i ≡ Some c → slice_get result.facts.items j ≡ Some d
+      → c.old ≡ d.old → c.new ≡ d.new → i ≡ j
   -- every reached pair is held
   pub all : (f : Name) (p p' : PointTree) → Reached (flow_of P) (flow_of P') f p p' → Contains (named_facts P P' result.facts.items) (books.fact f p p')
   -- a number for each edge, and just the dangerous ones are in the row

@@ -1,19 +1,22 @@
 //! What a walk asks of both graphs.
 ghost use Rattle.std.specs.Prelude.{◌≡◌, ◌<◌, ◌↔◌, Some, IfOk, IfSome, IsTrue, MatchOption};
-ghost use Rattle.csub_semantics.specs.Types.{Name};
+ghost use Rattle.csub_objects.specs.Types.{Name};
 ghost use Rattle.csub_semantics.specs.Points.{PointTree, exit, exit_tree, point_tree};
 ghost use Rattle.csub_semantics.specs.Syntax.{ProgramTree};
 ghost use Rattle.csub_semantics.specs.Flows.{flow_of};
 ghost use Rattle.csub_semantics.specs.Numbers.{site, site_at};
 ghost use Rattle.csub_semantics.specs.Books.{SameLabel, Together, IsNoCallAt};
 ghost use Rattle.flow_graph.specs.Graph.{IsGraphOf, point_count, function_count};
+ghost use Rattle.call_walk.specs.LabelRows.{AreLabelled};
 ghost use Rattle.call_walk.specs.Moments.{AreAt, AreTogether, IsFunction, IsCallee, Defines, AreWays};
 
+use crate::both::{Both, same_label};
 use crate::rows::Rows;
-use crate::same::same_label;
 use csub_semantics::{ExitLabel, Label, Point, Text};
+use edge_label::Steps;
 use flow_graph::{EdgeEnds, Graph};
 use std::alloc::{AllocError, Global};
+use std::sync::ledger::Ledger;
 
 /// A point of the old graph and one of the new graph.
 #[derive(Clone, Copy)]
@@ -52,23 +55,29 @@ pub fn list_ways(alloc: Global, graph: &Graph) -> Result<Rows, AllocError>
 }
 
 /// The successors of two points along a way out, where both lead on and the labels there are equal.
-pub fn successors(old: &Graph, new: &Graph, from: Pair, exit: &ExitLabel) -> Option<Pair>
-    requires old { from.old < point_count old.now }
-    requires new { from.new < point_count new.now }
-    ensures together { (P P' : ProgramTree) (f : Name) (p p' : PointTree) → IsGraphOf old.now P → IsGraphOf new.now P' →
+pub fn successors<L: Ledger>(
+    both: &Both<'_>,
+    from: Pair,
+    exit: &ExitLabel,
+    steps: &mut Steps<L>,
+) -> Option<Pair>
+    requires labels { AreLabelled both.now }
+    requires old { from.old < point_count both.now.old.now }
+    requires new { from.new < point_count both.now.new.now }
+    ensures together { (P P' : ProgramTree) (f : Name) (p p' : PointTree) → IsGraphOf both.now.old.now P → IsGraphOf both.now.new.now P' →
         AreAt P P' from.old from.new f p p' →
         MatchOption result ((q q' : PointTree) → Together (flow_of P) (flow_of P') f p p' (exit_tree exit.now) q q' → ⊥)
         (AreTogether P P' f p p' (exit_tree exit.now)) }
-    ensures old { IfSome result (λ pair. pair.old < point_count old.now) }
-    ensures new { IfSome result (λ pair. pair.new < point_count new.now) }
+    ensures old { IfSome result (λ pair. pair.old < point_count both.now.old.now) }
+    ensures new { IfSome result (λ pair. pair.new < point_count both.now.new.now) }
 {
-    let Some(to) = old.follow(from.old, exit) else {
+    let Some(to) = both.old.follow(from.old, exit) else {
         return None;
     };
-    let Some(other) = new.follow(from.new, exit) else {
+    let Some(other) = both.new.follow(from.new, exit) else {
         return None;
     };
-    if same_label(old.label_at(to), new.label_at(other)) {
+    if same_label(both, to, other, steps) {
         Some(Pair {
             old: to,
             new: other,

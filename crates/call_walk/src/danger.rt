@@ -1,12 +1,12 @@
 //! The dangerous edges of the facts of a walk.
 ghost use Rattle.std.specs.Prelude.{◌≡◌, ◌<◌, ◌↔◌, ℕ, Some, length, Contains, IfOk, IsTrue};
-ghost use Rattle.csub_semantics.specs.Types.{Name};
+ghost use Rattle.csub_objects.specs.Types.{Name};
 ghost use Rattle.csub_semantics.specs.Points.{PointTree, exit_tree};
 ghost use Rattle.csub_semantics.specs.Syntax.{ProgramTree};
 ghost use Rattle.csub_semantics.specs.Flows.{edge_list, flow_of};
 ghost use Rattle.csub_semantics.specs.Numbers.{site, site_at};
 ghost use Rattle.csub_semantics.specs.Books.{SameLabel};
-ghost use Rattle.csub_core.specs.Valid.{IsValid};
+ghost use Rattle.csub_validity.specs.Valid.{IsValid};
 ghost use Rattle.edge_trace.specs.Rows.{has};
 ghost use Rattle.flow_graph.specs.Graph.{IsGraphOf, point_count, edge_count};
 ghost use Rattle.call_walk.specs.Walks.{LeavesFrom};

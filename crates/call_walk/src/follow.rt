@@ -1,43 +1,48 @@
 //! What follows from a fact.
 ghost use Rattle.std.specs.Prelude.{◌≡◌, ◌<◌, ◌+◌, ℕ, List, Some, length, slice_get, Contains, OnOk};
-ghost use Rattle.csub_semantics.specs.Types.{Name};
+ghost use Rattle.csub_objects.specs.Types.{Name};
 ghost use Rattle.csub_semantics.specs.Points.{PointTree, ExitTree, exit_tree, next};
 ghost use Rattle.csub_semantics.specs.Syntax.{ProgramTree};
 ghost use Rattle.csub_semantics.specs.Flows.{flow_of};
 ghost use Rattle.csub_semantics.specs.Books.{IsNoCallAt};
 ghost use Rattle.flow_graph.specs.Graph.{IsGraphOf, point_count, function_count};
+ghost use Rattle.call_walk.specs.LabelRows.{AreLabelled};
 ghost use Rattle.call_walk.specs.Moments.{Lists, AreWays, AreAt, IsMoment, AreWaiting, Extends, IsCalledAt, IsPassed, Explains, HoldsNext, PassesOver, AreDone, IsFollowed, AreResumed};
 ghost use Rattle.call_walk.specs.declared.fact.Fact.{Fact};
 
 use crate::ask::{Callee, Pair, are_exits, callee_at, successors};
+use crate::both::Both;
 use crate::fact::{Fact, Why};
 use crate::pairs::{Pairs, add, place_of};
 use crate::rows::Rows;
 use csub_semantics::ExitLabel;
-use flow_graph::{EdgeEnds, Graph};
+use edge_label::Steps;
+use flow_graph::EdgeEnds;
 use std::alloc::AllocError;
+use std::sync::ledger::Ledger;
 
 /// Adds the successors of a fact along a way out, where their labels are equal.
-fn advance(
-    old: &Graph,
-    new: &Graph,
+fn advance<L: Ledger>(
+    both: &Both<'_>,
     pairs: &mut Pairs,
     from: Fact,
     exit: &ExitLabel,
     why: Why,
+    steps: &mut Steps<L>,
 ) -> Result<(), AllocError>
-    requires moment { IsMoment old.now new.now pairs.old }
+    requires labels { AreLabelled both.now }
+    requires moment { IsMoment both.now.old.now both.now.new.now pairs.old }
     requires among { Contains pairs.old.facts.items from }
-    requires why { Explains old.now new.now pairs.old.facts.items from (exit_tree exit.now) why }
-    ensures moment { OnOk result (IsMoment old.now new.now pairs.new) }
+    requires why { Explains both.now.old.now both.now.new.now pairs.old.facts.items from (exit_tree exit.now) why }
+    ensures moment { OnOk result (IsMoment both.now.old.now both.now.new.now pairs.new) }
     ensures grows { OnOk result (Extends pairs.old.facts.items pairs.new.facts.items) }
-    ensures held { OnOk result ((P P' : ProgramTree) → IsGraphOf old.now P → IsGraphOf new.now P' → HoldsNext P P' pairs.new.facts.items from (exit_tree exit.now)) }
+    ensures held { OnOk result ((P P' : ProgramTree) → IsGraphOf both.now.old.now P → IsGraphOf both.now.new.now P' → HoldsNext P P' pairs.new.facts.items from (exit_tree exit.now)) }
 {
     let pair = Pair {
         old: from.old,
         new: from.new,
     };
-    let Some(next) = successors(old, new, pair, exit) else {
+    let Some(next) = successors(both, pair, exit, steps) else {
         return Ok(());
     };
     add(
@@ -52,97 +57,108 @@ fn advance(
 }
 
 /// Adds what follows by steps from a fact that is no call.
-fn take_steps(
-    old: &Graph,
-    new: &Graph,
+fn take_steps<L: Ledger>(
+    both: &Both<'_>,
     ways: &Rows,
     pairs: &mut Pairs,
     at: u32,
     from: Fact,
+    steps: &mut Steps<L>,
 ) -> Result<(), AllocError>
-    requires ways { AreWays old.now ways.now }
-    requires moment { IsMoment old.now new.now pairs.old }
+    requires labels { AreLabelled both.now }
+    requires ways { AreWays both.now.old.now ways.now }
+    requires moment { IsMoment both.now.old.now both.now.new.now pairs.old }
     requires stands { slice_get pairs.old.facts.items at ≡ Some from }
-    requires plain { (P P' : ProgramTree) (f : Name) (p p' : PointTree) → IsGraphOf old.now P → IsGraphOf new.now P' → AreAt P P' from.old from.new f p p' → IsNoCallAt (flow_of P) f p }
-    ensures moment { OnOk result (IsMoment old.now new.now pairs.new) }
+    requires plain { (P P' : ProgramTree) (f : Name) (p p' : PointTree) → IsGraphOf both.now.old.now P → IsGraphOf both.now.new.now P' → AreAt P P' from.old from.new f p p' → IsNoCallAt (flow_of P) f p }
+    ensures moment { OnOk result (IsMoment both.now.old.now both.now.new.now pairs.new) }
     ensures grows { OnOk result (Extends pairs.old.facts.items pairs.new.facts.items) }
-    ensures steps { OnOk result ((P P' : ProgramTree) → IsGraphOf old.now P → IsGraphOf new.now P' → (x : ExitTree) → HoldsNext P P' pairs.new.facts.items from x) }
+    ensures steps { OnOk result ((P P' : ProgramTree) → IsGraphOf both.now.old.now P → IsGraphOf both.now.new.now P' → (x : ExitTree) → HoldsNext P P' pairs.new.facts.items from x) }
 {
     for edge in ways.row(from.old) {
         let EdgeEnds {
             from: _,
             exit,
             to: _,
-        } = old.edge_at(*edge);
-        advance(old, new, pairs, from, exit, Why::Step(at, *edge))?;
+        } = both.old.edge_at(*edge);
+        advance(both, pairs, from, exit, Why::Step(at, *edge), steps)?;
     }
     Ok(())
 }
 
 /// Passes over the call of a fact, by the fact of its callee's exits.
-fn pass_over(
-    old: &Graph,
-    new: &Graph,
+fn pass_over<L: Ledger>(
+    both: &Both<'_>,
     pairs: &mut Pairs,
     at: u32,
     back: u32,
+    steps: &mut Steps<L>,
 ) -> Result<(), AllocError>
-    requires moment { IsMoment old.now new.now pairs.old }
+    requires labels { AreLabelled both.now }
+    requires moment { IsMoment both.now.old.now both.now.new.now pairs.old }
     requires at { at < length pairs.old.facts.items }
-    requires over { (P P' : ProgramTree) → IsGraphOf old.now P → IsGraphOf new.now P' → PassesOver P P' pairs.old.facts.items at back }
-    ensures moment { OnOk result (IsMoment old.now new.now pairs.new) }
+    requires over { (P P' : ProgramTree) → IsGraphOf both.now.old.now P → IsGraphOf both.now.new.now P' → PassesOver P P' pairs.old.facts.items at back }
+    ensures moment { OnOk result (IsMoment both.now.old.now both.now.new.now pairs.new) }
     ensures grows { OnOk result (Extends pairs.old.facts.items pairs.new.facts.items) }
-    ensures held { OnOk result ((P P' : ProgramTree) (c : Fact) → IsGraphOf old.now P → IsGraphOf new.now P' → slice_get pairs.old.facts.items at ≡ Some c → HoldsNext P P' pairs.new.facts.items c next) }
+    ensures held { OnOk result ((P P' : ProgramTree) (c : Fact) → IsGraphOf both.now.old.now P → IsGraphOf both.now.new.now P' → slice_get pairs.old.facts.items at ≡ Some c → HoldsNext P P' pairs.new.facts.items c next) }
 {
     let from = pairs.facts[at as usize];
-    advance(old, new, pairs, from, &ExitLabel::Next, Why::Over(at, back))
+    advance(
+        both,
+        pairs,
+        from,
+        &ExitLabel::Next,
+        Why::Over(at, back),
+        steps,
+    )
 }
 
 /// Passes over the call of a fact, if the exits of its callee are held.
-fn pass_if_back(
-    old: &Graph,
-    new: &Graph,
+fn pass_if_back<L: Ledger>(
+    both: &Both<'_>,
     pairs: &mut Pairs,
     at: u32,
     callee: Callee,
+    steps: &mut Steps<L>,
 ) -> Result<(), AllocError>
-    requires moment { IsMoment old.now new.now pairs.old }
+    requires labels { AreLabelled both.now }
+    requires moment { IsMoment both.now.old.now both.now.new.now pairs.old }
     requires at { at < length pairs.old.facts.items }
-    requires callee { IsCalledAt old.now new.now pairs.old.facts.items at callee }
-    requires old_exit { callee.exit.old < point_count old.now }
-    ensures moment { OnOk result (IsMoment old.now new.now pairs.new) }
+    requires callee { IsCalledAt both.now.old.now both.now.new.now pairs.old.facts.items at callee }
+    requires old_exit { callee.exit.old < point_count both.now.old.now }
+    ensures moment { OnOk result (IsMoment both.now.old.now both.now.new.now pairs.new) }
     ensures grows { OnOk result (Extends pairs.old.facts.items pairs.new.facts.items) }
-    ensures over { OnOk result ((P P' : ProgramTree) (c : Fact) → IsGraphOf old.now P → IsGraphOf new.now P' → slice_get pairs.old.facts.items at ≡ Some c → IsPassed P P' pairs.new.facts.items c) }
+    ensures over { OnOk result ((P P' : ProgramTree) (c : Fact) → IsGraphOf both.now.old.now P → IsGraphOf both.now.new.now P' → slice_get pairs.old.facts.items at ≡ Some c → IsPassed P P' pairs.new.facts.items c) }
 {
     match place_of(pairs, callee.exit.old, callee.exit.new) {
-        Some(back) => pass_over(old, new, pairs, at, back),
+        Some(back) => pass_over(both, pairs, at, back, steps),
         None => Ok(()),
     }
 }
 
 /// Adds the entries of the callee of a fact at a call, and lets the call wait for the callee's exits; where they are
 /// held already, the call is passed over.
-fn enter(
-    old: &Graph,
-    new: &Graph,
+fn enter<L: Ledger>(
+    both: &Both<'_>,
     pairs: &mut Pairs,
     waiting: &mut Rows,
     at: u32,
     callee: Callee,
+    steps: &mut Steps<L>,
 ) -> Result<(), AllocError>
-    requires moment { IsMoment old.now new.now pairs.old }
-    requires waiting { AreWaiting old.now new.now pairs.old.facts.items waiting.old }
+    requires labels { AreLabelled both.now }
+    requires moment { IsMoment both.now.old.now both.now.new.now pairs.old }
+    requires waiting { AreWaiting both.now.old.now both.now.new.now pairs.old.facts.items waiting.old }
     requires at { at < length pairs.old.facts.items }
-    requires callee { IsCalledAt old.now new.now pairs.old.facts.items at callee }
-    requires function { callee.function < function_count old.now }
-    requires old_entry { callee.entry.old < point_count old.now }
-    requires new_entry { callee.entry.new < point_count new.now }
-    requires old_exit { callee.exit.old < point_count old.now }
-    ensures moment { OnOk result (IsMoment old.now new.now pairs.new) }
+    requires callee { IsCalledAt both.now.old.now both.now.new.now pairs.old.facts.items at callee }
+    requires function { callee.function < function_count both.now.old.now }
+    requires old_entry { callee.entry.old < point_count both.now.old.now }
+    requires new_entry { callee.entry.new < point_count both.now.new.now }
+    requires old_exit { callee.exit.old < point_count both.now.old.now }
+    ensures moment { OnOk result (IsMoment both.now.old.now both.now.new.now pairs.new) }
     ensures grows { OnOk result (Extends pairs.old.facts.items pairs.new.facts.items) }
-    ensures waiting { OnOk result (AreWaiting old.now new.now pairs.new.facts.items waiting.new) }
+    ensures waiting { OnOk result (AreWaiting both.now.old.now both.now.new.now pairs.new.facts.items waiting.new) }
     ensures waits { OnOk result ((n j : ℕ) → Lists waiting.old n j → Lists waiting.new n j) }
-    ensures followed { OnOk result ((P P' : ProgramTree) (c : Fact) → IsGraphOf old.now P → IsGraphOf new.now P' → slice_get pairs.old.facts.items at ≡ Some c → IsFollowed P P' pairs.new.facts.items waiting.new at c) }
+    ensures followed { OnOk result ((P P' : ProgramTree) (c : Fact) → IsGraphOf both.now.old.now P → IsGraphOf both.now.new.now P' → slice_get pairs.old.facts.items at ≡ Some c → IsFollowed P P' pairs.new.facts.items waiting.new at c) }
 {
     let entries = Fact {
         function: callee.function,
@@ -152,84 +168,87 @@ fn enter(
     };
     add(pairs, entries)?;
     waiting.push(callee.exit.old, at)?;
-    pass_if_back(old, new, pairs, at, callee)
+    pass_if_back(both, pairs, at, callee, steps)
 }
 
 /// Adds what follows from the fact at a place by steps, or by the call at which it stands.
-fn follow_own(
-    old: &Graph,
-    new: &Graph,
+fn follow_own<L: Ledger>(
+    both: &Both<'_>,
     ways: &Rows,
     pairs: &mut Pairs,
     waiting: &mut Rows,
     at: u32,
     from: Fact,
+    steps: &mut Steps<L>,
 ) -> Result<(), AllocError>
-    requires ways { AreWays old.now ways.now }
-    requires moment { IsMoment old.now new.now pairs.old }
-    requires waiting { AreWaiting old.now new.now pairs.old.facts.items waiting.old }
+    requires labels { AreLabelled both.now }
+    requires ways { AreWays both.now.old.now ways.now }
+    requires moment { IsMoment both.now.old.now both.now.new.now pairs.old }
+    requires waiting { AreWaiting both.now.old.now both.now.new.now pairs.old.facts.items waiting.old }
     requires stands { slice_get pairs.old.facts.items at ≡ Some from }
-    ensures moment { OnOk result (IsMoment old.now new.now pairs.new) }
+    ensures moment { OnOk result (IsMoment both.now.old.now both.now.new.now pairs.new) }
     ensures grows { OnOk result (Extends pairs.old.facts.items pairs.new.facts.items) }
-    ensures waiting { OnOk result (AreWaiting old.now new.now pairs.new.facts.items waiting.new) }
+    ensures waiting { OnOk result (AreWaiting both.now.old.now both.now.new.now pairs.new.facts.items waiting.new) }
     ensures waits { OnOk result ((n j : ℕ) → Lists waiting.old n j → Lists waiting.new n j) }
-    ensures followed { OnOk result ((P P' : ProgramTree) → IsGraphOf old.now P → IsGraphOf new.now P' → IsFollowed P P' pairs.new.facts.items waiting.new at from) }
+    ensures followed { OnOk result ((P P' : ProgramTree) → IsGraphOf both.now.old.now P → IsGraphOf both.now.new.now P' → IsFollowed P P' pairs.new.facts.items waiting.new at from) }
 {
-    match callee_at(old, new, from.old) {
-        Some(callee) => enter(old, new, pairs, waiting, at, callee),
-        None => take_steps(old, new, ways, pairs, at, from),
+    match callee_at(both.old, both.new, from.old) {
+        Some(callee) => enter(both, pairs, waiting, at, callee, steps),
+        None => take_steps(both, ways, pairs, at, from, steps),
     }
 }
 
 /// Passes over the calls that wait for a fact of exits.
-fn resume(
-    old: &Graph,
-    new: &Graph,
+fn resume<L: Ledger>(
+    both: &Both<'_>,
     pairs: &mut Pairs,
     waiting: &Rows,
     at: u32,
     from: Fact,
+    steps: &mut Steps<L>,
 ) -> Result<(), AllocError>
-    requires moment { IsMoment old.now new.now pairs.old }
-    requires waiting { AreWaiting old.now new.now pairs.old.facts.items waiting.now }
+    requires labels { AreLabelled both.now }
+    requires moment { IsMoment both.now.old.now both.now.new.now pairs.old }
+    requires waiting { AreWaiting both.now.old.now both.now.new.now pairs.old.facts.items waiting.now }
     requires stands { slice_get pairs.old.facts.items at ≡ Some from }
-    ensures moment { OnOk result (IsMoment old.now new.now pairs.new) }
+    ensures moment { OnOk result (IsMoment both.now.old.now both.now.new.now pairs.new) }
     ensures grows { OnOk result (Extends pairs.old.facts.items pairs.new.facts.items) }
-    ensures resumed { OnOk result ((P P' : ProgramTree) → IsGraphOf old.now P → IsGraphOf new.now P' → AreResumed P P' pairs.new.facts.items waiting.now from) }
+    ensures resumed { OnOk result ((P P' : ProgramTree) → IsGraphOf both.now.old.now P → IsGraphOf both.now.new.now P' → AreResumed P P' pairs.new.facts.items waiting.now from) }
 {
     let pair = Pair {
         old: from.old,
         new: from.new,
     };
-    if !are_exits(old, new, pair) {
+    if !are_exits(both.old, both.new, pair) {
         return Ok(());
     }
     for call in waiting.row(from.old) {
-        pass_over(old, new, pairs, *call, at)?;
+        pass_over(both, pairs, *call, at, steps)?;
     }
     Ok(())
 }
 
 /// Adds what follows from the fact at a place, where the facts before it have been followed.
-pub fn follow(
-    old: &Graph,
-    new: &Graph,
+pub fn follow<L: Ledger>(
+    both: &Both<'_>,
     ways: &Rows,
     pairs: &mut Pairs,
     waiting: &mut Rows,
     at: u32,
+    steps: &mut Steps<L>,
 ) -> Result<(), AllocError>
-    requires ways { AreWays old.now ways.now }
-    requires moment { IsMoment old.now new.now pairs.old }
-    requires waiting { AreWaiting old.now new.now pairs.old.facts.items waiting.old }
+    requires labels { AreLabelled both.now }
+    requires ways { AreWays both.now.old.now ways.now }
+    requires moment { IsMoment both.now.old.now both.now.new.now pairs.old }
+    requires waiting { AreWaiting both.now.old.now both.now.new.now pairs.old.facts.items waiting.old }
     requires at { at < length pairs.old.facts.items }
-    requires done { AreDone old.now new.now pairs.old.facts.items waiting.old at }
-    ensures moment { OnOk result (IsMoment old.now new.now pairs.new) }
+    requires done { AreDone both.now.old.now both.now.new.now pairs.old.facts.items waiting.old at }
+    ensures moment { OnOk result (IsMoment both.now.old.now both.now.new.now pairs.new) }
     ensures grows { OnOk result (Extends pairs.old.facts.items pairs.new.facts.items) }
-    ensures waiting { OnOk result (AreWaiting old.now new.now pairs.new.facts.items waiting.new) }
-    ensures done { OnOk result (AreDone old.now new.now pairs.new.facts.items waiting.new (at + 1)) }
+    ensures waiting { OnOk result (AreWaiting both.now.old.now both.now.new.now pairs.new.facts.items waiting.new) }
+    ensures done { OnOk result (AreDone both.now.old.now both.now.new.now pairs.new.facts.items waiting.new (at + 1)) }
 {
     let from = pairs.facts[at as usize];
-    follow_own(old, new, ways, pairs, waiting, at, from)?;
-    resume(old, new, pairs, waiting, at, from)
+    follow_own(both, ways, pairs, waiting, at, from, steps)?;
+    resume(both, pairs, waiting, at, from, steps)
 }

@@ -4,7 +4,7 @@
 ghost use Rattle.std.specs.Prelude.{List};
 ghost use Rattle.csub_semantics.specs.Syntax.{ProgramTree};
 ghost use Rattle.csub_semantics.specs.Flows.{Edge, flow_of};
-ghost use Rattle.csub_core.specs.Valid.{IsValid};
+ghost use Rattle.csub_validity.specs.Valid.{IsValid};
 ghost use Rattle.csub_semantics.specs.Books.{Fact, Reached, Dangerous, Closed};
 ghost use Rattle.call_walk.specs.Locality.{ActsAreLocal};
 ghost use Rattle.call_walk.specs.Lockstep.{Lockstep, SameRuns, claims, among};

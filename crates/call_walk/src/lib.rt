@@ -8,13 +8,13 @@
 #![tactic(auto)]
 
 mod ask;
+mod both;
 mod danger;
 pub mod fact;
 mod follow;
 pub mod laws;
 mod pairs;
 mod rows;
-mod same;
 mod walking;
 
 pub use fact::{Fact, WalkResult, Why};

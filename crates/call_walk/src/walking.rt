@@ -5,16 +5,20 @@ ghost use Rattle.csub_semantics.specs.Flows.{start_name};
 ghost use Rattle.csub_semantics.specs.Syntax.{ProgramTree};
 ghost use Rattle.flow_graph.specs.Graph.{IsGraphOf};
 ghost use Rattle.call_walk.specs.Walks.{IsWalk};
+ghost use Rattle.call_walk.specs.LabelRows.{AreLabelled};
 ghost use Rattle.call_walk.specs.Moments.{AreWays, IsMoment, IsHeld, HoldsAll};
 
 use crate::ask::list_ways;
+use crate::both::{Both, number_labels};
 use crate::danger::dangerous;
 use crate::fact::{Fact, WalkResult, Why};
 use crate::follow::follow;
 use crate::pairs::{Pairs, add, no_pairs};
 use crate::rows::Rows;
+use edge_label::{LabelBook, Steps};
 use flow_graph::Graph;
 use std::alloc::{AllocError, Global};
+use std::sync::ledger::Ledger;
 
 /// The facts with the pair of the points 0 alone, the entries of `#start`; none where a graph has no points, and so is
 /// that of no program.
@@ -37,16 +41,22 @@ fn start(alloc: Global, old: &Graph, new: &Graph) -> Result<Pairs, AllocError>
 }
 
 /// Every reached pair: the facts are their own queue.
-fn reach(alloc: Global, old: &Graph, new: &Graph, ways: &Rows) -> Result<Pairs, AllocError>
-    requires { AreWays old.now ways.now }
-    ensures moment { IfOk result (IsMoment old.now new.now) }
-    ensures all { IfOk result (λ pairs. HoldsAll old.now new.now pairs.facts.items) }
+fn reach<L: Ledger>(
+    alloc: Global,
+    both: &Both<'_>,
+    ways: &Rows,
+    steps: &mut Steps<L>,
+) -> Result<Pairs, AllocError>
+    requires labels { AreLabelled both.now }
+    requires ways { AreWays both.now.old.now ways.now }
+    ensures moment { IfOk result (IsMoment both.now.old.now both.now.new.now) }
+    ensures all { IfOk result (λ pairs. HoldsAll both.now.old.now both.now.new.now pairs.facts.items) }
 {
-    let mut pairs = start(alloc, old, new)?;
-    let mut waiting = Rows::new(alloc, old.points())?;
+    let mut pairs = start(alloc, both.old, both.new)?;
+    let mut waiting = Rows::new(alloc, both.old.points())?;
     let mut at = 0;
     while at < pairs.facts.len() {
-        follow(old, new, ways, &mut pairs, &mut waiting, at as u32)?;
+        follow(both, ways, &mut pairs, &mut waiting, at as u32, steps)?;
         at += 1;
     }
     Ok(pairs)
@@ -55,13 +65,29 @@ fn reach(alloc: Global, old: &Graph, new: &Graph, ways: &Rows) -> Result<Pairs, 
 /// The walk of an old program and a new one, by their graphs: the reached pairs, each once and with its reason, and the
 /// dangerous edges (Rothermel and Harrold, ACM TOSEM 6(2), 1997). An `Err` is want of memory.
 ///
-/// Beside one comparison of labels for each edge of a reached pair, a pair is looked for among the reached pairs of its
-/// old point, and functions are looked for by their names, one by one.
-pub fn walk(alloc: Global, old: &Graph, new: &Graph) -> Result<WalkResult, AllocError>
+/// Each point's label gets a number at the beginning. Beside one comparison of two numbers for each edge of a reached
+/// pair, which `steps` counts, a pair is looked for among the reached pairs of its old point, and functions are looked
+/// for by their names, one by one.
+pub fn walk<L: Ledger>(
+    alloc: Global,
+    old: &Graph,
+    new: &Graph,
+    steps: &mut Steps<L>,
+) -> Result<WalkResult, AllocError>
     ensures { (P P' : ProgramTree) → IsGraphOf old.now P → IsGraphOf new.now P' → IfOk result (IsWalk P P') }
 {
+    let mut book = LabelBook::new(alloc);
+    let old_labels = number_labels(alloc, old, &mut book)?;
+    let new_labels = number_labels(alloc, new, &mut book)?;
+    let both = Both {
+        old,
+        new,
+        book: &book,
+        old_labels: &old_labels,
+        new_labels: &new_labels,
+    };
     let ways = list_ways(alloc, old)?;
-    let pairs = reach(alloc, old, new, &ways)?;
+    let pairs = reach(alloc, &both, &ways, steps)?;
     let danger = dangerous(alloc, old, new, &ways, &pairs)?;
     let Pairs { facts, partners: _ } = pairs;
     Ok(WalkResult { facts, danger })

@@ -2,9 +2,8 @@
 use Rattle.std.proofs.Common.{◌≡◌, ◌↔◌, ℕ, suc, ◌≤◌, List, [], ◌∷◌, length, map, Bool, IsTrue, Some, refl, sym, ap, ◌∙◌, subst, arith, All}
 use Rattle.std.specs.List.{AllZip}
 use Rattle.std.proofs.lemmas.List.Elements.{All-cons, All-head, All-tail, All-nil}
-use Rattle.csub_semantics.specs.declared.function.Function.{Function}
 use Rattle.csub_semantics.specs.declared.status.Status.{Status}
-use Rattle.csub_semantics.specs.Syntax.{ProgramTree, function_tree}
+use Rattle.csub_semantics.specs.Syntax.{ProgramParts, ProgramTree, program_tree}
 use Rattle.csub_semantics.specs.Flows.{flow_of, edge_list}
 use Rattle.csub_semantics.specs.Numbers.{IsCrossed}
 use Rattle.csub_semantics.specs.Runs.{run_of}
@@ -17,24 +16,24 @@ use Rattle.test_history.specs.Histories.{EntryParts, HistoryParts, HaveRows, IsE
 use Rattle.dejavu_cli.specs.Record.{IsRowOf, IsEntry}
 
 -- what a machine shows after a whole run of a test is the test's entry
-pub entry_is : (program : List Function) (asked copy : TestParts) (entry : EntryParts) (status : Status) (old new : Seen) (input : List ℕ) (budget turns : ℕ) (output : List ℕ) (row : List Bool)
+pub entry_is : (program : ProgramParts) (asked copy : TestParts) (entry : EntryParts) (status : Status) (old new : Seen) (input : List ℕ) (budget turns : ℕ) (output : List ℕ) (row : List Bool)
     → old ≡ record { program = program; input = input; done = 0 }
     → input ≡ asked.input → budget ≡ asked.budget
     → new ≡ record old { done = budget }
-    → run_of (flow_of (map function_tree old.program)) old.input budget ≡ Some (results_of status new)
+    → run_of (flow_of (program_tree old.program)) old.input budget ≡ Some (results_of status new)
     → output ≡ output_of (moment_of new) → turns ≡ turns_of new.done (moment_of new)
-    → length row ≡ length (edge_list (map function_tree new.program))
-    → ((e : ℕ) → IsTrue (has row e) ↔ IsCrossed (map function_tree new.program) (crossed_of (moment_of new)) e)
+    → length row ≡ length (edge_list (program_tree new.program))
+    → ((e : ℕ) → IsTrue (has row e) ↔ IsCrossed (program_tree new.program) (crossed_of (moment_of new)) e)
     → copy ≡ asked
     → entry ≡ record { test = copy; status = status; turns = turns; output = output; crossed = row }
-    → IsEntry (map function_tree program) asked entry
+    → IsEntry (program_tree program) asked entry
 entry_is program asked copy entry status old new input budget turns output row is inputs budgets later ran written done edges crossed copied made =
     let same : new.program ≡ program = ap (λ (s : Seen). s.program) later ∙ ap (λ (s : Seen). s.program) is in
-    let begun = subst (λ (s : Seen). run_of (flow_of (map function_tree s.program)) s.input budget ≡ Some (results_of status new)) is ran in
-    let fed = subst (λ (bytes : List ℕ). run_of (flow_of (map function_tree program)) bytes budget ≡ Some (results_of status new)) inputs begun in
-    let whole = subst (λ (n : ℕ). run_of (flow_of (map function_tree program)) asked.input n ≡ Some (results_of status new)) budgets fed in
-    let rows : IsRowOf (map function_tree new.program) (results_of status new) row = record { edges = edges; crossed = crossed } in
-    let placed = subst (λ (p : List Function). IsRowOf (map function_tree p) (results_of status new) row) same rows in
+    let begun = subst (λ (s : Seen). run_of (flow_of (program_tree s.program)) s.input budget ≡ Some (results_of status new)) is ran in
+    let fed = subst (λ (bytes : List ℕ). run_of (flow_of (program_tree program)) bytes budget ≡ Some (results_of status new)) inputs begun in
+    let whole = subst (λ (n : ℕ). run_of (flow_of (program_tree program)) asked.input n ≡ Some (results_of status new)) budgets fed in
+    let rows : IsRowOf (program_tree new.program) (results_of status new) row = record { edges = edges; crossed = crossed } in
+    let placed = subst (λ (p : ProgramParts). IsRowOf (program_tree p) (results_of status new) row) same rows in
     record {
       test = ap (λ (e : EntryParts). e.test) made ∙ copied;
       results = results_of status new;
@@ -42,7 +41,7 @@ entry_is program asked copy entry status old new input budget turns output row i
       status = ap (λ (e : EntryParts). e.status) made;
       turns = ap (λ (e : EntryParts). e.turns) made ∙ done;
       output = ap (λ (e : EntryParts). e.output) made ∙ written;
-      crossed = subst (IsRowOf (map function_tree program) (results_of status new)) (sym (ap (λ (e : EntryParts). e.crossed) made)) placed;
+      crossed = subst (IsRowOf (program_tree program) (results_of status new)) (sym (ap (λ (e : EntryParts). e.crossed) made)) placed;
     }
 
 -- the rows of entries have the program's number of edges

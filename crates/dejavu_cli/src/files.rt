@@ -1,7 +1,7 @@
 //! Files that a command names.
 ghost use Rattle.std.specs.Prelude.{◌≡◌, ◌+◌, ◌≤◌, IfOk, IfErr, MatchResult, length, map};
 ghost use Rattle.dv_outside.specs.Outside.{IsFetched, NeverFalls};
-ghost use Rattle.csub_semantics.specs.Syntax.{ProgramTree, function_tree};
+ghost use Rattle.csub_semantics.specs.Syntax.{ProgramTree, program_tree};
 ghost use Rattle.csub_semantics.specs.Flows.{edge_list};
 ghost use Rattle.read_small.specs.Small.{IsSmall};
 ghost use Rattle.dejavu_cli.specs.Record.{IsSmallSuite};
@@ -47,7 +47,7 @@ pub(crate) fn fetch_file<S: Shelf>(
 
 /// The program of the source in a role.
 pub(crate) fn read_source(alloc: Global, role: Role, bytes: &[u8]) -> Result<Program, Refusal>
-    ensures small { IfOk result (λ program. IsSmall bytes.now (map function_tree program)) }
+    ensures small { IfOk result (λ program. IsSmall bytes.now (program_tree program)) }
     ensures cause { IfErr result (IsSourceCause role bytes.now) }
 {
     match read_small(alloc, bytes) {

@@ -1,6 +1,6 @@
 //! The history of a source and a suite.
 ghost use Rattle.std.specs.Prelude.{◌≤◌, IfOk, IfErr, All, map, length};
-ghost use Rattle.csub_semantics.specs.Syntax.{function_tree};
+ghost use Rattle.csub_semantics.specs.Syntax.{program_tree};
 ghost use Rattle.test_suite.specs.Tests.{IsWithin};
 ghost use Rattle.test_history.specs.Histories.{IsHistoryWithin};
 ghost use Rattle.dejavu_cli.specs.Record.{IsHistory, most_small_tests};
@@ -24,7 +24,7 @@ fn make_history(
 ) -> Result<History, AllocError>
     requires within { All IsWithin tests.now }
     requires few { length tests.now ≤ most_small_tests }
-    ensures history { IfOk result (λ history. IsHistory source.now (map function_tree program.now) tests.now history) }
+    ensures history { IfOk result (λ history. IsHistory source.now (program_tree program.now) tests.now history) }
     ensures within { IfOk result (λ history. IsHistoryWithin history) }
 {
     let graph = Graph::build(alloc, program)?;
@@ -42,8 +42,8 @@ pub(crate) fn record_text(
 ) -> Result<Vec<u8>, Refusal>
     requires within { All IsWithin tests.now }
     requires few { length tests.now ≤ most_small_tests }
-    ensures text { IfOk result (λ text. HasRecordText source.now (map function_tree program.now) tests.now text.items) }
-    ensures cause { IfErr result (IsTextCause source.now (map function_tree program.now) tests.now) }
+    ensures text { IfOk result (λ text. HasRecordText source.now (program_tree program.now) tests.now text.items) }
+    ensures cause { IfErr result (IsTextCause source.now (program_tree program.now) tests.now) }
 {
     let Ok(history) = make_history(alloc, source, program, tests) else {
         return Err(Refusal::Memory);

@@ -1,12 +1,14 @@
 //! Runs of tests.
 ghost use Rattle.std.specs.Prelude.{◌≡◌, IfOk, All, map};
 ghost use Rattle.std.specs.List.{AllZip};
-ghost use Rattle.csub_semantics.specs.Syntax.{function_tree};
+ghost use Rattle.csub_semantics.specs.Syntax.{program_tree};
 ghost use Rattle.flow_graph.specs.Graph.{IsGraphOf};
+ghost use Rattle.csub_flat.specs.Copies.{IsFlatOf};
 ghost use Rattle.test_suite.specs.Tests.{IsWithin};
 ghost use Rattle.dejavu_cli.specs.Record.{IsEntry};
 
 use csub_core::Program;
+use csub_flat::{FlatProgram, flatten_program};
 use csub_machine::Machine;
 use flow_graph::Graph;
 use std::alloc::{AllocError, Global};
@@ -18,14 +20,16 @@ fn run_one(
     alloc: Global,
     program: &Program,
     graph: &Graph,
+    flat: &FlatProgram,
     test: &Test,
 ) -> Result<Entry, AllocError>
-    requires graph { IsGraphOf graph.now (map function_tree program.now) }
+    requires graph { IsGraphOf graph.now (program_tree program.now) }
+    requires copies { IsFlatOf (program_tree program.now) flat.now }
     requires within { IsWithin test.now }
-    ensures { IfOk result (λ entry. IsEntry (map function_tree program.now) test.now entry) }
+    ensures { IfOk result (λ entry. IsEntry (program_tree program.now) test.now entry) }
 {
-    let mut machine = Machine::new(alloc, program, graph, test.input())?;
-    let status = machine.run(test.budget())?;
+    let mut machine = Machine::over(alloc, program, graph, flat, test.input())?;
+    let status = machine.run(test.budget());
     let copy = copy_test(alloc, test)?;
     let output = machine.output().to_vec(alloc)?;
     let crossed = machine.crossed().copy()?;
@@ -39,13 +43,14 @@ pub(crate) fn run_all(
     graph: &Graph,
     tests: &[Test],
 ) -> Result<Vec<Entry>, AllocError>
-    requires graph { IsGraphOf graph.now (map function_tree program.now) }
+    requires graph { IsGraphOf graph.now (program_tree program.now) }
     requires within { All IsWithin tests.now }
-    ensures { IfOk result (λ entries. AllZip (IsEntry (map function_tree program.now)) tests.now entries.items) }
+    ensures { IfOk result (λ entries. AllZip (IsEntry (program_tree program.now)) tests.now entries.items) }
 {
+    let flat = flatten_program(alloc, program, graph)?;
     let mut entries = Vec::new(alloc);
     for test in tests {
-        entries.push(run_one(alloc, program, graph, test)?)?;
+        entries.push(run_one(alloc, program, graph, &flat, test)?)?;
     }
     Ok(entries)
 }

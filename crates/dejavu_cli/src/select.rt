@@ -1,8 +1,9 @@
 //! What has to run again.
-ghost use Rattle.std.specs.Prelude.{◌≡◌, IfOk, MatchResult, map, length};
-ghost use Rattle.csub_semantics.specs.Syntax.{ProgramTree, function_tree};
+ghost use Rattle.std.specs.Prelude.{◌≡◌, ◌<◌, IfOk, MatchResult, map, length};
+ghost use Rattle.csub_semantics.specs.Syntax.{ProgramTree, program_tree};
 ghost use Rattle.read_small.specs.Small.{IsSmall};
 ghost use Rattle.flow_graph.specs.Graph.{IsGraphOf};
+ghost use Rattle.call_walk.specs.Walks.{IsWalk};
 ghost use Rattle.dejavu_cli.specs.Select.{IsSelection};
 ghost use Rattle.dejavu_cli.specs.Steps.{IsHistoryCause, IsDangerRow, HasChoices};
 
@@ -11,20 +12,39 @@ use crate::refusal::Refusal;
 use call_walk::laws::lockstep;
 use call_walk::{WalkResult, walk};
 use csub_core::Program;
+use edge_label::Steps;
 use edge_trace::EdgeRow;
 use flow_graph::Graph;
 use program_laws::{bounds, edges};
 use read_small::a_small_source_means_one_program;
 use std::alloc::{AllocError, Global};
+use std::marker::Brand;
+use std::sync::ledger::{Blank, Ledger};
 use test_history::History;
 use test_select::{select, select_text};
 
+/// The walk of two graphs, whose questions are counted in the ledger of `blank`. An `Err` is want of memory.
+fn walk_counted<L: Ledger>(
+    alloc: Global,
+    old: &Graph,
+    new: &Graph,
+    blank: Blank,
+) -> Result<WalkResult, AllocError>
+    requires name { blank.name ≡ L.name }
+    requires parts { blank.parts ≡ L.parts }
+    requires some { 0 < blank.parts }
+    ensures { (P P' : ProgramTree) → IsGraphOf old.now P → IsGraphOf new.now P' → IfOk result (IsWalk P P') }
+{
+    let mut steps: Steps<L> = Steps::new(blank);
+    walk(alloc, old, new, &mut steps)
+}
+
 /// The dangerous edges of the old program, whose graph is given, beside the new one. An `Err` is want of memory.
 fn dangerous_edges(alloc: Global, old: &Graph, new: &Program) -> Result<EdgeRow, AllocError>
-    ensures { (P : ProgramTree) → IsGraphOf old.now P → IfOk result (IsDangerRow P (map function_tree new.now)) }
+    ensures { (P : ProgramTree) → IsGraphOf old.now P → IfOk result (IsDangerRow P (program_tree new.now)) }
 {
     let graph = Graph::build(alloc, new)?;
-    let WalkResult { facts: _, danger } = walk(alloc, old, &graph)?;
+    let WalkResult { facts: _, danger } = walk_counted::<Brand>(alloc, old, &graph, Blank::new(1))?;
     Ok(danger)
 }
 
@@ -45,10 +65,10 @@ pub(crate) fn selection_text(
     new: &Program,
     bytes: &[u8],
 ) -> Result<Vec<u8>, Refusal>
-    requires { IsSmall source.now (map function_tree old.now) }
+    requires { IsSmall source.now (program_tree old.now) }
     ensures { MatchResult result
-        (λ text. IsSelection source.now bytes.now (map function_tree old.now) (map function_tree new.now) text.items)
-        (IsHistoryCause source.now bytes.now (map function_tree old.now)) }
+        (λ text. IsSelection source.now bytes.now (program_tree old.now) (program_tree new.now) text.items)
+        (IsHistoryCause source.now bytes.now (program_tree old.now)) }
 {
     let Ok(graph) = Graph::build(alloc, old) else {
         return Err(Refusal::Memory);

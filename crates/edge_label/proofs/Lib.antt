@@ -1,2 +1,6 @@
+pub mod LawsNumbers
+mod CodeLemmas
+mod NameLemmas
 mod BookLemmas
-mod NumberLemmas
+mod PlaceLemmas
+mod TableLemmas

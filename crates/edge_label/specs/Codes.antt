@@ -12,12 +12,14 @@ use Rattle.csub_types.specs.declared.kind.IntKind.{IntKind}
 use Rattle.csub_types.specs.declared.kind.IntKind.TheVariants.{Char, Int, Unsigned}
 use Rattle.csub_semantics.specs.declared.label.EndRule.{EndRule}
 use Rattle.csub_semantics.specs.declared.label.EndRule.TheVariants as rule
-use Rattle.csub_semantics.specs.Types.{Name, TypeTree, number_type, MemberTree}
+use Rattle.csub_objects.specs.Types.{Name, TypeTree, number_type, array_type, struct_type, loose_type}
+use Rattle.csub_objects.specs.Types.{MemberTree, MemberTrees, no_member, more_members}
+use Rattle.csub_semantics.specs.Types.{GlobalTree}
 use Rattle.csub_semantics.specs.Trees.{variable, constant, reading, unary_operation, conversion, stepping, operation, conjunction, disjunction}
 use Rattle.csub_semantics.specs.Trees.{choice, assignment, update, input_byte, output_byte, value_argument, OwnerTree, global_owner, local_owner}
 use Rattle.csub_semantics.specs.Trees.{Variable, object, temporary, NamedPlace, NamedExpr, NamedArg}
 use Rattle.csub_semantics.specs.Labels.{AnswerTree, CallTree, InitTree, one_value, LabelTree, enters, exits, evaluates, initialises, branches}
-use Rattle.csub_semantics.specs.Labels.{returns, calls, Initial, PointLabel}
+use Rattle.csub_semantics.specs.Labels.{returns, calls, PointLabel}
 
 abbrev pub number_code : ℕ → List ℕ
 number_code n = n ∷ []
@@ -81,8 +83,17 @@ rule_number rule.Value = 1
 rule_number rule.Main = 2
 rule_number rule.Start = 3
 
-abbrev pub type_code : TypeTree → List ℕ
-type_code (number_type kind) = 0 ∷ kind_code kind
+-- a whole type, with the tags and the members of the structs in it
+abbrev mutual
+  pub type_code : TypeTree → List ℕ
+  type_code (number_type kind) = 0 ∷ kind_code kind
+  type_code (array_type element n) = 1 ∷ n ∷ type_code element
+  type_code (struct_type tag members) = 2 ∷ (name_code tag ++ members_code members)
+  type_code (loose_type element) = 3 ∷ type_code element
+
+  pub members_code : MemberTrees → List ℕ
+  members_code no_member = 0 ∷ []
+  members_code (more_members name ctype rest) = 1 ∷ (name_code name ++ (type_code ctype ++ members_code rest))
 
 abbrev pub member_code : MemberTree → List ℕ
 member_code member = name_code member.name ++ type_code member.ctype
@@ -136,9 +147,9 @@ label_code (returns answer) = 4 ∷ option_code answer_code answer
 label_code (calls call) = 5 ∷ call_code call
 label_code (initialises owner ctype init) = 6 ∷ (owner_code owner ++ (type_code ctype ++ init_code init))
 
-abbrev pub initial_code : Initial → List ℕ
-initial_code initial = name_code initial.name ++ list_code integer_code initial.contents
+abbrev pub global_code : GlobalTree → List ℕ
+global_code global = name_code global.name ++ (type_code global.ctype ++ list_code integer_code global.initial)
 
 -- the code of a whole label
 abbrev pub point_code : PointLabel → List ℕ
-point_code label = label_code label.tree ++ list_code initial_code label.globals
+point_code label = label_code label.tree ++ list_code global_code label.globals

@@ -1,6 +1,8 @@
 -- Books of labels. A book is seen as the list of its labels, in the order of their numbers.
 use Rattle.std.specs.Prelude.{◌≡◌, ◌⊎◌, ℕ, List, [], ◌∷◌, ◌++◌, Some, slice_get}
+use Rattle.csub_semantics.specs.Types.{GlobalTree}
 use Rattle.csub_semantics.specs.Labels.{LabelTree, PointLabel}
+use Rattle.csub_semantics.specs.Globals.{named_globals}
 
 -- the book has this number for this label
 abbrev pub HasNumber : List PointLabel → ℕ → PointLabel → Type 0
@@ -14,6 +16,10 @@ KeepsNumbers old new = (n : ℕ) (label : PointLabel) → HasNumber old n label 
 abbrev pub AddsOnly : List PointLabel → List PointLabel → PointLabel → Type 0
 AddsOnly old new label = (new ≡ old) ⊎ (new ≡ old ++ label ∷ [])
 
--- the label of a tree that names no global
-abbrev pub bare : LabelTree → PointLabel
-bare tree = record { tree = tree; globals = [] }
+-- a whole label: a tree, and each of some globals that the tree names
+abbrev pub whole : List GlobalTree → LabelTree → PointLabel
+whole globals tree = record { tree = tree; globals = named_globals globals tree }
+
+-- nothing stands twice in a list, so that each value there has one number
+abbrev pub HasEachOnce : {A : Type 0} → List A → Type 0
+HasEachOnce {A} values = (i j : ℕ) (value : A) → slice_get values i ≡ Some value → slice_get values j ≡ Some value → i ≡ j

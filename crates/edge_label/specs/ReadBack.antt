@@ -1,6 +1,6 @@
 -- A label can be read back from its code, whatever follows the code. This is a proof, and nothing in it has to be believed.
 use Rattle.std.proofs.Common.{◌≡◌, ℕ, zero, suc, ℤ, pos, negsuc, List, [], ◌∷◌, ◌++◌, length, take, drop, Option, Some, None, refl, sym, ap, ap₂, ◌∙◌}
-use Rattle.std.proofs.Common.{append_assoc, append-nil, subst}
+use Rattle.std.proofs.Common.{append_assoc, append-nil, subst, ◌≤◌, arith, length-append}
 use Rattle.std.specs.List.{flat_map}
 use Rattle.csub_text.specs.declared.operator.UnaryOp.{UnaryOp}
 use Rattle.csub_text.specs.declared.operator.UnaryOp.TheVariants.{Plus, Minus, Not, Flip}
@@ -12,18 +12,21 @@ use Rattle.csub_types.specs.declared.kind.IntKind.{IntKind}
 use Rattle.csub_types.specs.declared.kind.IntKind.TheVariants.{Char, Int, Unsigned}
 use Rattle.csub_semantics.specs.declared.label.EndRule.{EndRule}
 use Rattle.csub_semantics.specs.declared.label.EndRule.TheVariants as rule
-use Rattle.csub_semantics.specs.Types.{Name, TypeTree, number_type, MemberTree}
+use Rattle.csub_objects.specs.Types.{Name, TypeTree, number_type, array_type, struct_type, loose_type}
+use Rattle.csub_objects.specs.Types.{MemberTree, MemberTrees, no_member, more_members}
+use Rattle.csub_semantics.specs.Types.{GlobalTree}
 use Rattle.csub_semantics.specs.Trees.{variable, constant, reading, unary_operation, conversion, stepping, operation, conjunction, disjunction}
 use Rattle.csub_semantics.specs.Trees.{choice, assignment, update, input_byte, output_byte, value_argument, OwnerTree, global_owner, local_owner}
 use Rattle.csub_semantics.specs.Trees.{Variable, object, temporary, NamedPlace, NamedExpr, NamedArg}
 use Rattle.csub_semantics.specs.Labels.{AnswerTree, CallTree, InitTree, one_value, LabelTree, enters, exits, evaluates, initialises, branches}
-use Rattle.csub_semantics.specs.Labels.{returns, calls, Initial, PointLabel}
+use Rattle.csub_semantics.specs.Labels.{returns, calls, PointLabel}
 use Rattle.edge_label.specs.Codes.{number_code, integer_code, name_code, list_code, option_code, kind_number, kind_code, unary_number, step_number}
-use Rattle.edge_label.specs.Codes.{operator_number, rule_number, type_code, member_code, owner_code, variable_code, place_code, expr_code, arg_code}
-use Rattle.edge_label.specs.Codes.{answer_code, call_code, init_code, label_code, initial_code, point_code}
+use Rattle.edge_label.specs.Codes.{operator_number, rule_number, type_code, members_code, member_code, owner_code, variable_code}
+use Rattle.edge_label.specs.Codes.{place_code, expr_code, arg_code, answer_code, call_code, init_code, label_code, global_code, point_code}
 use Rattle.edge_label.specs.Readers.{Reader, then, read_number, read_integer, read_name, read_times, read_list, read_option, read_kind, read_unary}
-use Rattle.edge_label.specs.Readers.{read_step, read_operator, read_rule, read_type, read_member, read_owner, read_variable, read_place, read_levels}
-use Rattle.edge_label.specs.Readers.{read_expr, read_arg, read_answer, read_call, read_init, read_tree, read_initial, read_label, label_of}
+use Rattle.edge_label.specs.Readers.{read_step, read_operator, read_rule, read_type_levels, read_members_levels, read_type, read_member}
+use Rattle.edge_label.specs.Readers.{read_owner, read_variable, read_place, read_levels}
+use Rattle.edge_label.specs.Readers.{read_expr, read_arg, read_answer, read_call, read_init, read_tree, read_global, read_label, coded_global, label_of}
 
 -- what a reader and the one behind it give
 then_back : {A B : Type 0} (read : Reader A) (next : A → Reader B) {codes rest : List ℕ} {x : A} {given : B × List ℕ}
@@ -105,8 +108,37 @@ module _ {A : Type 0} (code : A → List ℕ) (read : Reader A) (back : (x : A) 
   option_back None s = refl
   option_back (Some x) s = then_back _ _ (back x s) refl
 
+-- no type and no members have more levels than their code has numbers
+mutual
+  type_levels_back : (t : TypeTree) (n : ℕ) (s : List ℕ) → length (type_code t) ≤ n
+      → read_type_levels n (type_code t ++ s) ≡ (t, s)
+  type_levels_back (number_type kind) zero s h = absurd (omega arith)
+  type_levels_back (array_type element k) zero s h = absurd (omega arith)
+  type_levels_back (struct_type tag members) zero s h = absurd (omega arith)
+  type_levels_back (loose_type element) zero s h = absurd (omega arith)
+  type_levels_back (number_type kind) (suc n) s h = then_back _ _ (kind_back kind s) refl
+  type_levels_back (array_type element k) (suc n) s h =
+      then_back _ _ refl (then_back _ _ (type_levels_back element n s (omega arith)) refl)
+  type_levels_back (struct_type tag members) (suc n) s h =
+      let falls : length (members_code members) ≤ n = omega (arith, length-append (name_code tag) (members_code members)) in
+      then_append _ _ (name_code tag) (members_code members) s (name_back tag) (then_back _ _ (members_levels_back members n s falls) refl)
+  type_levels_back (loose_type element) (suc n) s h = then_back _ _ (type_levels_back element n s (omega arith)) refl
+
+  members_levels_back : (ms : MemberTrees) (n : ℕ) (s : List ℕ) → length (members_code ms) ≤ n
+      → read_members_levels n (members_code ms ++ s) ≡ (ms, s)
+  members_levels_back no_member zero s h = absurd (omega arith)
+  members_levels_back (more_members name ctype rest) zero s h = absurd (omega arith)
+  members_levels_back no_member (suc n) s h = refl
+  members_levels_back (more_members name ctype rest) (suc n) s h =
+      let all = length-append (name_code name) (type_code ctype ++ members_code rest) in
+      let both = length-append (type_code ctype) (members_code rest) in
+      then_append _ _ (name_code name) (type_code ctype ++ members_code rest) s (name_back name)
+      (then_append _ _ (type_code ctype) (members_code rest) s (λ t. type_levels_back ctype n t (omega (arith, all, both)))
+      (then_back _ _ (members_levels_back rest n s (omega (arith, all, both))) refl))
+
 type_back : (t : TypeTree) (s : List ℕ) → read_type (type_code t ++ s) ≡ (t, s)
-type_back (number_type kind) s = then_back _ _ (kind_back kind s) refl
+unfolding read_type
+type_back t s = type_levels_back t (length (type_code t ++ s)) s (omega (arith, length-append (type_code t) s))
 
 member_back : (m : MemberTree) (s : List ℕ) → read_member (member_code m ++ s) ≡ (m, s)
 member_back m s = then_append _ _ (name_code m.name) (type_code m.ctype) s (name_back m.name) (then_back _ _ (type_back m.ctype s) refl)
@@ -164,7 +196,8 @@ levels_first before code s e h =
     subst (λ codes. HasLevels (length (before ++ codes)) e) (sym (append_assoc (expr_code e) code s))
     (levels_before before (expr_code e ++ (code ++ s)) e h)
 
-levels_second : (before first code s : List ℕ) (e : NamedExpr) → HasLevels (length (code ++ s)) e → HasLevels (length (before ++ ((first ++ code) ++ s))) e
+levels_second : (before first code s : List ℕ) (e : NamedExpr) → HasLevels (length (code ++ s)) e
+    → HasLevels (length (before ++ ((first ++ code) ++ s))) e
 levels_second before first code s e h =
     subst (λ codes. HasLevels (length (before ++ codes)) e) (sym (append_assoc first code s))
     (levels_before before (first ++ (code ++ s)) e (levels_before first (code ++ s) e h))
@@ -253,7 +286,7 @@ call_back call s =
 init_back : (init : InitTree) (s : List ℕ) → read_init (init_code init ++ s) ≡ (init, s)
 init_back (one_value e) s = then_back _ _ (expr_back e s) refl
 
-tree_back : (tree : LabelTree) (s : List ℕ) → read_tree (label_code tree ++ s) ≡ (tree, s)
+pub tree_back : (tree : LabelTree) (s : List ℕ) → read_tree (label_code tree ++ s) ≡ (tree, s)
 tree_back enters s = refl
 tree_back (exits rule) s = then_back _ _ (rule_back rule s) refl
 tree_back (evaluates e) s = then_back _ _ (expr_back e s) refl
@@ -264,14 +297,21 @@ tree_back (initialises owner ctype init) s =
     then_append _ _ (owner_code owner) (type_code ctype ++ init_code init) s (owner_back owner)
     (then_append _ _ (type_code ctype) (init_code init) s (type_back ctype) (then_back _ _ (init_back init s) refl))
 
-initial_back : (initial : Initial) (s : List ℕ) → read_initial (initial_code initial ++ s) ≡ (initial, s)
-initial_back initial s =
-    then_append _ _ (name_code initial.name) _ s (name_back initial.name)
-    (then_back _ _ (list_back integer_code read_integer integer_back initial.contents s) refl)
+pub global_back : (global : GlobalTree) (s : List ℕ) → read_global (global_code global ++ s) ≡ (global, s)
+global_back global s =
+    then_append _ _ (name_code global.name) _ s (name_back global.name)
+    (then_append _ _ (type_code global.ctype) _ s (type_back global.ctype)
+    (then_back _ _ (list_back integer_code read_integer integer_back global.initial s) refl))
 
 label_back : (label : PointLabel) (s : List ℕ) → read_label (point_code label ++ s) ≡ (label, s)
 label_back label s =
-    then_append _ _ (label_code label.tree) _ s (tree_back label.tree) (then_back _ _ (list_back initial_code read_initial initial_back label.globals s) refl)
+    then_append _ _ (label_code label.tree) _ s (tree_back label.tree) (then_back _ _ (list_back global_code read_global global_back label.globals s) refl)
+
+-- a global is read back from its code
+pub coded_global-global_code : (global : GlobalTree) → coded_global (global_code global) ≡ global
+unfolding coded_global
+coded_global-global_code global =
+    ap (λ codes. (read_global codes).0) (sym (append-nil (global_code global))) ∙ ap (λ r. r.0) (global_back global [])
 
 -- a label is read back from its code
 pub label_of-point_code : (label : PointLabel) → label_of (point_code label) ≡ label

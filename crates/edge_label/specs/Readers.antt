@@ -11,12 +11,14 @@ use Rattle.csub_types.specs.declared.kind.IntKind.{IntKind}
 use Rattle.csub_types.specs.declared.kind.IntKind.TheVariants.{Char, Int, Unsigned}
 use Rattle.csub_semantics.specs.declared.label.EndRule.{EndRule}
 use Rattle.csub_semantics.specs.declared.label.EndRule.TheVariants as rule
-use Rattle.csub_semantics.specs.Types.{Name, TypeTree, number_type, MemberTree}
+use Rattle.csub_objects.specs.Types.{Name, TypeTree, number_type, array_type, struct_type, loose_type}
+use Rattle.csub_objects.specs.Types.{MemberTree, MemberTrees, no_member, more_members}
+use Rattle.csub_semantics.specs.Types.{GlobalTree}
 use Rattle.csub_semantics.specs.Trees.{variable, constant, reading, unary_operation, conversion, stepping, operation, conjunction, disjunction}
 use Rattle.csub_semantics.specs.Trees.{choice, assignment, update, input_byte, output_byte, value_argument, OwnerTree, global_owner, local_owner}
 use Rattle.csub_semantics.specs.Trees.{Variable, object, temporary, NamedPlace, NamedExpr, NamedArg}
 use Rattle.csub_semantics.specs.Labels.{AnswerTree, CallTree, InitTree, one_value, LabelTree, enters, exits, evaluates, initialises, branches}
-use Rattle.csub_semantics.specs.Labels.{returns, calls, Initial, PointLabel}
+use Rattle.csub_semantics.specs.Labels.{returns, calls, PointLabel}
 
 -- a reader takes a value off the front of a list, and gives what is left
 abbrev pub Reader : Type 0 → Type 0
@@ -64,14 +66,33 @@ read_step = by_number (just PreUp ∷ just PreDown ∷ just PostUp ∷ just Post
 
 abbrev pub read_operator : Reader BinOp
 read_operator =
-    by_number (just Mul ∷ just Div ∷ just Rem ∷ just Add ∷ just Sub ∷ just Shl ∷ just Shr ∷ just Lt ∷ just Gt ∷ just Le ∷ just Ge ∷ just Eq ∷ just Ne
-    ∷ just BitAnd ∷ just BitXor ∷ just BitOr ∷ []) Mul
+    by_number (just Mul ∷ just Div ∷ just Rem ∷ just Add ∷ just Sub ∷ just Shl ∷ just Shr ∷ just Lt ∷ just Gt ∷ just Le ∷ just Ge
+    ∷ just Eq ∷ just Ne ∷ just BitAnd ∷ just BitXor ∷ just BitOr ∷ []) Mul
 
 abbrev pub read_rule : Reader EndRule
 read_rule = by_number (just rule.Nothing ∷ just rule.Value ∷ just rule.Main ∷ just rule.Start ∷ []) rule.Nothing
 
-abbrev pub read_type : Reader TypeTree
-read_type = by_number (then read_kind (λ kind. just (number_type kind)) ∷ []) (number_type Char)
+-- a type of at most so many levels, and so members, where those behind the first are a level below
+abbrev mutual
+  pub read_type_levels : ℕ → Reader TypeTree
+  read_type_levels zero = just (number_type Char)
+  read_type_levels (suc n) =
+      by_number (then read_kind (λ kind. just (number_type kind))
+      ∷ then read_number (λ k. then (read_type_levels n) (λ element. just (array_type element k)))
+      ∷ then read_name (λ tag. then (read_members_levels n) (λ members. just (struct_type tag members)))
+      ∷ then (read_type_levels n) (λ element. just (loose_type element))
+      ∷ []) (number_type Char)
+
+  pub read_members_levels : ℕ → Reader MemberTrees
+  read_members_levels zero = just no_member
+  read_members_levels (suc n) =
+      by_number (just no_member
+      ∷ then read_name (λ name. then (read_type_levels n) (λ ctype. then (read_members_levels n) (λ rest. just (more_members name ctype rest))))
+      ∷ []) no_member
+
+-- a type has no more levels than its code has numbers
+unfoldable pub read_type : Reader TypeTree
+read_type codes = read_type_levels (length codes) codes
 
 abbrev pub read_member : Reader MemberTree
 read_member = then read_name (λ name. then read_type (λ ctype. just (record { name = name; ctype = ctype })))
@@ -140,11 +161,17 @@ read_tree =
     ∷ then read_owner (λ owner. then read_type (λ ctype. then read_init (λ init. just (initialises owner ctype init))))
     ∷ []) enters
 
-abbrev pub read_initial : Reader Initial
-read_initial = then read_name (λ name. then (read_list read_integer) (λ contents. just (record { name = name; contents = contents })))
+abbrev pub read_global : Reader GlobalTree
+read_global =
+    then read_name (λ name. then read_type (λ ctype. then (read_list read_integer) (λ initial.
+    just (record { name = name; ctype = ctype; initial = initial }))))
 
 abbrev pub read_label : Reader PointLabel
-read_label = then read_tree (λ tree. then (read_list read_initial) (λ globals. just (record { tree = tree; globals = globals })))
+read_label = then read_tree (λ tree. then (read_list read_global) (λ globals. just (record { tree = tree; globals = globals })))
+
+-- the global that a list of numbers is the code of
+unfoldable pub coded_global : List ℕ → GlobalTree
+coded_global codes = (read_global codes).0
 
 -- the label that a list of numbers is the code of
 unfoldable pub label_of : List ℕ → PointLabel

@@ -1,27 +1,20 @@
 //! The code of a label, number by number.
 ghost use Rattle.std.specs.Prelude.{◌≡◌, ◌++◌, ◌∷◌, [], OnOk, map, option_map};
-ghost use Rattle.csub_semantics.specs.Types.{type_tree, member_tree};
+ghost use Rattle.csub_objects.specs.Types.{members_of};
+ghost use Rattle.csub_objects.specs.Meaning.{type_tree, member_tree};
+ghost use Rattle.csub_semantics.specs.Types.{global_tree};
 ghost use Rattle.csub_semantics.specs.Trees.{constant, reading, stepping, variable, temporary, owner_tree, place_tree, expr_tree, arg_tree};
 ghost use Rattle.csub_semantics.specs.Labels.{answer_tree, call_tree, init_tree, label_tree};
-ghost use Rattle.edge_label.specs.Codes.{integer_code, name_code, list_code, option_code, number_code, kind_code, kind_number, unary_number, step_number, operator_number, rule_number, type_code, member_code, owner_code, place_code, expr_code, arg_code, answer_code, call_code, init_code, label_code, point_code};
-ghost use Rattle.edge_label.specs.Numbers.{bare};
+ghost use Rattle.edge_label.specs.Codes.{integer_code, name_code, list_code, option_code, number_code, kind_code, kind_number, unary_number, step_number, operator_number, rule_number, type_code, members_code, member_code, owner_code, place_code, expr_code, arg_code, answer_code, call_code, init_code, label_code, global_code};
 
 use csub_semantics::{
-    Answer, BinOp, CType, CallLabel, EndRule, IntKind, Label, Member, Owner, Place, RArg, RExpr,
-    RInit, StepOp, UnaryOp,
+    Answer, BinOp, CType, CallLabel, EndRule, GlobalVar, IntKind, Label, Member, Owner, Place,
+    RArg, RExpr, RInit, StepOp, UnaryOp,
 };
 use std::alloc::AllocError;
 
-/// Appends the code of a label whose tree names no global. An `Err` is want of memory.
+/// Appends the code of a label's tree. An `Err` is want of memory.
 pub fn push_label(out: &mut Vec<u64>, label: &Label) -> Result<(), AllocError>
-    ensures { OnOk result (out.new.items ≡ out.old.items ++ point_code (bare (label_tree label.now))) }
-{
-    push_tree(out, label)?;
-    out.push(0)?;
-    Ok(())
-}
-
-fn push_tree(out: &mut Vec<u64>, label: &Label) -> Result<(), AllocError>
     ensures { OnOk result (out.new.items ≡ out.old.items ++ label_code (label_tree label.now)) }
 {
     match label {
@@ -52,6 +45,25 @@ fn push_tree(out: &mut Vec<u64>, label: &Label) -> Result<(), AllocError>
             push_type(out, ctype)?;
             push_init(out, init)?;
         }
+    }
+    Ok(())
+}
+
+/// Appends the code of a global. An `Err` is want of memory.
+pub fn push_global(out: &mut Vec<u64>, global: &GlobalVar) -> Result<(), AllocError>
+    ensures { OnOk result (out.new.items ≡ out.old.items ++ global_code (global_tree global.now)) }
+{
+    push_name(out, global.name.bytes())?;
+    push_type(out, &global.ctype)?;
+    push_integers(out, &global.initial)
+}
+
+fn push_integers(out: &mut Vec<u64>, values: &[i64]) -> Result<(), AllocError>
+    ensures { OnOk result (out.new.items ≡ out.old.items ++ list_code integer_code values.now) }
+{
+    out.push(values.len() as u64)?;
+    for value in values {
+        push_integer(out, *value)?;
     }
     Ok(())
 }
@@ -123,6 +135,7 @@ fn push_members(out: &mut Vec<u64>, members: &[Member]) -> Result<(), AllocError
     Ok(())
 }
 
+#[cycle(types)]
 fn push_member(out: &mut Vec<u64>, member: &Member) -> Result<(), AllocError>
     ensures { OnOk result (out.new.items ≡ out.old.items ++ member_code (member_tree member.now)) }
 {
@@ -130,16 +143,42 @@ fn push_member(out: &mut Vec<u64>, member: &Member) -> Result<(), AllocError>
     push_type(out, &member.ctype)
 }
 
+#[cycle(types)]
 fn push_type(out: &mut Vec<u64>, ctype: &CType) -> Result<(), AllocError>
     ensures { OnOk result (out.new.items ≡ out.old.items ++ type_code (type_tree ctype.now)) }
 {
     match ctype {
         CType::Num(kind) => {
             out.push(0)?;
-            out.push(kind_number(*kind))?;
+            Ok(out.push(kind_number(*kind))?)
+        }
+        CType::Array(element, length) => {
+            out.push(1)?;
+            out.push(u64::from(*length))?;
+            push_type(out, element.ctype())
+        }
+        CType::Struct(tag, members) => {
+            out.push(2)?;
+            push_name(out, tag.bytes())?;
+            push_struct_members(out, members.items())
+        }
+        CType::Loose(element) => {
+            out.push(3)?;
+            push_type(out, element.ctype())
         }
     }
-    Ok(())
+}
+
+/// Appends the code of the members of a struct.
+#[cycle(types)]
+fn push_struct_members(out: &mut Vec<u64>, members: &[Member]) -> Result<(), AllocError>
+    ensures { OnOk result (out.new.items ≡ out.old.items ++ members_code (members_of (map member_tree members.now))) }
+{
+    for member in members {
+        out.push(1)?;
+        push_member(out, member)?;
+    }
+    Ok(out.push(0)?)
 }
 
 fn push_args(out: &mut Vec<u64>, args: &[RArg]) -> Result<(), AllocError>

@@ -4,21 +4,21 @@ use Rattle.call_walk.proofs.Naming.{at_named}
 use Rattle.call_walk.proofs.follow.advance.Goals as goal
 
 pub successors-requires : goal.successors-requires
-successors-requires c =
+successors-requires g c =
     let at = contained c.args.pairs.now.facts.items c.args.from c.requires.among in
     let w = c.requires.moment.within at.0 c.args.from at.1 in
-    record { old = w.old; new = w.new }
+    record { labels = c.requires.labels; old = w.old; new = w.new }
 
 pub returns-in_default-clause-held : goal.returns-in_default-clause-held
-returns-in_default-clause-held c P P' ok ok' f p p' q q' at both = absurd (c.in_default.ensures.together P P' f p p' ok ok' at q q' both)
+returns-in_default-clause-held g c P P' ok ok' f p p' q q' at both = absurd (c.in_default.ensures.together P P' f p p' ok ok' at q q' both)
 
 pub returns-clause-moment : goal.returns-clause-moment
-returns-clause-moment c =
+returns-clause-moment g c =
     let at = contained c.args.pairs.now.facts.items c.args.from c.requires.among in
     let w = c.requires.moment.within at.0 c.args.from at.1 in
-    on_ok_3 c.add.result (moment_more c.args.old.now c.args.new.now c.args.pairs.now c.add.new.pairs _ c.requires.moment (record { function = w.function; old = c.in-Some.ensures.old; new = c.in-Some.ensures.new })
+    on_ok_3 c.add.result (moment_more c.args.both.now.old.now c.args.both.now.new.now c.args.pairs.now c.add.new.pairs _ c.requires.moment (record { function = w.function; old = c.in-Some.ensures.old; new = c.in-Some.ensures.new })
     (λ P P' ok ok'. let n = (c.requires.moment.explained.each P P' ok ok' at.0 c.args.from at.1).named in c.requires.why P P' ok ok' n.name n.point n.other (at_named P P' c.args.from n) c.in-Some.next (c.in-Some.ensures.together P P' n.name n.point n.other ok ok' (at_named P P' c.args.from n))))
     c.add.ensures.pairs c.add.ensures.points c.add.ensures.facts
 
 pub returns-clause-held : goal.returns-clause-held
-returns-clause-held c = on_ok c.add.result (λ h P P' ok ok' f p p' q q' at both. together_held P P' c.add.new.pairs.facts.items f p p' q q' (exit_tree c.args.exit.now) c.in-Some.next (c.in-Some.ensures.together P P' f p p' ok ok' at) h both) c.add.ensures.held
+returns-clause-held g c = on_ok c.add.result (λ h P P' ok ok' f p p' q q' at both. together_held P P' c.add.new.pairs.facts.items f p p' q q' (exit_tree c.args.exit.now) c.in-Some.next (c.in-Some.ensures.together P P' f p p' ok ok' at) h both) c.add.ensures.held

@@ -4,10 +4,10 @@ use Rattle.call_walk.proofs.Following.{waiting_extends, done_more}
 use Rattle.call_walk.proofs.follow.follow.Goals as goal
 
 pub returns-clause-waiting : goal.returns-clause-waiting
-returns-clause-waiting c = on_ok c.resume.result (λ h. waiting_extends c.args.old.now c.args.new.now c.follow_own.new.waiting h c.in_ok-follow_own.ensures.waiting) c.resume.ensures.grows
+returns-clause-waiting g c = on_ok c.resume.result (λ h. waiting_extends c.args.both.now.old.now c.args.both.now.new.now c.follow_own.new.waiting h c.in_ok-follow_own.ensures.waiting) c.resume.ensures.grows
 
 pub returns-clause-done : goal.returns-clause-done
-returns-clause-done c =
+returns-clause-done g c =
     on_ok_2 c.resume.result
     (λ grows resumed. record {
       each = λ P P' ok ok'. done_more P P' c.args.pairs.now.facts.items c.follow_own.new.pairs.facts.items c.resume.new.pairs.facts.items c.args.waiting.now c.follow_own.new.waiting c.args.at c.index-from.result.now c.in_ok-follow_own.ensures.grows grows c.requires.at

@@ -8,11 +8,11 @@ use Rattle.call_walk.proofs.Explaining.{over_explained, on_ok}
 use Rattle.call_walk.proofs.follow.pass_over.Goals as goal
 
 pub advance-requires-clause-why : goal.advance-requires-clause-why
-advance-requires-clause-why c P P' ok ok' f p p' at pair t =
+advance-requires-clause-why g c P P' ok ok' f p p' at pair t =
     let stands = read_at c.args.pairs.now.facts.items c.args.at c.index-from.result.now c.requires.at c.index-from.ensures in
     over_explained P P' c.args.pairs.now.facts.items c.args.at c.args.back c.index-from.result.now f p p' pair (c.requires.moment.explained.each P P' ok ok') (c.requires.over P P' ok ok') stands at t
 
 pub returns-clause-held : goal.returns-clause-held
-returns-clause-held c =
+returns-clause-held g c =
     let stands = read_at c.args.pairs.now.facts.items c.args.at c.index-from.result.now c.requires.at c.index-from.ensures in
     on_ok c.advance.result (λ h P P' d ok ok' e. subst (λ (b : Fact). HoldsNext P P' c.advance.new.pairs.facts.items b next) (same_Some c.index-from.result.now d (sym stands ∙ e)) (h P P' ok ok')) c.advance.ensures.held

@@ -8,8 +8,8 @@ use Rattle.call_walk.specs.Moments.{IsMoment, Extends, HoldsNext}
 use Rattle.call_walk.proofs.follow.resume.Given as goal
 
 abbrev pub invariant-loop-call : goal.invariant-loop-call
-invariant-loop-call l = record {
-  moment : IsMoment l.old l.new l.pairs;
+invariant-loop-call g l = record {
+  moment : IsMoment l.both.old.now l.both.new.now l.pairs;
   grows : Extends l.fn.pairs.facts.items l.pairs.facts.items;
-  held : (P P' : ProgramTree) → IsGraphOf l.old P → IsGraphOf l.new P' → (k j : ℕ) (c : Fact) → k < l.call-index → slice_get l.call-items k ≡ Some j → slice_get l.fn.pairs.facts.items j ≡ Some c → HoldsNext P P' l.pairs.facts.items c next;
+  held : (P P' : ProgramTree) → IsGraphOf l.both.old.now P → IsGraphOf l.both.new.now P' → (k j : ℕ) (c : Fact) → k < l.call-index → slice_get l.call-items k ≡ Some j → slice_get l.fn.pairs.facts.items j ≡ Some c → HoldsNext P P' l.pairs.facts.items c next;
 }

@@ -15,30 +15,30 @@ use Rattle.call_walk.proofs.Following.{holds_extends, moment_named}
 use Rattle.call_walk.proofs.follow.take_steps.Goals as goal
 
 pub edge_at-requires : goal.edge_at-requires
-edge_at-requires c =
+edge_at-requires g c =
     c.requires.ways.below c.args.from.old (get_or c.row-edge-items.result.now c.loop-edge.edge-index 0)
     (record { row = c.row-edge-items.result.now; stands = c.row-edge-items.ensures; place = c.loop-edge.edge-index; is = slice_get-get_or c.row-edge-items.result.now c.loop-edge.edge-index 0 c.loop-edge-test.true })
 
 pub advance-requires-clause-among : goal.advance-requires-clause-among
-advance-requires-clause-among c = contains_at c.loop-edge.pairs.facts.items c.args.at c.args.from (get_extends c.loop-edge.invariant.grows c.args.at c.args.from c.requires.stands)
+advance-requires-clause-among g c = contains_at c.loop-edge.pairs.facts.items c.args.at c.args.from (get_extends c.loop-edge.invariant.grows c.args.at c.args.from c.requires.stands)
 
 pub advance-requires-clause-why : goal.advance-requires-clause-why
-advance-requires-clause-why c P P' ok ok' f p p' at pair t =
+advance-requires-clause-why g c P P' ok ok' f p p' at pair t =
     let e = get_or c.row-edge-items.result.now c.loop-edge.edge-index 0 in
     let leaves = c.requires.ways.sound P ok c.args.from.old e (record { row = c.row-edge-items.result.now; stands = c.row-edge-items.ensures; place = c.loop-edge.edge-index; is = slice_get-get_or c.row-edge-items.result.now c.loop-edge.edge-index 0 c.loop-edge-test.true }) in
     let stands = get_extends c.loop-edge.invariant.grows c.args.at c.args.from c.requires.stands in
     step_explained P P' c.loop-edge.pairs.facts.items c.args.at e c.args.from f p p' (exit_tree c.edge_at.result.exit.now) pair stands
-    (moment_named c.args.old.now c.args.new.now c.loop-edge.pairs c.loop-edge.invariant.moment P P' ok ok' c.args.at c.args.from stands)
+    (moment_named c.args.both.now.old.now c.args.both.now.new.now c.loop-edge.pairs c.loop-edge.invariant.moment P P' ok ok' c.args.at c.args.from stands)
     at (c.requires.plain P P' f p p' ok ok' at) leaves (c.edge_at.ensures.exit P leaves.edge ok leaves.numbered) t
 
 pub loop-edge-preserved : goal.loop-edge-preserved
-loop-edge-preserved c = record {
+loop-edge-preserved g c = record {
   moment = c.in_ok-advance.ensures.moment;
   grows = extends_more c.loop-edge.invariant.grows c.in_ok-advance.ensures.grows;
   held = λ P P' ok ok' k e l get s. held_case P P' ok ok' k e l get s (cases_lt k c.loop-edge.edge-index);
 }
   where
-    held_case : (P P' : ProgramTree) → IsGraphOf c.args.old.now P → IsGraphOf c.args.new.now P' → (k e : ℕ) → k < c.loop-edge.edge-index + 1 → slice_get c.row-edge-items.result.now k ≡ Some e → (s : LeavesFrom P e c.args.from.old) → (k < c.loop-edge.edge-index) ⊎ (c.loop-edge.edge-index ≤ k) → HoldsNext P P' c.advance.new.pairs.facts.items c.args.from s.edge.exit
+    held_case : (P P' : ProgramTree) → IsGraphOf c.args.both.now.old.now P → IsGraphOf c.args.both.now.new.now P' → (k e : ℕ) → k < c.loop-edge.edge-index + 1 → slice_get c.row-edge-items.result.now k ≡ Some e → (s : LeavesFrom P e c.args.from.old) → (k < c.loop-edge.edge-index) ⊎ (c.loop-edge.edge-index ≤ k) → HoldsNext P P' c.advance.new.pairs.facts.items c.args.from s.edge.exit
     held_case P P' ok ok' k e l get s (inl h) = holds_extends P P' c.args.from s.edge.exit c.in_ok-advance.ensures.grows (c.loop-edge.invariant.held P P' ok ok' k e h get s)
     held_case P P' ok ok' k e l get s (inr h) =
         let same : k ≡ c.loop-edge.edge-index = omega arith in
@@ -47,10 +47,10 @@ loop-edge-preserved c = record {
         subst (λ x. HoldsNext P P' c.advance.new.pairs.facts.items c.args.from x) exits (c.in_ok-advance.ensures.held P P' ok ok')
 
 pub returns-clause-steps : goal.returns-clause-steps
-returns-clause-steps c P P' ok ok' x f p p' q q' at both =
+returns-clause-steps g c P P' ok ok' x f p p' q q' at both =
     let e = edge_of P ok.valid c.args.from.old f p q x at.old both.old in
     let leaves : LeavesFrom P e.0 c.args.from.old = record { edge = record { function = f; from = p; exit = x }; numbered = e.1; from = at.old } in
-    let listed = c.requires.ways.whole P ok c.args.from.old e.0 (site_below c.args.old.now P c.args.from.old _ ok at.old) leaves in
+    let listed = c.requires.ways.whole P ok c.args.from.old e.0 (site_below c.args.both.now.old.now P c.args.from.old _ ok at.old) leaves in
     let k = in_row c.args.ways.now c.args.from.old e.0 c.row-edge-items.result.now c.row-edge-items.ensures listed in
     let w = slice_get_within c.row-edge-items.result.now k.0 e.0 k.1 in
     let test = c.loop-edge-test.false in

@@ -7,8 +7,8 @@ use Rattle.call_walk.specs.Moments.{IsMoment, Extends, HoldsNext}
 use Rattle.call_walk.proofs.follow.take_steps.Given as goal
 
 abbrev pub invariant-loop-edge : goal.invariant-loop-edge
-invariant-loop-edge l = record {
-  moment : IsMoment l.old l.new l.pairs;
+invariant-loop-edge g l = record {
+  moment : IsMoment l.both.old.now l.both.new.now l.pairs;
   grows : Extends l.fn.pairs.facts.items l.pairs.facts.items;
-  held : (P P' : ProgramTree) → IsGraphOf l.old P → IsGraphOf l.new P' → (k e : ℕ) → k < l.edge-index → slice_get l.edge-items k ≡ Some e → (s : LeavesFrom P e l.from.old) → HoldsNext P P' l.pairs.facts.items l.from s.edge.exit;
+  held : (P P' : ProgramTree) → IsGraphOf l.both.old.now P → IsGraphOf l.both.new.now P' → (k e : ℕ) → k < l.edge-index → slice_get l.edge-items k ≡ Some e → (s : LeavesFrom P e l.from.old) → HoldsNext P P' l.pairs.facts.items l.from s.edge.exit;
 }

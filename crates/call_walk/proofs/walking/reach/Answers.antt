@@ -7,16 +7,16 @@ use Rattle.call_walk.proofs.Following.{waiting_none, done_none, done_all}
 use Rattle.call_walk.proofs.walking.reach.Goals as goal
 
 pub loop-at-init : goal.loop-at-init
-loop-at-init c = record {
+loop-at-init g c = record {
   moment = c.in_ok-pairs.ensures.moment;
-  waiting = waiting_none c.args.old.now c.args.new.now c.in_ok-pairs.pairs.facts.items c.in_ok-waiting.waiting c.points.result c.in_ok-waiting.ensures c.points.ensures.value;
+  waiting = waiting_none c.args.both.now.old.now c.args.both.now.new.now c.in_ok-pairs.pairs.facts.items c.in_ok-waiting.waiting c.points.result c.in_ok-waiting.ensures c.points.ensures.value;
   starts = c.in_ok-pairs.ensures.held;
   upto = omega arith;
-  done = done_none c.args.old.now c.args.new.now c.in_ok-pairs.pairs.facts.items c.in_ok-waiting.waiting;
+  done = done_none c.args.both.now.old.now c.args.both.now.new.now c.in_ok-pairs.pairs.facts.items c.in_ok-waiting.waiting;
 }
 
 pub loop-at-preserved : goal.loop-at-preserved
-loop-at-preserved c = record {
+loop-at-preserved g c = record {
   moment = c.in_ok-follow.ensures.moment;
   waiting = c.in_ok-follow.ensures.waiting;
   starts = λ P P' ok ok'. held_extends P P' c.in_ok-follow.ensures.grows start_name entry entry (c.loop-at.invariant.starts P P' ok ok');
@@ -25,6 +25,6 @@ loop-at-preserved c = record {
 }
 
 pub returns-clause-all : goal.returns-clause-all
-returns-clause-all c P P' ok ok' =
+returns-clause-all g c P P' ok ok' =
     let test = c.loop-at-test.false in
     done_all P P' c.loop-at.pairs.facts.items c.loop-at.waiting c.loop-at.at (omega (arith, test)) (c.loop-at.invariant.starts P P' ok ok') (c.loop-at.invariant.done.each P P' ok ok')

@@ -7,13 +7,13 @@ use Rattle.call_walk.specs.Moments.{IsMoment, IsHeld, AreWaiting, AreDone}
 use Rattle.call_walk.proofs.walking.reach.Given as goal
 
 abbrev pub invariant-loop-at : goal.invariant-loop-at
-invariant-loop-at l = record {
-  moment : IsMoment l.old l.new l.pairs;
-  waiting : AreWaiting l.old l.new l.pairs.facts.items l.waiting;
-  starts : (P P' : ProgramTree) → IsGraphOf l.old P → IsGraphOf l.new P' → IsHeld P P' l.pairs.facts.items start_name entry entry;
+invariant-loop-at g l = record {
+  moment : IsMoment l.both.old.now l.both.new.now l.pairs;
+  waiting : AreWaiting l.both.old.now l.both.new.now l.pairs.facts.items l.waiting;
+  starts : (P P' : ProgramTree) → IsGraphOf l.both.old.now P → IsGraphOf l.both.new.now P' → IsHeld P P' l.pairs.facts.items start_name entry entry;
   upto : l.at ≤ length l.pairs.facts.items;
-  done : AreDone l.old l.new l.pairs.facts.items l.waiting l.at;
+  done : AreDone l.both.old.now l.both.new.now l.pairs.facts.items l.waiting l.at;
 }
 
 abbrev pub decreases-loop-at : goal.decreases-loop-at
-decreases-loop-at l = 2 ^ 32 - l.at
+decreases-loop-at g l = 2 ^ 32 - l.at

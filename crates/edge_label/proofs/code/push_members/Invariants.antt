@@ -1,6 +1,6 @@
 use Rattle.std.proofs.Common.{◌≡◌, ◌++◌, drop, map}
 use Rattle.std.specs.List.{flat_map}
-use Rattle.csub_semantics.specs.Types.{member_tree}
+use Rattle.csub_objects.specs.Meaning.{member_tree}
 use Rattle.edge_label.specs.Codes.{member_code, list_code}
 use Rattle.edge_label.proofs.code.push_members.Given as goal
 
