@@ -1,0 +1,114 @@
+//! What names are, as objects, constants and functions.
+ghost use Rattle.std.specs.Prelude.{◌≡◌};
+ghost use Rattle.csub_scopes.specs.Meanings.{scope_of};
+ghost use Rattle.csub_scopes.specs.Scopes.{find};
+ghost use Rattle.csub_rules.specs.Callees.{callee_of, callee_of_declared, takes};
+ghost use Rattle.csub_rules.specs.ExprSorts.{given_by, sort_of_declared, sort_of_name};
+ghost use Rattle.csub_objects.specs.Meaning.{type_tree};
+ghost use Rattle.csub_check.specs.Seen.{the_callee, the_sort};
+
+use crate::library::{LibraryName, library_name};
+use crate::sort::{Sort, has_elements, is_number};
+use csub_objects::CType;
+use csub_scopes::{Meaning, Scope, Signature};
+use csub_types::IntKind;
+
+/// What a called name is.
+#[derive(Clone, Copy)]
+pub(crate) enum Callee<'t> {
+    /// No function.
+    Unknown,
+    /// A function of the source.
+    User(&'t Signature),
+    Getchar,
+    Putchar,
+    Printf,
+    Exit,
+}
+
+/// What a name is that is none of the library's.
+fn declared_sort<'t>(scope: &'t Scope, name: &[u8]) -> Sort<'t>
+    ensures { the_sort result ≡ sort_of_declared (find name.now scope.now.names) }
+{
+    match scope.names.find(name) {
+        None => Sort::Unknown,
+        Some(declared) => match &declared.meaning {
+            Meaning::Global(ctype) => Sort::Place(ctype),
+            Meaning::Local(_, ctype) => Sort::Place(ctype),
+            Meaning::Constant(_) => Sort::Value(IntKind::Int),
+            Meaning::Function(_) => Sort::Unknown,
+        },
+    }
+}
+
+/// What a name is in an expression (C11 6.5.1p2).
+pub(crate) fn sort_of_name<'t>(scope: &'t Scope, name: &[u8]) -> Sort<'t>
+    ensures { the_sort result ≡ sort_of_name (scope_of scope.now) name.now }
+{
+    match library_name(name) {
+        None => declared_sort(scope, name),
+        Some(LibraryName::Getchar) => Sort::Unknown,
+        Some(LibraryName::Putchar) => Sort::Unknown,
+        Some(LibraryName::Printf) => Sort::Unknown,
+        Some(LibraryName::Exit) => Sort::Unknown,
+        Some(LibraryName::Eof) => Sort::Value(IntKind::Int),
+    }
+}
+
+/// What a called name is that is none of the library's.
+fn declared_callee<'t>(scope: &'t Scope, name: &[u8]) -> Callee<'t>
+    ensures { the_callee result ≡ callee_of_declared (find name.now scope.now.names) }
+{
+    match scope.names.find(name) {
+        None => Callee::Unknown,
+        Some(declared) => match &declared.meaning {
+            Meaning::Global(_) => Callee::Unknown,
+            Meaning::Local(_, _) => Callee::Unknown,
+            Meaning::Constant(_) => Callee::Unknown,
+            Meaning::Function(signature) => Callee::User(signature),
+        },
+    }
+}
+
+/// What a called name is.
+pub(crate) fn callee_of<'t>(scope: &'t Scope, name: &[u8]) -> Callee<'t>
+    ensures { the_callee result ≡ callee_of (scope_of scope.now) name.now }
+{
+    match library_name(name) {
+        None => declared_callee(scope, name),
+        Some(LibraryName::Getchar) => Callee::Getchar,
+        Some(LibraryName::Putchar) => Callee::Putchar,
+        Some(LibraryName::Printf) => Callee::Printf,
+        Some(LibraryName::Exit) => Callee::Exit,
+        Some(LibraryName::Eof) => Callee::Unknown,
+    }
+}
+
+/// What a call gives (C11 6.5.2.2p5).
+pub(crate) fn given_by<'t>(callee: Callee) -> Sort<'t>
+    ensures { the_sort result ≡ given_by (the_callee callee.entry) }
+{
+    match callee {
+        Callee::Unknown => Sort::Unknown,
+        Callee::User(signature) => match signature.result {
+            None => Sort::Void,
+            Some(kind) => Sort::Value(kind),
+        },
+        Callee::Getchar => Sort::Value(IntKind::Int),
+        Callee::Putchar => Sort::Value(IntKind::Int),
+        Callee::Printf => Sort::Value(IntKind::Int),
+        Callee::Exit => Sort::Unknown,
+    }
+}
+
+/// Whether a parameter of a type takes an argument (C11 6.5.2.2p2).
+pub(crate) fn takes(param: &CType, sort: Sort) -> bool
+    ensures { result ≡ takes (type_tree param.now) (the_sort sort.entry) }
+{
+    match param {
+        CType::Num(_) => is_number(sort),
+        CType::Array(_, _) => false,
+        CType::Struct(_, _) => false,
+        CType::Loose(element) => has_elements(sort, element.ctype()),
+    }
+}

@@ -1,0 +1,33 @@
+//! The names that `<stdio.h>` and `<stdlib.h>` declare here.
+ghost use Rattle.std.specs.Prelude.{◌≡◌, option_map};
+ghost use Rattle.csub_rules.specs.Library.{library_name};
+ghost use Rattle.csub_check.specs.Seen.{the_library_name};
+
+/// A name of the library.
+#[derive(Clone, Copy, Debug, PartialEq, Eq)]
+pub(crate) enum LibraryName {
+    Getchar,
+    Putchar,
+    Printf,
+    Exit,
+    Eof,
+}
+
+/// The name of the library that a name is.
+pub(crate) fn library_name(name: &[u8]) -> Option<LibraryName>
+    ensures { option_map the_library_name result ≡ library_name name.now }
+{
+    if name == b"getchar".as_slice() {
+        Some(LibraryName::Getchar)
+    } else if name == b"putchar".as_slice() {
+        Some(LibraryName::Putchar)
+    } else if name == b"printf".as_slice() {
+        Some(LibraryName::Printf)
+    } else if name == b"exit".as_slice() {
+        Some(LibraryName::Exit)
+    } else if name == b"EOF".as_slice() {
+        Some(LibraryName::Eof)
+    } else {
+        None
+    }
+}

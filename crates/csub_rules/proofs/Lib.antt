@@ -1,0 +1,14 @@
+pub mod LawsEarlier
+pub mod LawsServed
+pub mod LawsSizes
+pub mod LawsSound
+pub mod LawsLeast
+pub mod LawsCalls
+pub mod LawsFine
+pub mod LawsUses
+pub mod LawsSlots
+pub mod LawsInits
+pub mod LawsParams
+mod RowTerms
+mod Rows
+mod RowFaults

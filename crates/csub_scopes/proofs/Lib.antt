@@ -1,0 +1,3 @@
+mod Finds
+mod Keys
+mod Stack

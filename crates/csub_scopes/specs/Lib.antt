@@ -1,0 +1,5 @@
+pub mod Scopes
+pub mod Codes
+pub mod Meanings
+pub mod Places
+pub mod Chains

@@ -1,0 +1,43 @@
+//! For each name the place of its latest declaration, found by a hash.
+ghost use Rattle.std.specs.Prelude.{◌≡◌, Some, IfOk, OnOk, OnErr, IsSome, if◌then◌else◌, bytes_eq};
+ghost use Rattle.csub_objects.specs.Types.{Name};
+ghost use Rattle.csub_scopes.specs.Places.{placed};
+
+use indexmap::IndexMap;
+use std::alloc::AllocError;
+
+/// The place of a name.
+pub(crate) fn place_of(latest: &IndexMap<Vec<u8>, Option<u32>>, name: &[u8]) -> Option<u32>
+    ensures { result ≡ placed latest.now name.now }
+{
+    match latest.get(name) {
+        Some(place) => *place,
+        None => None,
+    }
+}
+
+/// Gives a name a place, and answers the one that it had. An `Err` is want of memory, and no place has changed then.
+pub(crate) fn put(
+    latest: &mut IndexMap<Vec<u8>, Option<u32>>,
+    name: Vec<u8>,
+    place: u32,
+) -> Result<Option<u32>, AllocError>
+    ensures before { IfOk result (λ outer. outer ≡ placed latest.old name.items) }
+    ensures after { OnOk result ((other : Name) → placed latest.new other ≡ (if bytes_eq name.items other then Some place else placed latest.old other)) }
+    ensures err { OnErr result ((other : Name) → placed latest.new other ≡ placed latest.old other) }
+{
+    match latest.insert(name, Some(place))? {
+        Some(before) => Ok(before),
+        None => Ok(None),
+    }
+}
+
+/// Gives a name that has a place another one, or none.
+pub(crate) fn put_back(latest: &mut IndexMap<Vec<u8>, Option<u32>>, name: &[u8], place: Option<u32>)
+    requires { IsSome (placed latest.old name.now) }
+    ensures { (other : Name) → placed latest.new other ≡ (if bytes_eq name.now other then place else placed latest.old other) }
+{
+    if let Some(held) = latest.get_mut(name) {
+        *held = place;
+    }
+}
