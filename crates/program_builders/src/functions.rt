@@ -1,6 +1,6 @@
 //! Calls and functions, which stand nowhere in a source.
 use crate::statements::{NOWHERE, line_of};
-use csub_core::{CallLabel, Function, IntKind, RCall, RPart, RStmt, Text};
+use csub_core::{CallLabel, Function, IntKind, RArg, RCall, RExpr, RPart, RStmt, Text};
 use std::alloc::{AllocError, Global};
 
 /// A call without arguments of a function without parameters, into a temporary where there is one.
@@ -17,6 +17,13 @@ pub fn call(
         args: Vec::new(alloc),
         temp,
     })
+}
+
+/// One argument alone.
+pub fn one_argument(alloc: Global, value: Box<RExpr>) -> Result<Vec<RArg>, AllocError> {
+    let mut args = Vec::new(alloc);
+    args.push(RArg::Value(Box::into_inner(value)))?;
+    Ok(args)
 }
 
 /// One call alone.

@@ -1,10 +1,13 @@
 //! Objects of number types: their declarations, and what expressions do to them.
+use crate::expressions::boxed;
 use csub_core::{
-    BinOp, CType, IntKind, Label, LocalVar, Member, Owner, Place, RExpr, RInit, StepOp, Text,
+    BinOp, CType, GlobalVar, IntKind, Label, LocalVar, Member, Owner, Place, RExpr, RInit, StepOp,
+    Text,
 };
 use std::alloc::{AllocError, Global};
 
-/// An object of a function: it is the number-th of its name there, parameters counted first, from 1.
+/// An object of a function: it is the number-th of its name there, parameters counted first, from 1. One of file scope
+/// has the number 0.
 #[derive(Clone, Copy)]
 pub struct Object<'a> {
     /// The declared name.
@@ -24,10 +27,38 @@ pub fn first(name: &[u8], kind: IntKind) -> Object<'_> {
     }
 }
 
+/// The object of file scope of a name.
+pub fn global(name: &[u8], kind: IntKind) -> Object<'_> {
+    Object {
+        name,
+        number: 0,
+        kind,
+    }
+}
+
 /// The object, as labels name it.
 pub fn owner(alloc: Global, object: Object<'_>) -> Result<Owner, AllocError> {
     let name = Text::new(alloc, object.name)?;
+    if object.number == 0 {
+        return Ok(Owner::Global(name));
+    }
     Ok(Owner::Local(name, object.number))
+}
+
+/// The declaration of an object of file scope with the initial contents of its cells.
+pub fn declared(
+    alloc: Global,
+    object: Object<'_>,
+    contents: &[i64],
+) -> Result<GlobalVar, AllocError> {
+    let name = Text::new(alloc, object.name)?;
+    let mut initial = Vec::new(alloc);
+    initial.extend_from_slice(contents)?;
+    Ok(GlobalVar {
+        name,
+        ctype: CType::Num(object.kind),
+        initial,
+    })
 }
 
 /// The object as a place of its declared type.
@@ -36,14 +67,17 @@ pub fn place(alloc: Global, object: Object<'_>) -> Result<Place, AllocError> {
 }
 
 /// The number in the object.
-pub fn read(alloc: Global, object: Object<'_>) -> Result<RExpr, AllocError> {
-    Ok(RExpr::Read(place(alloc, object)?))
+pub fn read(alloc: Global, object: Object<'_>) -> Result<Box<RExpr>, AllocError> {
+    boxed(alloc, RExpr::Read(place(alloc, object)?))
 }
 
 /// `object = value`
-pub fn assignment(alloc: Global, object: Object<'_>, value: RExpr) -> Result<RExpr, AllocError> {
-    let operand = Box::new(alloc, value)?;
-    Ok(RExpr::Assign(place(alloc, object)?, operand))
+pub fn assignment(
+    alloc: Global,
+    object: Object<'_>,
+    value: Box<RExpr>,
+) -> Result<Box<RExpr>, AllocError> {
+    boxed(alloc, RExpr::Assign(place(alloc, object)?, value))
 }
 
 /// A compound assignment to the object, with the kind of its operation.
@@ -52,29 +86,40 @@ pub fn update(
     object: Object<'_>,
     op: BinOp,
     kind: IntKind,
-    value: RExpr,
-) -> Result<RExpr, AllocError> {
-    let operand = Box::new(alloc, value)?;
-    Ok(RExpr::Update(place(alloc, object)?, op, kind, operand))
+    value: Box<RExpr>,
+) -> Result<Box<RExpr>, AllocError> {
+    boxed(alloc, RExpr::Update(place(alloc, object)?, op, kind, value))
 }
 
 /// A step of the object by one.
-pub fn step(alloc: Global, op: StepOp, object: Object<'_>) -> Result<RExpr, AllocError> {
-    Ok(RExpr::Step(op, place(alloc, object)?))
+pub fn step(alloc: Global, op: StepOp, object: Object<'_>) -> Result<Box<RExpr>, AllocError> {
+    boxed(alloc, RExpr::Step(op, place(alloc, object)?))
 }
 
 /// The initialisation of the object with a number.
-pub fn initialiser(alloc: Global, object: Object<'_>, value: RExpr) -> Result<Label, AllocError> {
+pub fn initialiser(
+    alloc: Global,
+    object: Object<'_>,
+    value: Box<RExpr>,
+) -> Result<Label, AllocError> {
     let named = owner(alloc, object)?;
-    Ok(Label::Init(named, CType::Num(object.kind), RInit::One(value)))
+    let contents = RInit::One(Box::into_inner(value));
+    Ok(Label::Init(named, CType::Num(object.kind), contents))
 }
 
 /// A parameter of a name and a kind.
-pub fn parameter(alloc: Global, name: &[u8], kind: IntKind) -> Result<Member, AllocError> {
+fn parameter(alloc: Global, name: &[u8], kind: IntKind) -> Result<Member, AllocError> {
     Ok(Member {
         name: Text::new(alloc, name)?,
         ctype: CType::Num(kind),
     })
+}
+
+/// One parameter alone.
+pub fn one_parameter(alloc: Global, name: &[u8], kind: IntKind) -> Result<Vec<Member>, AllocError> {
+    let mut params = Vec::new(alloc);
+    params.push(parameter(alloc, name, kind)?)?;
+    Ok(params)
 }
 
 /// The object as a local of its function.
@@ -84,4 +129,11 @@ pub fn local(alloc: Global, object: Object<'_>) -> Result<LocalVar, AllocError> 
         number: object.number,
         ctype: CType::Num(object.kind),
     })
+}
+
+/// One local alone.
+pub fn one_local(alloc: Global, object: Object<'_>) -> Result<Vec<LocalVar>, AllocError> {
+    let mut locals = Vec::new(alloc);
+    locals.push(local(alloc, object)?)?;
+    Ok(locals)
 }

@@ -1,7 +1,7 @@
 //! Whole programs. Where they are lists of functions, a test can add to them before it asks whether they are valid.
 use crate::functions::{function, int_call_line};
 use crate::statements::one_line;
-use csub_core::{Function, IntKind, Program, RStmt};
+use csub_core::{Function, GlobalVar, IntKind, Program, RStmt};
 use std::alloc::{AllocError, Global};
 
 /// `#start`, which calls the function of a name as an `int` function into its temporary 1.
@@ -36,5 +36,21 @@ pub fn main_alone(alloc: Global, body: Vec<RStmt>) -> Result<Vec<Function>, Allo
 
 /// The program of `#start` and a `main` with a body and no temporaries; `None` where it is not valid.
 pub fn program(alloc: Global, body: Vec<RStmt>) -> Result<Option<Program>, AllocError> {
-    Ok(Program::make(main_alone(alloc, body)?))
+    Ok(without_globals(alloc, main_alone(alloc, body)?))
+}
+
+/// The program of functions without objects of file scope; `None` where it is not valid.
+pub fn without_globals(alloc: Global, functions: Vec<Function>) -> Option<Program> {
+    Program::make(functions, Vec::new(alloc))
+}
+
+/// The program of functions with one object of file scope; `None` where it is not valid.
+pub fn with_global(
+    alloc: Global,
+    functions: Vec<Function>,
+    global: GlobalVar,
+) -> Result<Option<Program>, AllocError> {
+    let mut globals = Vec::new(alloc);
+    globals.push(global)?;
+    Ok(Program::make(functions, globals))
 }

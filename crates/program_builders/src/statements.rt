@@ -1,5 +1,5 @@
 //! Parts and statements. A part stands nowhere in a source, unless it is said where.
-use crate::expressions::{constant, input_is, output};
+use crate::expressions::{constant, input_is, output_of};
 use csub_core::{Answer, IntKind, Label, RExpr, RPart, RStmt, Span};
 use std::alloc::{AllocError, Global};
 
@@ -12,6 +12,19 @@ pub fn place_before(byte: u32) -> Span {
         start: byte,
         end: byte,
     }
+}
+
+/// The evaluation of an expression.
+pub fn evaluation(value: Box<RExpr>) -> Label {
+    Label::Eval(Box::into_inner(value))
+}
+
+/// What a function of a result type returns.
+pub fn answer(kind: IntKind, value: Box<RExpr>) -> Label {
+    Label::Return(Some(Answer {
+        kind,
+        value: Box::into_inner(value),
+    }))
 }
 
 /// A part of one point.
@@ -29,13 +42,18 @@ pub fn part_at(alloc: Global, label: Label, span: Span) -> RPart {
 }
 
 /// The test of an expression.
-pub fn test(alloc: Global, value: RExpr) -> RPart {
-    part(alloc, Label::Branch(value))
+pub fn test(alloc: Global, value: Box<RExpr>) -> RPart {
+    part(alloc, Label::Branch(Box::into_inner(value)))
 }
 
 /// The test `getchar() == byte`.
 pub fn input_test(alloc: Global, byte: i64) -> Result<RPart, AllocError> {
     Ok(test(alloc, input_is(alloc, byte)?))
+}
+
+/// The test `0`.
+pub fn false_test(alloc: Global) -> Result<RPart, AllocError> {
+    Ok(test(alloc, constant(alloc, 0)?))
 }
 
 /// One part alone.
@@ -47,8 +65,8 @@ pub fn one_part(alloc: Global, part: RPart) -> Result<Vec<RPart>, AllocError> {
 
 /// The part `putchar(byte)` alone.
 pub fn output_part(alloc: Global, byte: i64) -> Result<Vec<RPart>, AllocError> {
-    let value = output(alloc, constant(byte))?;
-    one_part(alloc, part(alloc, Label::Eval(value)))
+    let label = evaluation(output_of(alloc, byte)?);
+    one_part(alloc, part(alloc, label))
 }
 
 /// A statement of one part.
@@ -62,28 +80,23 @@ pub fn line(alloc: Global, label: Label) -> Result<RStmt, AllocError> {
 }
 
 /// An expression as a statement.
-pub fn evaluated(alloc: Global, value: RExpr) -> Result<RStmt, AllocError> {
-    line(alloc, Label::Eval(value))
+pub fn evaluated(alloc: Global, value: Box<RExpr>) -> Result<RStmt, AllocError> {
+    line(alloc, evaluation(value))
 }
 
 /// `putchar(byte);`
 pub fn written(alloc: Global, byte: i64) -> Result<RStmt, AllocError> {
-    evaluated(alloc, output(alloc, constant(byte))?)
-}
-
-/// What a function of a result type returns.
-pub fn answer(kind: IntKind, value: RExpr) -> Label {
-    Label::Return(Some(Answer { kind, value }))
+    Ok(RStmt::Parts(output_part(alloc, byte)?))
 }
 
 /// `return value;` in an `int` function.
-pub fn returned(alloc: Global, value: RExpr) -> Result<RStmt, AllocError> {
+pub fn returned(alloc: Global, value: Box<RExpr>) -> Result<RStmt, AllocError> {
     line(alloc, answer(IntKind::Int, value))
 }
 
 /// `return 0;` in an `int` function.
 pub fn returned_zero(alloc: Global) -> Result<RStmt, AllocError> {
-    returned(alloc, constant(0))
+    returned(alloc, constant(alloc, 0)?)
 }
 
 /// One line alone.
@@ -93,40 +106,7 @@ pub fn one_line(alloc: Global, line: RStmt) -> Result<Vec<RStmt>, AllocError> {
     Ok(lines)
 }
 
-/// `if (..) then`
-pub fn conditional(alloc: Global, test: RPart, then: RStmt) -> Result<RStmt, AllocError> {
-    Ok(RStmt::If(test, Box::new(alloc, then)?, None))
-}
-
-/// `if (..) then else other`
-pub fn alternative(
-    alloc: Global,
-    test: RPart,
-    then: RStmt,
-    other: RStmt,
-) -> Result<RStmt, AllocError> {
-    let first = Box::new(alloc, then)?;
-    let second = Box::new(alloc, other)?;
-    Ok(RStmt::If(test, first, Some(second)))
-}
-
-/// `while (..) body`
-pub fn while_loop(alloc: Global, test: RPart, body: RStmt) -> Result<RStmt, AllocError> {
-    Ok(RStmt::While(test, Box::new(alloc, body)?))
-}
-
-/// `do body while (..);`
-pub fn do_loop(alloc: Global, body: RStmt, test: RPart) -> Result<RStmt, AllocError> {
-    Ok(RStmt::Do(Box::new(alloc, body)?, test))
-}
-
-/// `for (first; ..; third) body`
-pub fn for_loop(
-    alloc: Global,
-    first: Vec<RPart>,
-    test: RPart,
-    third: Vec<RPart>,
-    body: RStmt,
-) -> Result<RStmt, AllocError> {
-    Ok(RStmt::For(first, test, third, Box::new(alloc, body)?))
+/// A statement that stands inside another one.
+pub fn nested(alloc: Global, line: RStmt) -> Result<Box<RStmt>, AllocError> {
+    Ok(Box::new(alloc, line)?)
 }

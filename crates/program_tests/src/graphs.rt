@@ -1,11 +1,10 @@
 //! The numbered graphs of small programs, whose points have their numbers as places.
 use csub_core::{ExitLabel, IntKind, Label, Point, RExpr, RPart, RStmt};
 use flow_graph::Graph;
-use program_builders::expressions::{constant, output};
+use program_builders::expressions::{constant, output_of};
 use program_builders::programs::program;
 use program_builders::statements::{
-    alternative, answer, conditional, do_loop, for_loop, line_of, one_part, part_at, place_before,
-    while_loop,
+    answer, evaluation, line_of, nested, one_part, part_at, place_before,
 };
 use std::alloc::{AllocError, Global};
 use std::test::Fail;
@@ -28,8 +27,8 @@ fn tested(alloc: Global, number: u32) -> RPart {
 
 /// The part `putchar(byte)` alone.
 fn effect(alloc: Global, byte: i64, number: u32) -> Result<Vec<RPart>, AllocError> {
-    let value = output(alloc, constant(byte))?;
-    one_part(alloc, numbered(alloc, Label::Eval(value), number))
+    let label = evaluation(output_of(alloc, byte)?);
+    one_part(alloc, numbered(alloc, label, number))
 }
 
 /// `putchar(byte);`
@@ -39,18 +38,15 @@ fn put(alloc: Global, byte: i64, number: u32) -> Result<RStmt, AllocError> {
 
 /// `return 0;`
 fn give(alloc: Global, number: u32) -> Result<RStmt, AllocError> {
-    let label = answer(IntKind::Int, constant(0));
+    let label = answer(IntKind::Int, constant(alloc, 0)?);
     line_of(alloc, numbered(alloc, label, number))
 }
 
 /// `if (getchar()) putchar(66); else putchar(67);`
 fn choosing(alloc: Global) -> Result<RStmt, AllocError> {
-    alternative(
-        alloc,
-        tested(alloc, 4),
-        put(alloc, 66, 5)?,
-        put(alloc, 67, 6)?,
-    )
+    let then = nested(alloc, put(alloc, 66, 5)?)?;
+    let other = nested(alloc, put(alloc, 67, 6)?)?;
+    Ok(RStmt::If(tested(alloc, 4), then, Some(other)))
 }
 
 /// The graph of `int main(void) { if (getchar()) putchar(66); else putchar(67); return 0; }`.
@@ -122,7 +118,8 @@ fn has_place(graph: &Graph, point: u32, path: &[u32], part: u32, stage: u32) -> 
 
 /// `if (getchar()) then`
 fn when(alloc: Global, then: RStmt, number: u32) -> Result<RStmt, AllocError> {
-    conditional(alloc, tested(alloc, number), then)
+    let inner = nested(alloc, then)?;
+    Ok(RStmt::If(tested(alloc, number), inner, None))
 }
 
 /// `{ if (getchar()) break; if (getchar()) continue; getchar(); }`
@@ -136,15 +133,22 @@ fn for_body(alloc: Global) -> Result<RStmt, AllocError> {
 
 /// `for (putchar(65); getchar(); putchar(66))` with that body.
 fn numbered_for(alloc: Global) -> Result<RStmt, AllocError> {
-    let body = for_body(alloc)?;
+    let body = nested(alloc, for_body(alloc)?)?;
     let first = effect(alloc, 65, 4)?;
-    for_loop(alloc, first, tested(alloc, 5), effect(alloc, 66, 6)?, body)
+    let third = effect(alloc, 66, 6)?;
+    Ok(RStmt::For(first, tested(alloc, 5), third, body))
+}
+
+/// `while (getchar()) putchar(68);`
+fn numbered_while(alloc: Global) -> Result<RStmt, AllocError> {
+    let body = nested(alloc, put(alloc, 68, 11)?)?;
+    Ok(RStmt::While(tested(alloc, 10), body))
 }
 
 /// `do while (getchar()) putchar(68); while (getchar());`
 fn numbered_do(alloc: Global) -> Result<RStmt, AllocError> {
-    let inner = while_loop(alloc, tested(alloc, 10), put(alloc, 68, 11)?)?;
-    do_loop(alloc, inner, tested(alloc, 12))
+    let body = nested(alloc, numbered_while(alloc)?)?;
+    Ok(RStmt::Do(body, tested(alloc, 12)))
 }
 
 /// The graph of a `main` of these loops and `return 0;`.

@@ -1,12 +1,12 @@
 //! Which labels have one number, and how a caller asks that counts nothing.
 ghost use Rattle.std.specs.Prelude.{◌≡◌, ◌<◌, length};
 
-use csub_core::{BinOp, CallLabel, EndRule, IntKind, Label, RArg, RExpr};
+use csub_core::{BinOp, CallLabel, EndRule, GlobalVar, IntKind, Label, RExpr};
 use edge_label::{LabelBook, Steps};
-use program_builders::expressions::{binary, constant, constant_of, output};
-use program_builders::functions::call;
-use program_builders::objects::parameter;
-use program_builders::statements::answer;
+use program_builders::expressions::{binary, constant, constant_of, input, output};
+use program_builders::functions::{call, one_argument};
+use program_builders::objects::{declared, global, one_parameter, read};
+use program_builders::statements::{answer, evaluation};
 use std::alloc::{AllocError, Global};
 use std::marker::Brand;
 use std::sync::ledger::{Blank, Ledger};
@@ -14,8 +14,9 @@ use std::test::Fail;
 
 /// The label of `7 op value`, with the value as a constant of a kind.
 fn operation(alloc: Global, op: BinOp, kind: IntKind, value: i64) -> Result<Label, AllocError> {
-    let right = constant_of(kind, value);
-    Ok(Label::Eval(binary(alloc, op, IntKind::Int, constant(7), right)?))
+    let left = constant(alloc, 7)?;
+    let right = constant_of(alloc, kind, value)?;
+    Ok(evaluation(binary(alloc, op, IntKind::Int, left, right)?))
 }
 
 /// A call of a function of one parameter with one argument.
@@ -30,11 +31,11 @@ struct Case {
 }
 
 fn call_of(alloc: Global, case: Case) -> Result<CallLabel, AllocError> {
+    let params = one_parameter(alloc, &[case.param], case.declared)?;
+    let args = one_argument(alloc, constant(alloc, case.arg)?)?;
     let mut label = call(alloc, &[case.name], case.returned, case.temp)?;
-    label
-        .params
-        .push(parameter(alloc, &[case.param], case.declared)?)?;
-    label.args.push(RArg::Value(constant(case.arg)))?;
+    label.params = params;
+    label.args = args;
     Ok(label)
 }
 
@@ -57,9 +58,9 @@ fn push_plain(alloc: Global, labels: &mut Vec<Label>) -> Result<(), AllocError> 
     labels.push(Label::Branch(RExpr::Getchar))?;
     labels.push(Label::Return(None))?;
     for kind in [IntKind::Char, IntKind::Int] {
-        labels.push(answer(kind, RExpr::Getchar))?;
+        labels.push(answer(kind, input(alloc)?))?;
     }
-    labels.push(Label::Eval(output(alloc, RExpr::Getchar)?))?;
+    labels.push(evaluation(output(alloc, input(alloc)?)?))?;
     Ok(())
 }
 
@@ -119,7 +120,7 @@ fn different(alloc: Global) -> Result<Vec<Label>, AllocError> {
 fn numbers(alloc: Global, book: &mut LabelBook) -> Result<Vec<u32>, AllocError> {
     let mut numbers = Vec::new(alloc);
     for label in &different(alloc)? {
-        numbers.push(book.intern(label)?)?;
+        numbers.push(book.intern(label, &[])?)?;
     }
     Ok(numbers)
 }
@@ -135,6 +136,45 @@ fn a_label_has_the_number_of_its_equal_and_of_no_other(rt: HostRuntime) -> Resul
         assert!(rt; *number as usize == place, "label {place}");
     }
     assert!(rt; new.as_slice() == old.as_slice());
+    Ok(())
+}
+
+/// The label of `putchar(k);`, with `k` an `int` of file scope.
+fn naming(alloc: Global) -> Result<Label, AllocError> {
+    let value = read(alloc, global(b"k", IntKind::Int))?;
+    Ok(evaluation(output(alloc, value)?))
+}
+
+/// `int j = other;` and `int k = initial;`
+fn declarations(alloc: Global, other: i64, initial: i64) -> Result<Vec<GlobalVar>, AllocError> {
+    let mut made = Vec::new(alloc);
+    made.push(declared(alloc, global(b"j", IntKind::Int), &[other])?)?;
+    made.push(declared(alloc, global(b"k", IntKind::Int), &[initial])?)?;
+    Ok(made)
+}
+
+/// The number of a label beside these declarations.
+fn number_beside(
+    alloc: Global,
+    book: &mut LabelBook,
+    label: &Label,
+    other: i64,
+    initial: i64,
+) -> Result<u32, AllocError> {
+    let globals = declarations(alloc, other, initial)?;
+    book.intern(label, &globals)
+}
+
+// A label holds the initial contents of the objects that it names, and of no others.
+#[test]
+fn a_label_has_the_contents_of_what_it_names(rt: HostRuntime) -> Result<(), Fail> {
+    let alloc = rt.alloc();
+    let label = Box::new(alloc, naming(alloc)?)?;
+    let mut book = LabelBook::new(alloc);
+    for (other, initial, number) in [(1, 1, 0), (1, 2, 1), (2, 1, 0), (2, 2, 1)] {
+        let given = number_beside(alloc, &mut book, &label, other, initial)?;
+        assert_eq!(rt; given, number, "with {other} and {initial}");
+    }
     Ok(())
 }
 
@@ -163,9 +203,9 @@ fn ask<L: Ledger>(
 #[test]
 fn the_same_is_said_of_equal_labels_alone(rt: HostRuntime) -> Result<(), Fail> {
     let mut book = LabelBook::new(rt.alloc());
-    let entry = book.intern(&Label::Entry)?;
-    let other = book.intern(&Label::Return(None))?;
-    let again = book.intern(&Label::Entry)?;
+    let entry = book.intern(&Label::Entry, &[])?;
+    let other = book.intern(&Label::Return(None), &[])?;
+    let again = book.intern(&Label::Entry, &[])?;
     let answers = ask::<Brand>(&book, entry, again, other, Blank::new(1));
     assert!(rt; answers == (true, false));
     Ok(())

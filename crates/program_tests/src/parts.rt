@@ -1,9 +1,9 @@
 //! How many parts a statement has: one expression, or a declaration's initialised objects (C11 6.7 and 6.8.3).
-use csub_core::{Function, IntKind, Label, Program, RPart, RStmt};
+use csub_core::{Function, IntKind, LocalVar, RPart, RStmt};
 use program_builders::expressions::constant;
 use program_builders::objects::{first, initialiser, local};
-use program_builders::programs::{main_function, with_main};
-use program_builders::statements::{for_loop, one_line, part, test};
+use program_builders::programs::{main_function, with_main, without_globals};
+use program_builders::statements::{evaluation, false_test, nested, one_line, part};
 use std::alloc::{AllocError, Global};
 use std::test::Fail;
 
@@ -11,7 +11,8 @@ use std::test::Fail;
 fn effects(alloc: Global, count: usize) -> Result<Vec<RPart>, AllocError> {
     let mut parts = Vec::new(alloc);
     for _ in 0..count {
-        parts.push(part(alloc, Label::Eval(constant(0))))?;
+        let label = evaluation(constant(alloc, 0)?);
+        parts.push(part(alloc, label))?;
     }
     Ok(parts)
 }
@@ -20,32 +21,41 @@ fn effects(alloc: Global, count: usize) -> Result<Vec<RPart>, AllocError> {
 fn declaration(alloc: Global) -> Result<Vec<RPart>, AllocError> {
     let mut parts = Vec::new(alloc);
     for name in [b"a", b"b"] {
-        let label = initialiser(alloc, first(name, IntKind::Int), constant(0))?;
+        let zero = constant(alloc, 0)?;
+        let label = initialiser(alloc, first(name, IntKind::Int), zero)?;
         parts.push(part(alloc, label))?;
     }
     Ok(parts)
 }
 
-/// `main` with locals `int a` and `int b`, and one line.
-fn main_of(alloc: Global, line: RStmt) -> Result<Function, AllocError> {
-    let mut main = main_function(alloc, 0, one_line(alloc, line)?)?;
+/// The locals `int a` and `int b`.
+fn two_locals(alloc: Global) -> Result<Vec<LocalVar>, AllocError> {
+    let mut locals = Vec::new(alloc);
     for name in [b"a", b"b"] {
-        main.locals.push(local(alloc, first(name, IntKind::Int))?)?;
+        locals.push(local(alloc, first(name, IntKind::Int))?)?;
     }
+    Ok(locals)
+}
+
+/// `main` with these locals and a body.
+fn main_of(alloc: Global, body: Vec<RStmt>) -> Result<Function, AllocError> {
+    let locals = two_locals(alloc)?;
+    let mut main = main_function(alloc, 0, body)?;
+    main.locals = locals;
     Ok(main)
 }
 
 /// Whether the program of that `main` is accepted.
 fn accepts(alloc: Global, line: RStmt) -> Result<bool, AllocError> {
-    let main = main_of(alloc, line)?;
-    Ok(Program::make(with_main(alloc, main)?).is_some())
+    let main = main_of(alloc, one_line(alloc, line)?)?;
+    Ok(without_globals(alloc, with_main(alloc, main)?).is_some())
 }
 
 /// Whether a `for` with these parts before and behind its test is accepted.
 fn accepts_for(alloc: Global, before: Vec<RPart>, behind: Vec<RPart>) -> Result<bool, AllocError> {
-    let body = RStmt::Block(Vec::new(alloc));
-    let line = for_loop(alloc, before, test(alloc, constant(0)), behind, body)?;
-    accepts(alloc, line)
+    let body = nested(alloc, RStmt::Block(Vec::new(alloc)))?;
+    let test = false_test(alloc)?;
+    accepts(alloc, RStmt::For(before, test, behind, body))
 }
 
 /// Whether a statement of so many expressions is accepted.

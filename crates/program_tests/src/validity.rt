@@ -1,12 +1,12 @@
 //! Programs that are valid, and programs that break one rule each.
-use csub_core::{CallLabel, Function, IntKind, Label, Program, RArg, RStmt, UnaryOp};
+use csub_core::{CallLabel, Function, IntKind, Label, LocalVar, RArg, RExpr, RStmt, UnaryOp};
 use program_builders::expressions::{constant, constant_of, unary};
 use program_builders::functions::{call, call_line, function};
-use program_builders::objects::{Object, initialiser, local, parameter, read};
-use program_builders::programs::{main_alone, main_function, program, start, started, with_main};
-use program_builders::statements::{
-    answer, conditional, evaluated, line, one_line, test, while_loop,
+use program_builders::objects::{Object, initialiser, local, one_parameter, read};
+use program_builders::programs::{
+    main_alone, main_function, program, start, started, with_main, without_globals,
 };
+use program_builders::statements::{answer, evaluated, false_test, line, nested, one_line};
 use std::alloc::{AllocError, Global};
 use std::test::Fail;
 
@@ -24,7 +24,7 @@ fn the_smallest_program_is_accepted(rt: HostRuntime) -> Result<(), Fail> {
 
 /// Whether `#start` alone is accepted.
 fn accepts_no_main(alloc: Global) -> Result<bool, AllocError> {
-    Ok(Program::make(started(alloc)?).is_some())
+    Ok(without_globals(alloc, started(alloc)?).is_some())
 }
 
 /// Whether `#start` may call a function of this name beside `main`.
@@ -32,14 +32,14 @@ fn accepts_start(alloc: Global, callee: &[u8]) -> Result<bool, AllocError> {
     let mut functions = Vec::new(alloc);
     functions.push(start(alloc, callee)?)?;
     functions.push(main_function(alloc, 0, Vec::new(alloc))?)?;
-    Ok(Program::make(functions).is_some())
+    Ok(without_globals(alloc, functions).is_some())
 }
 
 /// Whether two functions of one name are accepted.
 fn accepts_two_mains(alloc: Global) -> Result<bool, AllocError> {
     let mut functions = main_alone(alloc, Vec::new(alloc))?;
     functions.push(main_function(alloc, 0, Vec::new(alloc))?)?;
-    Ok(Program::make(functions).is_some())
+    Ok(without_globals(alloc, functions).is_some())
 }
 
 #[test]
@@ -60,7 +60,7 @@ fn accepts_call(
     let line = call_line(alloc, call(alloc, b"work", outcome, temp)?)?;
     let mut functions = main_alone(alloc, one_line(alloc, line)?)?;
     functions.push(function(alloc, b"work", outcome, 0, Vec::new(alloc))?)?;
-    Ok(Program::make(functions).is_some())
+    Ok(without_globals(alloc, functions).is_some())
 }
 
 // `main` has no temporary, so it can call a `void` function alone.
@@ -74,12 +74,14 @@ fn a_call_without_a_result_needs_no_temporary(rt: HostRuntime) -> Result<(), Fai
 
 /// Whether `main` may return 0 as a number of a kind.
 fn accepts_return(alloc: Global, kind: IntKind) -> Result<bool, AllocError> {
-    accepts(alloc, line(alloc, answer(kind, constant(0)))?)
+    let label = answer(kind, constant(alloc, 0)?);
+    accepts(alloc, line(alloc, label)?)
 }
 
 /// Whether a kind may have a constant.
 fn accepts_constant(alloc: Global, kind: IntKind, value: i64) -> Result<bool, AllocError> {
-    accepts(alloc, evaluated(alloc, constant_of(kind, value))?)
+    let value = constant_of(alloc, kind, value)?;
+    accepts(alloc, evaluated(alloc, value)?)
 }
 
 #[test]
@@ -106,18 +108,20 @@ fn values_have_their_kinds(rt: HostRuntime) -> Result<(), Fail> {
 
 /// `if (0) {}`
 fn empty_conditional(alloc: Global) -> Result<RStmt, AllocError> {
-    conditional(
-        alloc,
-        test(alloc, constant(0)),
-        RStmt::Block(Vec::new(alloc)),
-    )
+    let then = nested(alloc, RStmt::Block(Vec::new(alloc)))?;
+    Ok(RStmt::If(false_test(alloc)?, then, None))
+}
+
+/// `0;`
+fn zero(alloc: Global) -> Result<RStmt, AllocError> {
+    evaluated(alloc, constant(alloc, 0)?)
 }
 
 /// Whether a `main` of so many points, and after them so many tests, is accepted.
 fn accepts_length(alloc: Global, points: usize, tests: usize) -> Result<bool, AllocError> {
     let mut body = Vec::new(alloc);
     for _ in 0..points {
-        body.push(evaluated(alloc, constant(0))?)?;
+        body.push(zero(alloc)?)?;
     }
     for _ in 0..tests {
         body.push(empty_conditional(alloc)?)?;
@@ -151,8 +155,9 @@ fn jump(breaks: bool) -> RStmt {
 
 /// Whether a jump is accepted as the body of a `while`.
 fn accepts_inside(alloc: Global, breaks: bool) -> Result<bool, AllocError> {
-    let line = while_loop(alloc, test(alloc, constant(0)), jump(breaks))?;
-    accepts(alloc, line)
+    let body = nested(alloc, jump(breaks))?;
+    let test = false_test(alloc)?;
+    accepts(alloc, RStmt::While(test, body))
 }
 
 // C11 6.8.6.2p1 and 6.8.6.3p1
@@ -174,20 +179,27 @@ fn object(number: u32, kind: IntKind) -> Object<'static> {
     }
 }
 
-/// `main` with locals `char c` of these numbers, and one line.
-fn main_of(alloc: Global, numbers: &[u32], line: RStmt) -> Result<Function, AllocError> {
-    let mut main = main_function(alloc, 0, one_line(alloc, line)?)?;
+/// The locals `char c` of these numbers.
+fn locals_of(alloc: Global, numbers: &[u32]) -> Result<Vec<LocalVar>, AllocError> {
+    let mut locals = Vec::new(alloc);
     for number in numbers {
-        main.locals
-            .push(local(alloc, object(*number, IntKind::Char))?)?;
+        locals.push(local(alloc, object(*number, IntKind::Char))?)?;
     }
+    Ok(locals)
+}
+
+/// `main` with these locals and a body.
+fn main_of(alloc: Global, numbers: &[u32], body: Vec<RStmt>) -> Result<Function, AllocError> {
+    let locals = locals_of(alloc, numbers)?;
+    let mut main = main_function(alloc, 0, body)?;
+    main.locals = locals;
     Ok(main)
 }
 
-/// Whether the program of that `main` is accepted.
+/// Whether the program of that `main` with one line is accepted.
 fn accepts_with(alloc: Global, numbers: &[u32], line: RStmt) -> Result<bool, AllocError> {
-    let main = main_of(alloc, numbers, line)?;
-    Ok(Program::make(with_main(alloc, main)?).is_some())
+    let main = main_of(alloc, numbers, one_line(alloc, line)?)?;
+    Ok(without_globals(alloc, with_main(alloc, main)?).is_some())
 }
 
 /// Whether the second of two locals `char c` may be read so.
@@ -198,12 +210,13 @@ fn accepts_read(alloc: Global, number: u32, kind: IntKind) -> Result<bool, Alloc
 
 /// Whether locals may have these numbers.
 fn accepts_numbers(alloc: Global, numbers: &[u32]) -> Result<bool, AllocError> {
-    accepts_with(alloc, numbers, evaluated(alloc, constant(0))?)
+    accepts_with(alloc, numbers, zero(alloc)?)
 }
 
 /// Whether `char c = 200;` is accepted.
 fn accepts_initialiser(alloc: Global) -> Result<bool, AllocError> {
-    let label = initialiser(alloc, object(1, IntKind::Char), constant(200))?;
+    let value = constant(alloc, 200)?;
+    let label = initialiser(alloc, object(1, IntKind::Char), value)?;
     accepts_with(alloc, &[1], line(alloc, label)?)
 }
 
@@ -240,47 +253,55 @@ fn an_operand_is_promoted(rt: HostRuntime) -> Result<(), Fail> {
     Ok(())
 }
 
+/// So many arguments 0.
+fn zeros(alloc: Global, count: usize) -> Result<Vec<RArg>, AllocError> {
+    let mut args = Vec::new(alloc);
+    for _ in 0..count {
+        args.push(RArg::Value(RExpr::Const(IntKind::Int, 0)))?;
+    }
+    Ok(args)
+}
+
 /// A call of `void work(char c);` with so many arguments 0.
 fn call_with(alloc: Global, args: usize) -> Result<CallLabel, AllocError> {
+    let params = one_parameter(alloc, b"c", IntKind::Char)?;
+    let args = zeros(alloc, args)?;
     let mut label = call(alloc, b"work", None, None)?;
-    label.params.push(parameter(alloc, b"c", IntKind::Char)?)?;
-    for _ in 0..args {
-        label.args.push(RArg::Value(constant(0)))?;
-    }
+    label.params = params;
+    label.args = args;
     Ok(label)
 }
 
-/// `void work(char c) {}`, with a local `char c` of a number where that isn't 0.
-fn work(alloc: Global, number: u32) -> Result<Function, AllocError> {
+/// `void work(char c) {}`, with locals `char c` of these numbers.
+fn work(alloc: Global, numbers: &[u32]) -> Result<Function, AllocError> {
+    let params = one_parameter(alloc, b"c", IntKind::Char)?;
+    let locals = locals_of(alloc, numbers)?;
     let mut work = function(alloc, b"work", None, 0, Vec::new(alloc))?;
-    work.params.push(parameter(alloc, b"c", IntKind::Char)?)?;
-    if number > 0 {
-        work.locals
-            .push(local(alloc, object(number, IntKind::Char))?)?;
-    }
+    work.params = params;
+    work.locals = locals;
     Ok(work)
 }
 
 /// Whether `main` may call that `work` with so many arguments.
-fn accepts_arguments(alloc: Global, args: usize, number: u32) -> Result<bool, AllocError> {
+fn accepts_arguments(alloc: Global, args: usize, numbers: &[u32]) -> Result<bool, AllocError> {
     let line = line(alloc, Label::Call(call_with(alloc, args)?))?;
     let mut functions = main_alone(alloc, one_line(alloc, line)?)?;
-    functions.push(work(alloc, number)?)?;
-    Ok(Program::make(functions).is_some())
+    functions.push(work(alloc, numbers)?)?;
+    Ok(without_globals(alloc, functions).is_some())
 }
 
 // A local of a parameter's name counts after it.
 #[test]
 fn arguments_are_as_many_as_parameters(rt: HostRuntime) -> Result<(), Fail> {
-    for (args, number, accepted) in [
-        (1, 0, true),
-        (0, 0, false),
-        (2, 0, false),
-        (1, 1, false),
-        (1, 2, true),
+    for (args, numbers, accepted) in [
+        (1, [].as_slice(), true),
+        (0, [].as_slice(), false),
+        (2, [].as_slice(), false),
+        (1, [1].as_slice(), false),
+        (1, [2].as_slice(), true),
     ] {
-        let answer = accepts_arguments(rt.alloc(), args, number)?;
-        assert_eq!(rt; answer, accepted, "at {args}, {number}");
+        let answer = accepts_arguments(rt.alloc(), args, numbers)?;
+        assert_eq!(rt; answer, accepted, "at {args}, {}", numbers.len());
     }
     Ok(())
 }

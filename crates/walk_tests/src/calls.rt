@@ -1,6 +1,5 @@
 //! Walks into calls and over them.
-use crate::walked::{by_calls, dangerous, graph, puts};
-use call_walk::walk;
+use crate::walked::{by_calls, dangerous, graph, puts, walk};
 use csub_core::RStmt;
 use flow_graph::Graph;
 use program_builders::functions::void_call_line;

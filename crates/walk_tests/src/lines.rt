@@ -1,6 +1,5 @@
 //! Walks of programs whose lines differ.
-use crate::walked::{choosing, choosing_put, dangerous, graph, puts};
-use call_walk::walk;
+use crate::walked::{choosing, choosing_put, dangerous, graph, puts, walk};
 use csub_core::RStmt;
 use flow_graph::Graph;
 use program_builders::statements::{one_line, returned_zero, written};

@@ -1,15 +1,15 @@
 //! Runs that store numbers in objects, and pass them to functions and back.
 use crate::shown::{Shown, run_of};
-use csub_core::{
-    BinOp, CallLabel, Function, IntKind, RArg, RExpr, RPart, RStmt, Status, StepOp, Trap,
-};
+use csub_core::{BinOp, CallLabel, Function, IntKind, RExpr, RPart, RStmt, Status, StepOp, Trap};
 use program_builders::expressions::{binary, constant, equality, output, temporary};
-use program_builders::functions::{call, function, one_call};
+use program_builders::functions::{call, function, one_argument, one_call, void_call_line};
 use program_builders::objects::{
-    Object, assignment, first, initialiser, local, parameter, read, step, update,
+    Object, assignment, first, initialiser, one_local, one_parameter, read, step, update,
 };
 use program_builders::programs::{main_function, with_main};
-use program_builders::statements::{answer, evaluated, line, line_of, one_line, part, returned};
+use program_builders::statements::{
+    answer, evaluated, input_test, line, line_of, nested, one_line, part, returned,
+};
 use std::alloc::{AllocError, Global};
 use std::test::Fail;
 
@@ -20,50 +20,59 @@ fn x(kind: IntKind) -> Object<'static> {
 
 /// `#start`, and `main` with a local `x` of a kind, a temporary and a body.
 fn with_local(alloc: Global, kind: IntKind, body: Vec<RStmt>) -> Result<Vec<Function>, AllocError> {
+    let locals = one_local(alloc, x(kind))?;
     let mut main = main_function(alloc, 1, body)?;
-    main.locals.push(local(alloc, x(kind))?)?;
+    main.locals = locals;
     with_main(alloc, main)
 }
 
 /// The declaration of `x` with a kind and an initial number.
 fn declared_x(alloc: Global, kind: IntKind, initial: i64) -> Result<RStmt, AllocError> {
-    line(alloc, initialiser(alloc, x(kind), constant(initial))?)
+    let value = constant(alloc, initial)?;
+    line(alloc, initialiser(alloc, x(kind), value)?)
 }
 
 /// `return x == last;`, with `x` of a kind.
 fn return_of_test(alloc: Global, kind: IntKind, last: i64) -> Result<RStmt, AllocError> {
-    let value = read(alloc, x(kind))?;
-    returned(alloc, equality(alloc, IntKind::Int, value, constant(last))?)
+    let left = read(alloc, x(kind))?;
+    let right = constant(alloc, last)?;
+    returned(alloc, equality(alloc, IntKind::Int, left, right)?)
 }
 
 /// `x = number`, with `x` of a kind.
-fn assigned(alloc: Global, kind: IntKind, number: i64) -> Result<RExpr, AllocError> {
-    assignment(alloc, x(kind), constant(number))
+fn assigned(alloc: Global, kind: IntKind, number: i64) -> Result<Box<RExpr>, AllocError> {
+    assignment(alloc, x(kind), constant(alloc, number)?)
 }
 
 /// `x += number`, with an `int` `x`.
-fn increased(alloc: Global, number: i64) -> Result<RExpr, AllocError> {
-    update(
-        alloc,
-        x(IntKind::Int),
-        BinOp::Add,
-        IntKind::Int,
-        constant(number),
-    )
+fn increased(alloc: Global, number: i64) -> Result<Box<RExpr>, AllocError> {
+    let value = constant(alloc, number)?;
+    update(alloc, x(IntKind::Int), BinOp::Add, IntKind::Int, value)
 }
 
-/// A run of `int main(void) { kind x = initial; putchar(expr); return x == last; }`.
+/// `{ kind x = initial; putchar(expr); return x == last; }`
+fn body_on_x(
+    alloc: Global,
+    kind: IntKind,
+    initial: i64,
+    expr: Box<RExpr>,
+    last: i64,
+) -> Result<Vec<RStmt>, AllocError> {
+    let mut body = one_line(alloc, declared_x(alloc, kind, initial)?)?;
+    body.push(evaluated(alloc, output(alloc, expr)?)?)?;
+    body.push(return_of_test(alloc, kind, last)?)?;
+    Ok(body)
+}
+
+/// A run of a `main` with that body.
 fn run_on_x(
     alloc: Global,
     kind: IntKind,
     initial: i64,
-    expr: RExpr,
+    expr: Box<RExpr>,
     last: i64,
 ) -> Result<Shown, Fail> {
-    let shown = evaluated(alloc, output(alloc, expr)?)?;
-    let mut body = one_line(alloc, declared_x(alloc, kind, initial)?)?;
-    body.push(shown)?;
-    body.push(return_of_test(alloc, kind, last)?)?;
+    let body = body_on_x(alloc, kind, initial, expr, last)?;
     run_of(alloc, with_local(alloc, kind, body)?, b"", 100)
 }
 
@@ -72,7 +81,7 @@ fn gives(
     alloc: Global,
     kind: IntKind,
     initial: i64,
-    expr: RExpr,
+    expr: Box<RExpr>,
     byte: u8,
     last: i64,
 ) -> Result<bool, Fail> {
@@ -147,26 +156,30 @@ fn increasing(alloc: Global) -> Result<Vec<RStmt>, AllocError> {
 
 /// `int next(int x) { x += 1; return x; }`
 fn successor(alloc: Global) -> Result<Function, AllocError> {
+    let params = one_parameter(alloc, b"x", IntKind::Int)?;
     let mut next = function(alloc, b"next", Some(IntKind::Int), 0, increasing(alloc)?)?;
-    next.params.push(parameter(alloc, b"x", IntKind::Int)?)?;
+    next.params = params;
     Ok(next)
 }
 
 /// The call `next(x)`, into the temporary 1.
 fn call_of_next(alloc: Global) -> Result<CallLabel, AllocError> {
+    let params = one_parameter(alloc, b"x", IntKind::Int)?;
+    let args = one_argument(alloc, read(alloc, x(IntKind::Int))?)?;
     let mut label = call(alloc, b"next", Some(IntKind::Int), Some(1))?;
-    label.params.push(parameter(alloc, b"x", IntKind::Int)?)?;
-    label.args.push(RArg::Value(read(alloc, x(IntKind::Int))?))?;
+    label.params = params;
+    label.args = args;
     Ok(label)
 }
 
 /// The part of `return next(x) + x;`.
 fn part_of_next(alloc: Global) -> Result<RPart, AllocError> {
+    let calls = one_call(alloc, call_of_next(alloc)?)?;
+    let left = temporary(alloc, 1, IntKind::Int)?;
     let right = read(alloc, x(IntKind::Int))?;
-    let left = temporary(1, IntKind::Int);
     let value = binary(alloc, BinOp::Add, IntKind::Int, left, right)?;
     let mut whole = part(alloc, answer(IntKind::Int, value));
-    whole.calls = one_call(alloc, call_of_next(alloc)?)?;
+    whole.calls = calls;
     Ok(whole)
 }
 
@@ -186,5 +199,57 @@ fn a_call_passes_an_argument_and_gives_a_result(rt: HostRuntime) -> Result<(), F
     let shown = run_of(alloc, calling_next(alloc)?, b"", 100)?;
     assert_eq!(rt; shown.status, Status::Exit(83));
     assert_eq!(rt; shown.turns, 12);
+    Ok(())
+}
+
+/// `if (getchar() == 65) x = 1;`
+fn setting_at_a(alloc: Global) -> Result<RStmt, AllocError> {
+    let set = evaluated(alloc, assigned(alloc, IntKind::Int, 1)?)?;
+    let then = nested(alloc, set)?;
+    Ok(RStmt::If(input_test(alloc, 65)?, then, None))
+}
+
+/// `{ if (getchar() == 65) x = 1; putchar(x); }`
+fn set_at_a(alloc: Global) -> Result<Vec<RStmt>, AllocError> {
+    let mut body = one_line(alloc, setting_at_a(alloc)?)?;
+    let value = read(alloc, x(IntKind::Int))?;
+    body.push(evaluated(alloc, output(alloc, value)?)?)?;
+    Ok(body)
+}
+
+/// `void again(void) { int x; if (getchar() == 65) x = 1; putchar(x); }`
+fn setting(alloc: Global) -> Result<Function, AllocError> {
+    let locals = one_local(alloc, x(IntKind::Int))?;
+    let mut again = function(alloc, b"again", None, 0, set_at_a(alloc)?)?;
+    again.locals = locals;
+    Ok(again)
+}
+
+/// `int main(void) { again(); again(); }` with `again`.
+fn calling_twice(alloc: Global) -> Result<Vec<Function>, AllocError> {
+    let mut body = one_line(alloc, void_call_line(alloc, b"again")?)?;
+    body.push(void_call_line(alloc, b"again")?)?;
+    let mut functions = with_main(alloc, main_function(alloc, 1, body)?)?;
+    functions.push(setting(alloc)?)?;
+    Ok(functions)
+}
+
+// Each call has objects of its own, which nothing was written to.
+#[test]
+fn the_objects_of_a_call_begin_unset(rt: HostRuntime) -> Result<(), Fail> {
+    let alloc = rt.alloc();
+    for (input, status, output) in [
+        (b"AA".as_slice(), Status::Exit(0), b"\x01\x01".as_slice()),
+        (
+            b"AB".as_slice(),
+            Status::Trap(Trap::Unset),
+            b"\x01".as_slice(),
+        ),
+        (b"B".as_slice(), Status::Trap(Trap::Unset), b"".as_slice()),
+    ] {
+        let shown = run_of(alloc, calling_twice(alloc)?, input, 100)?;
+        assert_eq!(rt; shown.status, status);
+        assert!(rt; shown.output.as_slice() == output);
+    }
     Ok(())
 }

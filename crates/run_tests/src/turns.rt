@@ -1,13 +1,18 @@
 //! Runs turn by turn: their ends, their output and the edges that they cross.
+ghost use Rattle.csub_semantics.specs.Syntax.{program_tree};
+ghost use Rattle.flow_graph.specs.Graph.{IsGraphOf};
+ghost use Rattle.csub_flat.specs.Copies.{IsFlatOf};
+
 use crate::shown::run;
 use csub_core::{BinOp, IntKind, Program, RExpr, RStmt, Status, Trap};
+use csub_flat::{FlatProgram, flatten_program};
 use csub_machine::Machine;
 use flow_graph::Graph;
 use program_builders::expressions::{binary, constant};
 use program_builders::functions::int_call_line;
 use program_builders::programs::program;
 use program_builders::statements::{
-    alternative, input_test, one_line, returned, returned_zero, written,
+    input_test, nested, one_line, returned, returned_zero, written,
 };
 use std::alloc::{AllocError, Global};
 use std::test::Fail;
@@ -37,9 +42,9 @@ fn an_empty_main_takes_five_turns(rt: HostRuntime) -> Result<(), Fail> {
 
 /// `if (getchar() == 65) { putchar(66); } else { putchar(67); }`
 fn choosing(alloc: Global) -> Result<RStmt, AllocError> {
-    let then = written(alloc, 66)?;
-    let other = written(alloc, 67)?;
-    alternative(alloc, input_test(alloc, 65)?, then, other)
+    let then = nested(alloc, written(alloc, 66)?)?;
+    let other = nested(alloc, written(alloc, 67)?)?;
+    Ok(RStmt::If(input_test(alloc, 65)?, then, Some(other)))
 }
 
 /// The same with `return 0;` behind it.
@@ -69,13 +74,14 @@ fn a_test_of_the_input_chooses_what_is_written(rt: HostRuntime) -> Result<(), Fa
 }
 
 /// `return value;`
-fn returning(alloc: Global, value: RExpr) -> Result<Vec<RStmt>, AllocError> {
+fn returning(alloc: Global, value: Box<RExpr>) -> Result<Vec<RStmt>, AllocError> {
     one_line(alloc, returned(alloc, value)?)
 }
 
 /// `return 1 / 0;`
 fn returning_by_zero(alloc: Global) -> Result<Vec<RStmt>, AllocError> {
-    let value = binary(alloc, BinOp::Div, IntKind::Int, constant(1), constant(0))?;
+    let (one, zero) = (constant(alloc, 1)?, constant(alloc, 0)?);
+    let value = binary(alloc, BinOp::Div, IntKind::Int, one, zero)?;
     returning(alloc, value)
 }
 
@@ -83,7 +89,7 @@ fn returning_by_zero(alloc: Global) -> Result<Vec<RStmt>, AllocError> {
 #[test]
 fn a_return_ends_the_run_with_a_status(rt: HostRuntime) -> Result<(), Fail> {
     let alloc = rt.alloc();
-    let shown = run(alloc, returning(alloc, constant(300))?, b"", 100)?;
+    let shown = run(alloc, returning(alloc, constant(alloc, 300)?)?, b"", 100)?;
     assert_eq!(rt; shown.status, Status::Exit(44));
     assert_eq!(rt; shown.turns, 6);
     assert!(rt; shown.crossed.as_slice() == [0, 1, 2, 3].as_slice());
@@ -121,30 +127,49 @@ fn one_output(alloc: Global) -> Result<Program, Fail> {
     Ok(program)
 }
 
+// The entry and the call of `#start`, the entry of `main`, its statement, which writes, and its exit; then the exit of
+// `#start`.
 #[test]
 fn turns_are_taken_one_by_one(rt: HostRuntime) -> Result<(), Fail> {
     let alloc = rt.alloc();
     let program = one_output(alloc)?;
     let graph = Graph::build(alloc, &program)?;
     let mut machine = Machine::new(alloc, &program, &graph, b"")?;
-    let None = machine.turn()? else {
-        return Err(Fail::from("ended at an entry"));
-    };
-    let None = machine.turn()? else {
-        return Err(Fail::from("ended at a call"));
-    };
-    let None = machine.turn()? else {
-        return Err(Fail::from("ended at an entry"));
-    };
+    assert!(rt; machine.turn().is_none());
+    assert!(rt; machine.turn().is_none());
+    assert!(rt; machine.turn().is_none());
     assert!(rt; machine.output().is_empty());
-    let None = machine.turn()? else {
-        return Err(Fail::from("ended at a statement"));
-    };
+    assert!(rt; machine.turn().is_none());
     assert!(rt; machine.output() == b"\x42".as_slice());
-    let None = machine.turn()? else {
-        return Err(Fail::from("ended with main"));
-    };
-    assert_eq!(rt; machine.turn()?, Some(Status::Exit(0)));
+    assert!(rt; machine.turn().is_none());
+    assert_eq!(rt; machine.turn(), Some(Status::Exit(0)));
     assert_eq!(rt; machine.turns(), 6);
+    Ok(())
+}
+
+/// Whether two machines over one flat copy of a program run apart from each other, which read A and B.
+fn run_apart(
+    alloc: Global,
+    program: &Program,
+    graph: &Graph,
+    flat: &FlatProgram,
+) -> Result<bool, AllocError>
+    requires graph { IsGraphOf graph.now (program_tree program.now) }
+    requires copies { IsFlatOf (program_tree program.now) flat.now }
+{
+    let mut first = Machine::over(alloc, program, graph, flat, b"A")?;
+    let mut second = Machine::over(alloc, program, graph, flat, b"B")?;
+    let both = [first.run(100), second.run(100)];
+    let wrote = first.output() == b"B".as_slice() && second.output() == b"C".as_slice();
+    Ok(wrote && both == [Status::Exit(0), Status::Exit(0)])
+}
+
+#[test]
+fn machines_share_a_flat_copy(rt: HostRuntime) -> Result<(), Fail> {
+    let alloc = rt.alloc();
+    let program = program(alloc, letters(alloc)?)?.ok_or("refused")?;
+    let graph = Graph::build(alloc, &program)?;
+    let flat = flatten_program(alloc, &program, &graph)?;
+    assert!(rt; run_apart(alloc, &program, &graph, &flat)?);
     Ok(())
 }

@@ -3,7 +3,7 @@ use csub_core::{Function, Program, RStmt, Status};
 use csub_machine::Machine;
 use edge_trace::EdgeRow;
 use flow_graph::Graph;
-use program_builders::programs::{main_function, with_main};
+use program_builders::programs::{main_function, with_main, without_globals};
 use std::alloc::{AllocError, Global};
 use std::test::Fail;
 
@@ -26,27 +26,41 @@ pub fn run(alloc: Global, body: Vec<RStmt>, input: &[u8], budget: u32) -> Result
     run_of(alloc, with_main(alloc, main)?, input, budget)
 }
 
-/// A run of a program.
+/// A run of functions without objects of file scope.
 pub fn run_of(
     alloc: Global,
     functions: Vec<Function>,
     input: &[u8],
     budget: u32,
 ) -> Result<Shown, Fail> {
-    let program = Program::make(functions).ok_or("refused")?;
-    let graph = Graph::build(alloc, &program)?;
+    let program = without_globals(alloc, functions).ok_or("refused")?;
+    run_program(alloc, &program, input, budget)
+}
+
+/// A run of a program.
+pub fn run_program(
+    alloc: Global,
+    program: &Program,
+    input: &[u8],
+    budget: u32,
+) -> Result<Shown, Fail> {
     if input.len() > 16_384 || budget > 10_000_000 {
         return Err(Fail::from("an input or a budget that is too long"));
     }
-    let mut machine = Machine::new(alloc, &program, &graph, input)?;
-    let status = machine.run(budget)?;
+    let graph = Graph::build(alloc, program)?;
+    let mut machine = Machine::new(alloc, program, &graph, input)?;
+    let status = machine.run(budget);
+    Ok(shown_by(alloc, &machine, status)?)
+}
+
+/// What a machine shows whose run ended so.
+fn shown_by(alloc: Global, machine: &Machine<'_>, status: Status) -> Result<Shown, AllocError> {
     let output = machine.output().to_vec(alloc)?;
-    let crossed = numbers_in(alloc, machine.crossed())?;
     Ok(Shown {
         status,
         output,
         turns: machine.turns(),
-        crossed,
+        crossed: numbers_in(alloc, machine.crossed())?,
     })
 }
 

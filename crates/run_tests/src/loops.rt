@@ -2,13 +2,13 @@
 use crate::shown::run;
 use csub_core::{RStmt, Status};
 use program_builders::expressions::constant;
-use program_builders::statements::{do_loop, for_loop, input_test, output_part, returned, written};
+use program_builders::statements::{input_test, nested, output_part, returned, written};
 use std::alloc::{AllocError, Global};
 use std::test::Fail;
 
 /// `if (getchar() == ..)` with a jump.
 fn jumps_at(alloc: Global, byte: i64, jump: RStmt) -> Result<RStmt, AllocError> {
-    let then = Box::new(alloc, jump)?;
+    let then = nested(alloc, jump)?;
     Ok(RStmt::If(input_test(alloc, byte)?, then, None))
 }
 
@@ -23,16 +23,16 @@ fn repeated(alloc: Global) -> Result<RStmt, AllocError> {
 
 /// The `for` of [`loops`].
 fn reading_for(alloc: Global) -> Result<RStmt, AllocError> {
-    let body = repeated(alloc)?;
+    let body = nested(alloc, repeated(alloc)?)?;
     let first = output_part(alloc, 48)?;
     let third = output_part(alloc, 49)?;
-    for_loop(alloc, first, input_test(alloc, 65)?, third, body)
+    Ok(RStmt::For(first, input_test(alloc, 65)?, third, body))
 }
 
 /// The `do` of [`loops`].
 fn reading_do(alloc: Global) -> Result<RStmt, AllocError> {
-    let test = input_test(alloc, 65)?;
-    do_loop(alloc, written(alloc, 51)?, test)
+    let body = nested(alloc, written(alloc, 51)?)?;
+    Ok(RStmt::Do(body, input_test(alloc, 65)?))
 }
 
 /// ```c
@@ -48,7 +48,7 @@ fn loops(alloc: Global) -> Result<Vec<RStmt>, AllocError> {
     let mut body = Vec::new(alloc);
     body.push(reading_for(alloc)?)?;
     body.push(reading_do(alloc)?)?;
-    body.push(returned(alloc, constant(7))?)?;
+    body.push(returned(alloc, constant(alloc, 7)?)?)?;
     Ok(body)
 }
 

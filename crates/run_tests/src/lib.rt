@@ -1,0 +1,16 @@
+//! Tests of runs: their turns, what they write and store, the edges that they cross, and how they end. They build their
+//! programs with `program_builders`, in small functions that each make one thing.
+#![tactic(auto)]
+
+#[cfg(test)]
+mod globals;
+#[cfg(test)]
+mod loops;
+#[cfg(test)]
+mod operators;
+#[cfg(test)]
+mod shown;
+#[cfg(test)]
+mod stored;
+#[cfg(test)]
+mod turns;
