@@ -1,6 +1,7 @@
 -- The descent of expressions as a function on lists of tokens. It is not what a spelling means (that is SpellsExpr): the
 -- functions of the code are proved to give it, and the contracts of the module `laws` tie it to SpellsExpr.
-use Rattle.std.specs.Prelude.{ℕ, zero, suc, List, [], ◌∷◌, length, Option, Some, None, Ok, Err, Bool, true, false, ◌&&◌, nat_le, if◌then◌else◌}
+use Rattle.std.specs.Prelude.{ℕ, zero, suc, List, [], ◌∷◌, length, Option, Some, None, Ok, Err}
+use Rattle.std.specs.Prelude.{Bool, true, false, ◌&&◌, nat_le, if◌then◌else◌}
 use Rattle.csub_text.specs.declared.span.Span.{Span}
 use Rattle.csub_text.specs.declared.operator.BinOp.{BinOp}
 use Rattle.csub_lex.specs.declared.token.Key.TheVariants as keys

@@ -34,7 +34,8 @@ IsSound {A} Spells depth reading =
     → (s : List Token) × (ts ≡ s ++ r) × Spells x s × (depth x ≤ d)
 
 -- what is spelled so, and is no deeper than allowed, is read wherever what follows doesn't continue it
-abbrev pub IsComplete : {A : Type 0} → (A → List Token → Type 0) → (A → ℕ) → (List Token → Type 0) → (ℕ → List Token → Answer A) → Type 0
+abbrev pub IsComplete : {A : Type 0} → (A → List Token → Type 0) → (A → ℕ) → (List Token → Type 0) → (ℕ → List Token → Answer A)
+    → Type 0
 IsComplete {A} Spells depth Follows reading =
     (x : A) (s : List Token) → Spells x s → (d : ℕ) → depth x ≤ d → (r : List Token) → Follows r → reading d (s ++ r) ≡ Ok (x, r)
 

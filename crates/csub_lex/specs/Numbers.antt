@@ -32,7 +32,8 @@ pub data InBase (base : ℕ) : List ℕ → ℕ → Bool → Type 0 where
 -- a number, its value, and whether the suffix stands: it fits an `unsigned int`, and a decimal one without suffix an `int`
 pub data Number : List ℕ → ℕ → Bool → Type 0 where
   decimal : (d : ℕ) (more : List ℕ) (value : ℕ) (unsigned : Bool) → (d ≡ 48 → ⊥) → is_digit_of 10 d ≡ true
-      → InBase 10 (d ∷ more) value unsigned → value ≤ 4294967295 → (unsigned ≡ false → value ≤ 2147483647) → Number (d ∷ more) value unsigned
+      → InBase 10 (d ∷ more) value unsigned → value ≤ 4294967295 → (unsigned ≡ false → value ≤ 2147483647)
+      → Number (d ∷ more) value unsigned
   octal : (more : List ℕ) (value : ℕ) (unsigned : Bool) → InBase 8 more value unsigned → value ≤ 4294967295
       → Number (48 ∷ more) value unsigned
   hexadecimal : (x d : ℕ) (more : List ℕ) (value : ℕ) (unsigned : Bool) → (x == 120 || x == 88) ≡ true → is_digit_of 16 d ≡ true

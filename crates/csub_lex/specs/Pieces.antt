@@ -24,7 +24,8 @@ pub data Piece (before : List ℕ) : List ℕ → List ℕ → Option TokenKind 
   comment : (body after : List ℕ) → NoClose (body ++ 42 ∷ []) → Piece before (47 ∷ 42 ∷ (body ++ 42 ∷ 47 ∷ [])) after None
   -- `#`, `include` and a header with blanks round them, alone on their line but for a comment behind them (C11 6.10p2, 6.10.2p2)
   include_line : (gap_1 gap_2 header gap_3 after : List ℕ) → blank_line before ≡ true → Run is_gap gap_1 → Run is_gap gap_2
-      → Header header → Run is_gap gap_3 → EndsInclude after → Piece before (35 ∷ (gap_1 ++ (codes "include" ++ (gap_2 ++ (header ++ gap_3))))) after None
+      → Header header → Run is_gap gap_3 → EndsInclude after
+      → Piece before (35 ∷ (gap_1 ++ (codes "include" ++ (gap_2 ++ (header ++ gap_3))))) after None
   -- a keyword or a name (C11 6.4.1, 6.4.2)
   word : (b : ℕ) (bs after : List ℕ) (kind : TokenKind) → is_letter b ≡ true → Run is_word bs → Stops is_word after → Word (b ∷ bs) kind
       → Piece before (b ∷ bs) after (Some kind)
@@ -32,7 +33,8 @@ pub data Piece (before : List ℕ) : List ℕ → List ℕ → Option TokenKind 
   number : (b : ℕ) (bs after : List ℕ) (value : ℕ) (unsigned : Bool) → is_ascii_digit b ≡ true → Run is_word bs → Stops is_word after
       → Number (b ∷ bs) value unsigned → Piece before (b ∷ bs) after (Some (kinds.Number value unsigned))
   -- one character between `'` (C11 6.4.4.4)
-  character : (text after : List ℕ) (value : ℕ) → Characters 39 text (value ∷ []) → Piece before (39 ∷ (text ++ 39 ∷ [])) after (Some (kinds.Char value))
+  character : (text after : List ℕ) (value : ℕ) → Characters 39 text (value ∷ [])
+      → Piece before (39 ∷ (text ++ 39 ∷ [])) after (Some (kinds.Char value))
   -- any number of characters between `"` (C11 6.4.5)
   string : (text after bytes : List ℕ) → Characters 34 text bytes → Piece before (34 ∷ (text ++ 34 ∷ [])) after (Some (kinds.Text bytes))
   -- the longest mark (C11 6.4.6, 6.4p4), where no comment is opened

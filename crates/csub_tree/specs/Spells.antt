@@ -24,7 +24,8 @@ pub data SpellsConstant : Constant → List Token → Type 0 where
 pub data SpellsItem : Item → List Token → Type 0 where
   -- item = "struct" ID "{" field+ "}" ";" (6.7.2.1)
   struct : {d : Declare} {ds : List Declare} {s : List Token} (n : Name) (a b c e : Span) → Each Declare SpellsField (d ∷ ds) s
-      → SpellsItem (Struct n (d ∷ ds)) (key keys.Struct a ∷ id n ∷ mark marks.OpenBrace b ∷ (s ++ mark marks.CloseBrace c ∷ mark marks.Semicolon e ∷ []))
+      → SpellsItem (Struct n (d ∷ ds))
+      (key keys.Struct a ∷ id n ∷ mark marks.OpenBrace b ∷ (s ++ mark marks.CloseBrace c ∷ mark marks.Semicolon e ∷ []))
   -- | "enum" [ID] "{" const ("," const)* [","] "}" ";" (6.7.2.2)
   enum : {n : Option Name} {cs : List Constant} {s t u : List Token} (a b c d : Span) → Optional Name SpellsName n s
       → Separated Constant SpellsConstant cs t → Trailing u
