@@ -9,17 +9,18 @@ returns-then-params-args c =
 
 pub returns-then-not-is_arg : goal.returns-then-not-is_arg
 returns-then-not-is_arg c =
-    let split = AreArgs-split (scope_at c.args.site) c.args.site.number c.args.params.now c.args.args.now c.if-params-args.false in
-    (λ h. cc,
+    let split = AreArgs-split (scope_at c.args.site) c.args.site.number c.args.params.now c.args.args.now c.if-params-args.false in (
+      λ h. cc,
       λ h. c.if-not-is_arg.ensures.1
           (FitUpTo-at (scope_at c.args.site) c.args.site.number c.args.params.now c.args.args.now c.loop-i.i c.index-params-i.result c.index-args-i.result
-              c.loop-i-test.true c.index-params-i.is c.index-args-i.is (split.0 h)))
+          c.loop-i-test.true c.index-params-i.is c.index-args-i.is (split.0 h)),
+    )
 
 pub loop-i-preserved : goal.loop-i-preserved
 loop-i-preserved c =
     let there : c.loop-i.i < length c.args.args.now = omega (arith, c.loop-i-test.true, c.if-params-args.false) in
     FitUpTo-more (scope_at c.args.site) c.args.site.number c.args.params.now c.args.args.now c.loop-i.i c.index-params-i.result c.index-args-i.result
-        c.loop-i-test.true there c.index-params-i.is c.index-args-i.is (c.is_arg.ensures.0 c.if-not-is_arg.false) c.loop-i.invariant
+    c.loop-i-test.true there c.index-params-i.is c.index-args-i.is (c.is_arg.ensures.0 c.if-not-is_arg.false) c.loop-i.invariant
 
 pub returns : goal.returns
 returns c =
