@@ -2,7 +2,7 @@
 use denote.Param.Send.{IsSend, IsSync, sendable}
 use Rattle.std.proofs.Crossing.{crosses}
 use Rattle.csub_objects.proofs.LawsThreads.{CType-send, CType-sync, Member-send, Member-sync}
-use Rattle.csub_semantics.proofs.expression.RExpr.TheLaws.TheKnot as expr
+use Rattle.csub_semantics.proofs.expression.Place.TheLaws.TheKnot as expr
 use Rattle.csub_semantics.proofs.function.RStmt.TheLaws.TheKnot as stmt
 use Rattle.csub_semantics.specs.contracts.expression.RExpr as RExpr
 use Rattle.csub_semantics.specs.contracts.function.Function as Function

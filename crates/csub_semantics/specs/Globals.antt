@@ -7,7 +7,8 @@ use Rattle.std.specs.Cmp.Lexicographic.{slice_cmp}
 use Rattle.std.specs.BTreeSet.{insert_key}
 use Rattle.csub_objects.specs.Types.{Name}
 use Rattle.csub_semantics.specs.Types.{name_eq, GlobalTree}
-use Rattle.csub_semantics.specs.Trees.{OwnerTree, global_owner, local_owner, Variable, object, temporary, NamedPlace, variable, NamedExpr, constant}
+use Rattle.csub_semantics.specs.Trees.{OwnerTree, global_owner, local_owner, Variable, object, temporary, NamedPlace, variable, element_place, member_place, NamedExpr}
+use Rattle.csub_semantics.specs.Trees.{constant}
 use Rattle.csub_semantics.specs.Trees.{reading, unary_operation, conversion, stepping, operation, conjunction, disjunction, choice, assignment}
 use Rattle.csub_semantics.specs.Trees.{update, input_byte, output_byte, NamedArg, value_argument}
 use Rattle.csub_semantics.specs.Labels.{LabelTree, enters, exits, evaluates, initialises, branches, returns, calls, AnswerTree, InitTree, one_value}
@@ -21,23 +22,26 @@ abbrev pub variable_names : Variable → List Name
 variable_names (object owner t) = owner_names owner
 variable_names (temporary n k) = []
 
-abbrev pub place_names : NamedPlace → List Name
-place_names (variable v) = variable_names v
+abbrev mutual
+  pub place_names : NamedPlace → List Name
+  place_names (variable v) = variable_names v
+  place_names (element_place u p e) = place_names p ++ expr_names e
+  place_names (member_place a p) = place_names p
 
-abbrev pub expr_names : NamedExpr → List Name
-expr_names (constant k v) = []
-expr_names (reading p) = place_names p
-expr_names (unary_operation op k a) = expr_names a
-expr_names (conversion k a) = expr_names a
-expr_names (stepping op p) = place_names p
-expr_names (operation op k a b) = expr_names a ++ expr_names b
-expr_names (conjunction a b) = expr_names a ++ expr_names b
-expr_names (disjunction a b) = expr_names a ++ expr_names b
-expr_names (choice k c a b) = expr_names c ++ (expr_names a ++ expr_names b)
-expr_names (assignment p e) = place_names p ++ expr_names e
-expr_names (update p op k e) = place_names p ++ expr_names e
-expr_names input_byte = []
-expr_names (output_byte e) = expr_names e
+  pub expr_names : NamedExpr → List Name
+  expr_names (constant k v) = []
+  expr_names (reading p) = place_names p
+  expr_names (unary_operation op k a) = expr_names a
+  expr_names (conversion k a) = expr_names a
+  expr_names (stepping op p) = place_names p
+  expr_names (operation op k a b) = expr_names a ++ expr_names b
+  expr_names (conjunction a b) = expr_names a ++ expr_names b
+  expr_names (disjunction a b) = expr_names a ++ expr_names b
+  expr_names (choice k c a b) = expr_names c ++ (expr_names a ++ expr_names b)
+  expr_names (assignment p e) = place_names p ++ expr_names e
+  expr_names (update p op k e) = place_names p ++ expr_names e
+  expr_names input_byte = []
+  expr_names (output_byte e) = expr_names e
 
 abbrev pub arg_names : NamedArg → List Name
 arg_names (value_argument e) = expr_names e

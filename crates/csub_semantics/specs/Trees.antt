@@ -10,31 +10,34 @@ use Rattle.csub_objects.specs.Types.{Name, TypeTree}
 use Rattle.csub_objects.specs.Meaning.{type_tree}
 use Rattle.csub_semantics.specs.declared.expression.Owner.{Owner}
 use Rattle.csub_semantics.specs.declared.expression.Owner.TheVariants.{Global, Local}
-use Rattle.csub_semantics.specs.declared.expression.Place.{Place}
-use Rattle.csub_semantics.specs.declared.expression.Place.TheVariants.{Var}
+use Rattle.csub_semantics.specs.declared.expression.Place.{Place, Var, Index', Member'}
 use Rattle.csub_semantics.specs.declared.expression.RArg.{RArg}
 use Rattle.csub_semantics.specs.declared.expression.RArg.TheVariants.{Value}
 use Rattle.csub_semantics.specs.declared.expression.RExpr.{RExpr, Const, Read, Temp, Unary', Cast', Step, Binary', And', Or', Choose', Assign'}
 use Rattle.csub_semantics.specs.declared.expression.RExpr.{Update', Getchar, Putchar'}
 
--- a place that holds a number (an lvalue, C11 6.3.2.1)
-pub data PlaceTree (V I M : Type 0) : Type 0 where
-  variable : V → PlaceTree V I M
+mutual
+  -- a place (an lvalue, C11 6.3.2.1): an object, an element of an array place by its index (6.5.2.1), or a member of a
+  -- struct place (6.5.2.3)
+  pub data PlaceTree (V I M : Type 0) : Type 0 where
+    variable : V → PlaceTree V I M
+    element_place : I → PlaceTree V I M → ExprTree V I M → PlaceTree V I M
+    member_place : M → PlaceTree V I M → PlaceTree V I M
 
-pub data ExprTree (V I M : Type 0) : Type 0 where
-  constant : IntKind → ℤ → ExprTree V I M
-  reading : PlaceTree V I M → ExprTree V I M
-  unary_operation : UnaryOp → IntKind → ExprTree V I M → ExprTree V I M
-  conversion : IntKind → ExprTree V I M → ExprTree V I M
-  stepping : StepOp → PlaceTree V I M → ExprTree V I M
-  operation : BinOp → IntKind → ExprTree V I M → ExprTree V I M → ExprTree V I M
-  conjunction : ExprTree V I M → ExprTree V I M → ExprTree V I M
-  disjunction : ExprTree V I M → ExprTree V I M → ExprTree V I M
-  choice : IntKind → ExprTree V I M → ExprTree V I M → ExprTree V I M → ExprTree V I M
-  assignment : PlaceTree V I M → ExprTree V I M → ExprTree V I M
-  update : PlaceTree V I M → BinOp → IntKind → ExprTree V I M → ExprTree V I M
-  input_byte : ExprTree V I M
-  output_byte : ExprTree V I M → ExprTree V I M
+  pub data ExprTree (V I M : Type 0) : Type 0 where
+    constant : IntKind → ℤ → ExprTree V I M
+    reading : PlaceTree V I M → ExprTree V I M
+    unary_operation : UnaryOp → IntKind → ExprTree V I M → ExprTree V I M
+    conversion : IntKind → ExprTree V I M → ExprTree V I M
+    stepping : StepOp → PlaceTree V I M → ExprTree V I M
+    operation : BinOp → IntKind → ExprTree V I M → ExprTree V I M → ExprTree V I M
+    conjunction : ExprTree V I M → ExprTree V I M → ExprTree V I M
+    disjunction : ExprTree V I M → ExprTree V I M → ExprTree V I M
+    choice : IntKind → ExprTree V I M → ExprTree V I M → ExprTree V I M → ExprTree V I M
+    assignment : PlaceTree V I M → ExprTree V I M → ExprTree V I M
+    update : PlaceTree V I M → BinOp → IntKind → ExprTree V I M → ExprTree V I M
+    input_byte : ExprTree V I M
+    output_byte : ExprTree V I M → ExprTree V I M
 
 -- an argument of a call
 pub data ArgTree (V I M : Type 0) : Type 0 where
@@ -64,24 +67,27 @@ abbrev pub owner_tree : Owner → OwnerTree
 owner_tree (Global a) = global_owner a
 owner_tree (Local a n) = local_owner a n
 
-abbrev pub place_tree : Place → NamedPlace
-place_tree (Var owner ctype) = variable (object (owner_tree owner) (type_tree ctype))
+abbrev mutual
+  pub place_tree : Place → NamedPlace
+  place_tree (Var owner ctype) = variable (object (owner_tree owner) (type_tree ctype))
+  place_tree (Index' p a q i) = element_place tt (place_tree a) (expr_tree i)
+  place_tree (Member' p a name) = member_place name (place_tree a)
 
-abbrev pub expr_tree : RExpr → NamedExpr
-expr_tree (Const k v) = constant k v
-expr_tree (Read p) = reading (place_tree p)
-expr_tree (Temp n k) = reading (variable (temporary n k))
-expr_tree (Unary' op k p a) = unary_operation op k (expr_tree a)
-expr_tree (Cast' k p a) = conversion k (expr_tree a)
-expr_tree (Step op p) = stepping op (place_tree p)
-expr_tree (Binary' op k p a q b) = operation op k (expr_tree a) (expr_tree b)
-expr_tree (And' p a q b) = conjunction (expr_tree a) (expr_tree b)
-expr_tree (Or' p a q b) = disjunction (expr_tree a) (expr_tree b)
-expr_tree (Choose' k p c q a r b) = choice k (expr_tree c) (expr_tree a) (expr_tree b)
-expr_tree (Assign' p q e) = assignment (place_tree p) (expr_tree e)
-expr_tree (Update' p op k q e) = update (place_tree p) op k (expr_tree e)
-expr_tree Getchar = input_byte
-expr_tree (Putchar' p e) = output_byte (expr_tree e)
+  pub expr_tree : RExpr → NamedExpr
+  expr_tree (Const k v) = constant k v
+  expr_tree (Read p) = reading (place_tree p)
+  expr_tree (Temp n k) = reading (variable (temporary n k))
+  expr_tree (Unary' op k p a) = unary_operation op k (expr_tree a)
+  expr_tree (Cast' k p a) = conversion k (expr_tree a)
+  expr_tree (Step op p) = stepping op (place_tree p)
+  expr_tree (Binary' op k p a q b) = operation op k (expr_tree a) (expr_tree b)
+  expr_tree (And' p a q b) = conjunction (expr_tree a) (expr_tree b)
+  expr_tree (Or' p a q b) = disjunction (expr_tree a) (expr_tree b)
+  expr_tree (Choose' k p c q a r b) = choice k (expr_tree c) (expr_tree a) (expr_tree b)
+  expr_tree (Assign' p q e) = assignment (place_tree p) (expr_tree e)
+  expr_tree (Update' p op k q e) = update (place_tree p) op k (expr_tree e)
+  expr_tree Getchar = input_byte
+  expr_tree (Putchar' p e) = output_byte (expr_tree e)
 
 abbrev pub arg_tree : RArg → NamedArg
 arg_tree (Value e) = value_argument (expr_tree e)

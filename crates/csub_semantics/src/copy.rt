@@ -85,12 +85,33 @@ fn copy_owner(owner: &Owner) -> Result<Owner, AllocError>
     }
 }
 
-fn copy_place(place: &Place) -> Result<Place, AllocError>
+/// An equal place. An `Err` is want of memory.
+#[cycle(copying)]
+pub fn copy_place(alloc: Global, place: &Place) -> Result<Place, AllocError>
     ensures { IfOk result (λ made. place_tree made ≡ place_tree place.now) }
 {
-    let Place::Var(owner, ctype) = place;
-    let object = copy_owner(owner)?;
-    Ok(Place::Var(object, copy_type(ctype)?))
+    match place {
+        Place::Var(owner, ctype) => {
+            let object = copy_owner(owner)?;
+            Ok(Place::Var(object, copy_type(ctype)?))
+        }
+        Place::Index(array, index) => {
+            let new_array = copy_boxed_place(alloc, array)?;
+            Ok(Place::Index(new_array, copy_boxed(alloc, index)?))
+        }
+        Place::Member(whole, name) => {
+            let new_whole = copy_boxed_place(alloc, whole)?;
+            Ok(Place::Member(new_whole, name.copy()?))
+        }
+    }
+}
+
+#[cycle(copying)]
+fn copy_boxed_place(alloc: Global, place: &Place) -> Result<Box<Place>, AllocError>
+    ensures { IfOk result (λ made. place_tree made.value ≡ place_tree place.now) }
+{
+    let made = copy_place(alloc, place)?;
+    Ok(Box::new(alloc, made)?)
 }
 
 /// An equal expression. An `Err` is want of memory.
@@ -102,15 +123,15 @@ pub fn copy_expr(alloc: Global, expr: &RExpr) -> Result<RExpr, AllocError>
         RExpr::Const(kind, value) => Ok(RExpr::Const(*kind, *value)),
         RExpr::Getchar => Ok(RExpr::Getchar),
         RExpr::Putchar(byte) => Ok(RExpr::Putchar(copy_boxed(alloc, byte)?)),
-        RExpr::Read(place) => Ok(RExpr::Read(copy_place(place)?)),
+        RExpr::Read(place) => Ok(RExpr::Read(copy_place(alloc, place)?)),
         RExpr::Temp(number, kind) => Ok(RExpr::Temp(*number, *kind)),
-        RExpr::Step(op, place) => Ok(RExpr::Step(*op, copy_place(place)?)),
+        RExpr::Step(op, place) => Ok(RExpr::Step(*op, copy_place(alloc, place)?)),
         RExpr::Assign(place, value) => {
-            let target = copy_place(place)?;
+            let target = copy_place(alloc, place)?;
             Ok(RExpr::Assign(target, copy_boxed(alloc, value)?))
         }
         RExpr::Update(place, op, kind, value) => {
-            let target = copy_place(place)?;
+            let target = copy_place(alloc, place)?;
             Ok(RExpr::Update(target, *op, *kind, copy_boxed(alloc, value)?))
         }
         RExpr::Unary(op, kind, operand) => {

@@ -12,11 +12,16 @@ pub enum Owner {
     Local(Text, u32),
 }
 
-/// A place that holds a number (an lvalue, C11 6.3.2.1).
+/// A place (an lvalue, C11 6.3.2.1).
 #[derive(Drop)]
+#[cycle(tree)]
 pub enum Place {
     /// An object, with its declared type.
     Var(Owner, CType),
+    /// An element of an array place, by its index (C11 6.5.2.1).
+    Index(Box<Place>, Box<RExpr>),
+    /// A member of a struct place, by its name (C11 6.5.2.3).
+    Member(Box<Place>, Text),
 }
 
 /// A piece of a `printf` format (C11 7.21.6.1).
@@ -34,6 +39,7 @@ pub enum Piece {
 
 /// An expression whose names, kinds and calls are resolved; user calls have been made before it.
 #[derive(Drop)]
+#[cycle(tree)]
 pub enum RExpr {
     /// A constant: its kind, and a value of that kind.
     Const(IntKind, i64),

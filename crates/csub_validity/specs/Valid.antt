@@ -9,9 +9,10 @@ use Rattle.csub_types.specs.declared.kind.IntKind.{IntKind}
 use Rattle.csub_types.specs.declared.kind.IntKind.TheVariants.{Int}
 use Rattle.csub_types.specs.Kinds.{IsOf, promote, common}
 use Rattle.csub_types.specs.Arithmetic.{unary_kind, binary_kind}
-use Rattle.csub_objects.specs.Types.{Name, TypeTree, MemberTree, number_kind, IsNumber, cells, kinds, IsSized}
+use Rattle.csub_objects.specs.Types.{Name, TypeTree, MemberTree, number_kind, IsNumber, element_type, member_type, cells, kinds, IsSized}
 use Rattle.csub_semantics.specs.Types.{name_eq, GlobalTree}
 use Rattle.csub_semantics.specs.Trees.{NamedPlace, NamedExpr, Variable, NamedArg, value_argument, OwnerTree, global_owner, local_owner, variable}
+use Rattle.csub_semantics.specs.Trees.{element_place, member_place}
 use Rattle.csub_semantics.specs.Trees.{object, temporary, constant, reading, unary_operation, conversion, stepping, operation, conjunction}
 use Rattle.csub_semantics.specs.Trees.{disjunction, choice, assignment, update, input_byte, output_byte}
 use Rattle.csub_semantics.specs.Labels.{LabelTree, evaluates, initialises, branches, returns, calls, AnswerTree, CallTree, InitTree, one_value}
@@ -30,13 +31,38 @@ operation_kind Shl a b = promote a
 operation_kind Shr a b = promote a
 operation_kind op a b = common a b
 
--- the type of a place
-abbrev pub place_type : NamedPlace → TypeTree
-place_type (variable v) = type_of v
+-- the type of a place: an array alone has elements (C11 6.5.2.1p1), and a struct alone members (6.5.2.3p1)
+abbrev pub place_type : NamedPlace → Option TypeTree
+place_type (variable v) = Some (type_of v)
+place_type (element_place u p e) = option_and_then element_type (place_type p)
+place_type (member_place a p) = option_and_then (member_type a) (place_type p)
 
 -- the kind of the number in a place
+abbrev pub kind_at : Option TypeTree → IntKind
+kind_at None = Int
+kind_at (Some t) = number_kind t
+
 abbrev pub place_kind : NamedPlace → IntKind
-place_kind p = number_kind (place_type p)
+place_kind p = kind_at (place_type p)
+
+-- a place of a number
+abbrev pub IsNumberAt : Option TypeTree → Type 0
+IsNumberAt None = ⊥
+IsNumberAt (Some t) = IsNumber t
+
+abbrev pub IsNumberPlace : NamedPlace → Type 0
+IsNumberPlace p = IsNumberAt (place_type p)
+
+-- whether a place is in an object, which the result of a call isn't
+abbrev pub in_object : NamedPlace → Bool
+in_object (variable (object owner t)) = true
+in_object (variable (temporary n kind)) = false
+in_object (element_place u p e) = in_object p
+in_object (member_place a p) = in_object p
+
+-- a place that may be written: that of a number in an object (a modifiable lvalue, C11 6.3.2.1p1)
+abbrev pub IsModifiable : NamedPlace → Type 0
+IsModifiable p = IsTrue (in_object p) × IsNumberPlace p
 
 abbrev pub kind_of : NamedExpr → IntKind
 kind_of (constant k v) = k
@@ -94,42 +120,37 @@ IsObject globals objects (local_owner a n) t = type_in objects a n ≡ Some t
 abbrev pub result_of : List (Option IntKind) → ℕ → Option IntKind
 result_of results n = option_and_then (λ r. r) (slice_get (None ∷ results) n)
 
--- a place that the k-th stage of a part may name: an object, or the result of an earlier call
-abbrev pub IsPlace : Scope → ℕ → NamedPlace → Type 0
-IsPlace sc k (variable (object owner t)) = IsObject sc.globals sc.objects owner t
-IsPlace sc k (variable (temporary n kind)) = (n < k) × (result_of sc.results n ≡ Some kind)
+-- what the k-th stage of a part may name: an object, or the result of an earlier call
+abbrev pub IsVariable : Scope → ℕ → Variable → Type 0
+IsVariable sc k (object owner t) = IsObject sc.globals sc.objects owner t
+IsVariable sc k (temporary n kind) = (n < k) × (result_of sc.results n ≡ Some kind)
 
--- a place that is read: that of a number (C11 6.3.2.1p2)
-abbrev pub IsRead : Scope → ℕ → NamedPlace → Type 0
-IsRead sc k p = IsPlace sc k p × IsNumber (place_type p)
-
--- a place of an object, which no result of a call is
-abbrev pub IsOfObject : Scope → NamedPlace → Type 0
-IsOfObject sc (variable (object owner t)) = IsObject sc.globals sc.objects owner t
-IsOfObject sc (variable (temporary n kind)) = ⊥
-
--- a place that is written: that of a number in an object (a modifiable lvalue, C11 6.3.2.1p1)
-abbrev pub IsTarget : Scope → NamedPlace → Type 0
-IsTarget sc p = IsOfObject sc p × IsNumber (place_type p)
-
--- an expression at the k-th stage of a part: every constant is a number of its kind, and every operation has the kind
--- that its operator and operands state: a unary one the promoted kind of its operand (C11 6.5.3.3), `?:` the common kind
--- of its later operands (6.5.15p5), and a compound assignment that of its operation (6.5.16.2p3)
 module _ (sc : Scope) (number : ℕ) where
-  abbrev pub IsExpr : NamedExpr → Type 0
-  IsExpr (constant k v) = IsOf k v
-  IsExpr (reading p) = IsRead sc number p
-  IsExpr (unary_operation op k a) = (k ≡ promote (kind_of a)) × IsExpr a
-  IsExpr (conversion k a) = IsExpr a
-  IsExpr (stepping op p) = IsTarget sc p
-  IsExpr (operation op k a b) = (k ≡ operation_kind op (kind_of a) (kind_of b)) × IsExpr a × IsExpr b
-  IsExpr (conjunction a b) = IsExpr a × IsExpr b
-  IsExpr (disjunction a b) = IsExpr a × IsExpr b
-  IsExpr (choice k c a b) = (k ≡ common (kind_of a) (kind_of b)) × IsExpr c × IsExpr a × IsExpr b
-  IsExpr (assignment p e) = IsTarget sc p × IsExpr e
-  IsExpr (update p op k e) = (k ≡ operation_kind op (place_kind p) (kind_of e)) × IsTarget sc p × IsExpr e
-  IsExpr input_byte = Unit {0}
-  IsExpr (output_byte e) = IsExpr e
+  abbrev mutual
+    -- a place at the k-th stage of a part: its indices are expressions
+    pub IsPlace : NamedPlace → Type 0
+    IsPlace (variable v) = IsVariable sc number v
+    IsPlace (element_place u p e) = IsPlace p × IsExpr e
+    IsPlace (member_place a p) = IsPlace p
+
+    -- An expression at the k-th stage of a part. What is read is a number (C11 6.3.2.1p2), what is written a modifiable
+    -- one, and every constant a number of its kind. Every operation has the kind that its operator and operands state: a
+    -- unary one the promoted kind of its operand (6.5.3.3), `?:` the common kind of its later operands (6.5.15p5), and a
+    -- compound assignment that of its operation (6.5.16.2p3)
+    pub IsExpr : NamedExpr → Type 0
+    IsExpr (constant k v) = IsOf k v
+    IsExpr (reading p) = IsNumberPlace p × IsPlace p
+    IsExpr (unary_operation op k a) = (k ≡ promote (kind_of a)) × IsExpr a
+    IsExpr (conversion k a) = IsExpr a
+    IsExpr (stepping op p) = IsModifiable p × IsPlace p
+    IsExpr (operation op k a b) = (k ≡ operation_kind op (kind_of a) (kind_of b)) × IsExpr a × IsExpr b
+    IsExpr (conjunction a b) = IsExpr a × IsExpr b
+    IsExpr (disjunction a b) = IsExpr a × IsExpr b
+    IsExpr (choice k c a b) = (k ≡ common (kind_of a) (kind_of b)) × IsExpr c × IsExpr a × IsExpr b
+    IsExpr (assignment p e) = IsModifiable p × IsPlace p × IsExpr e
+    IsExpr (update p op k e) = (k ≡ operation_kind op (place_kind p) (kind_of e)) × IsModifiable p × IsPlace p × IsExpr e
+    IsExpr input_byte = Unit {0}
+    IsExpr (output_byte e) = IsExpr e
 
   -- an argument fits its parameter: a number goes to a number (C11 6.5.2.2p2)
   abbrev pub IsArg : MemberTree → NamedArg → Type 0

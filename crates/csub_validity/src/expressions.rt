@@ -1,17 +1,17 @@
 //! Whether expressions have the kinds that C states, and name what is declared.
 ghost use Rattle.std.specs.Prelude.{◌≡◌, ◌↔◌, IsTrue, map};
 ghost use Rattle.csub_types.specs.Kinds.{IsOf, promote, common};
-ghost use Rattle.csub_semantics.specs.Trees.{place_tree, expr_tree, variable, temporary};
+ghost use Rattle.csub_semantics.specs.Trees.{place_tree, expr_tree, temporary};
 ghost use Rattle.csub_semantics.specs.Syntax.{part_tree};
 ghost use Rattle.csub_types.specs.Arithmetic.{unary_kind, binary_kind};
-ghost use Rattle.csub_validity.specs.Valid.{IsExpr, IsRead, IsTarget, result_of, stage_result, place_kind, kind_of, operation_kind};
+ghost use Rattle.csub_validity.specs.Valid.{IsExpr, IsPlace, IsVariable, result_of, stage_result, place_kind, kind_of, operation_kind};
 ghost use Rattle.std.specs.Option.{option_map};
 ghost use Rattle.csub_semantics.specs.Labels.{label_tree};
 ghost use Rattle.csub_validity.specs.Checks.{scope_at, own_result};
 
 use crate::objects::is_object;
+use crate::places::{is_number_place, place_kind};
 use crate::role::Site;
-use csub_objects::{is_number, number_kind};
 use csub_semantics::{Function, Label, Place, RExpr, RPart};
 use csub_text::{BinOp, UnaryOp};
 use csub_types::{IntKind, common, convert, promote};
@@ -22,14 +22,15 @@ use csub_types::{IntKind, common, convert, promote};
 ///
 /// This takes a pass over the expression, with a comparison of names for each use of an object and object of the
 /// function. It takes no memory.
+#[cycle(expressions)]
 pub fn is_expr(site: Site<'_>, expr: &RExpr) -> bool
     ensures { IsTrue result ↔ IsExpr (scope_at site.entry) site.entry.number (expr_tree expr.now) }
 {
     match expr {
         RExpr::Const(kind, value) => is_of(*kind, *value),
-        RExpr::Read(place) => is_number_place(site, place),
+        RExpr::Read(place) => is_number_place(place) && is_place(site, place),
         RExpr::Temp(temp, kind) => is_temp(site, *temp, *kind),
-        RExpr::Step(_, place) => is_number_place(site, place),
+        RExpr::Step(_, place) => is_number_place(place) && is_place(site, place),
         RExpr::Getchar => true,
         RExpr::Putchar(byte) => is_expr(site, byte),
         RExpr::Unary(_, kind, operand) => {
@@ -47,12 +48,28 @@ pub fn is_expr(site: Site<'_>, expr: &RExpr) -> bool
                 && is_expr(site, left)
                 && is_expr(site, right)
         }
-        RExpr::Assign(place, value) => is_number_place(site, place) && is_expr(site, value),
+        RExpr::Assign(place, value) => {
+            is_number_place(place) && is_place(site, place) && is_expr(site, value)
+        }
         RExpr::Update(place, op, kind, value) => {
             is_update(*op, *kind, place, value)
-                && is_number_place(site, place)
+                && is_number_place(place)
+                && is_place(site, place)
                 && is_expr(site, value)
         }
+    }
+}
+
+/// Whether a place is in an object of the function or of file scope, with the type that it is declared with, and its
+/// indices are valid expressions.
+#[cycle(expressions)]
+fn is_place(site: Site<'_>, place: &Place) -> bool
+    ensures { IsTrue result ↔ IsPlace (scope_at site.entry) site.entry.number (place_tree place.now) }
+{
+    match place {
+        Place::Var(owner, ctype) => is_object(site, owner, ctype),
+        Place::Index(array, index) => is_place(site, array) && is_expr(site, index),
+        Place::Member(whole, _) => is_place(site, whole),
     }
 }
 
@@ -99,14 +116,6 @@ fn kind_of(expr: &RExpr) -> IntKind
     }
 }
 
-/// The kind of the number in a place.
-fn place_kind(place: &Place) -> IntKind
-    ensures { result ≡ place_kind (place_tree place.now) }
-{
-    let Place::Var(_, ctype) = place;
-    number_kind(ctype)
-}
-
 /// The kind of a unary operator's result (C11 6.5.3.3p5 for `!`).
 fn unary_kind(op: UnaryOp, kind: IntKind) -> IntKind
     ensures { result ≡ unary_kind op kind }
@@ -142,18 +151,9 @@ fn operation_kind(op: BinOp, left: IntKind, right: IntKind) -> IntKind
     }
 }
 
-/// Whether a place is an object of a function or of file scope, with the type that it is declared with, and a number.
-fn is_number_place(site: Site<'_>, place: &Place) -> bool
-    ensures read { IsTrue result ↔ IsRead (scope_at site.entry) site.entry.number (place_tree place.now) }
-    ensures written { IsTrue result ↔ IsTarget (scope_at site.entry) (place_tree place.now) }
-{
-    let Place::Var(owner, ctype) = place;
-    is_object(site, owner, ctype) && is_number(ctype)
-}
-
 /// Whether a temporary holds the result of an earlier stage than the `number`-th of a part.
 fn is_temp(site: Site<'_>, temp: u32, kind: IntKind) -> bool
-    ensures { IsTrue result ↔ IsRead (scope_at site.entry) site.entry.number (variable (temporary temp kind)) }
+    ensures { IsTrue result ↔ IsVariable (scope_at site.entry) site.entry.number (temporary temp kind) }
 {
     (temp as usize) < site.number && stage_result(site.part, temp) == Some(kind)
 }

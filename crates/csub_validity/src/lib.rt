@@ -5,12 +5,14 @@
 //!
 //! What is promised of the code: [`expressions`] says exactly which expressions are valid, [`objects`] exactly which
 //! objects a function has, and whether they differ, [`calls`] exactly which calls fit their callees, and [`contents`]
-//! exactly which numbers an object of a type may begin with. [`role`] has the types of what these decisions, and those above, are asked of. Proofs above cite `proofs/LawsLists`: lists of code
-//! values, read as the lists of what they stand for.
+//! exactly which numbers an object of a type may begin with; [`places`] gives the types of places. [`role`] has the types
+//! of what these decisions, and those above, are asked of. Proofs above cite `proofs/LawsLists`: lists of code values, read
+//! as the lists of what they stand for.
 #![tactic(auto)]
 
 pub mod calls;
 pub mod contents;
 pub mod expressions;
 pub mod objects;
+pub mod places;
 pub mod role;

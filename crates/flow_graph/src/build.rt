@@ -1,6 +1,9 @@
 //! The points of a program, and its objects of file scope.
-ghost use Rattle.std.specs.Prelude.{◌≡◌, ◌<◌, ◌+◌, ◌^◌, ◌++◌, IfOk, length, map};
+ghost use Rattle.std.specs.Prelude.{◌≡◌, ◌<◌, ◌+◌, ◌^◌, ◌++◌, IfOk, [], ◌∷◌, length, map};
 ghost use Rattle.csub_semantics.specs.Types.{global_tree};
+ghost use Rattle.csub_semantics.specs.Labels.{enters, exits};
+ghost use Rattle.csub_semantics.specs.Points.{entry, exit, next};
+ghost use Rattle.csub_semantics.specs.Successors.{way};
 ghost use Rattle.csub_semantics.specs.Flows.{end_rule as end_rule'};
 ghost use Rattle.csub_semantics.specs.Syntax.{function_tree};
 ghost use Rattle.flow_graph.specs.Numbers.{numbered_node, numbered_point, numbered_function, of_function, count_function, count_program, function_numbered, program_numbered, functions_numbered};
@@ -8,7 +11,9 @@ ghost use Rattle.flow_graph.specs.Numbers.{numbered_node, numbered_point, number
 use crate::count::count_all;
 use crate::emit::{Onward, emit_list};
 use crate::node::{GraphFunction, GraphNode, GraphPoint, one_way};
-use csub_semantics::{EndRule, Function, GlobalVar, IntKind, Label, Point, Text, copy_global};
+use csub_semantics::{
+    EndRule, Function, GlobalVar, IntKind, Label, Point, Span, Text, copy_global,
+};
 use std::alloc::{AllocError, Global};
 
 /// The functions and the points of a program, each by its number.
@@ -36,6 +41,39 @@ fn end_rule(name: &Text, result_kind: Option<IntKind>) -> EndRule
     }
 }
 
+/// The exit of a function, which leads nowhere.
+fn exit_alone(alloc: Global, function: &Function) -> Result<Vec<GraphNode>, AllocError>
+    ensures { IfOk result (λ made. map numbered_node made.items ≡ record { point = exit; label = exits (end_rule' function.now.name function.now.result); span = function.now.span; ways = [] } ∷ []) }
+{
+    let mut nodes = Vec::new(alloc);
+    nodes.push(GraphNode {
+        point: Point::Exit,
+        label: Label::Exit(end_rule(&function.name, function.result)),
+        span: function.span,
+        ways: Vec::new(alloc),
+    })?;
+    Ok(nodes)
+}
+
+/// Appends the entry of a function, which leads to the point with the number `enter`.
+fn push_entry(
+    alloc: Global,
+    span: Span,
+    enter: u32,
+    nodes: &mut Vec<GraphNode>,
+) -> Result<(), AllocError>
+    ensures { IfOk result (λ _. map numbered_node nodes.new.items ≡ map numbered_node nodes.old.items ++ record { point = entry; label = enters; span = span; ways = way next enter ∷ [] } ∷ []) }
+{
+    let ways = one_way(alloc, enter)?;
+    nodes.push(GraphNode {
+        point: Point::Entry,
+        label: Label::Entry,
+        span,
+        ways,
+    })?;
+    Ok(())
+}
+
 /// The points of a function, its entry having the number `start`.
 fn list_function(
     alloc: Global,
@@ -47,13 +85,7 @@ fn list_function(
 {
     let body = function.body.as_slice();
     let exit = start + 1 + count_all(body);
-    let mut nodes = Vec::new(alloc);
-    nodes.push(GraphNode {
-        point: Point::Exit,
-        label: Label::Exit(end_rule(&function.name, function.result)),
-        span: function.span,
-        ways: Vec::new(alloc),
-    })?;
+    let mut nodes = exit_alone(alloc, function)?;
     let onward = Onward {
         leave: exit,
         returned: exit,
@@ -62,12 +94,7 @@ fn list_function(
     };
     let path = Vec::new(alloc);
     let begin = emit_list(alloc, body, path.as_slice(), exit, onward, &mut nodes)?;
-    nodes.push(GraphNode {
-        point: Point::Entry,
-        label: Label::Entry,
-        span: function.span,
-        ways: one_way(alloc, begin.enter)?,
-    })?;
+    push_entry(alloc, function.span, begin.enter, &mut nodes)?;
     nodes.reverse();
     Ok(nodes)
 }

@@ -15,7 +15,7 @@ use Rattle.csub_semantics.specs.declared.label.EndRule.TheVariants.{Nothing, Val
 use Rattle.csub_objects.specs.Types.{Name, TypeTree, type_eq, MemberTree}
 use Rattle.csub_objects.proofs.LawsTypes.{type_eq-Decides}
 use Rattle.csub_semantics.specs.Types.{GlobalTree}
-use Rattle.csub_semantics.specs.Trees.{NamedPlace, NamedExpr, NamedArg, variable, constant, reading, unary_operation, conversion, stepping, operation, conjunction, disjunction, choice, assignment, update, input_byte, output_byte, value_argument, OwnerTree, global_owner, local_owner, Variable, object, temporary}
+use Rattle.csub_semantics.specs.Trees.{NamedPlace, NamedExpr, NamedArg, variable, element_place, member_place, constant, reading, unary_operation, conversion, stepping, operation, conjunction, disjunction, choice, assignment, update, input_byte, output_byte, value_argument, OwnerTree, global_owner, local_owner, Variable, object, temporary}
 use Rattle.csub_semantics.specs.Labels.{LabelTree, enters, exits, evaluates, initialises, branches, returns, calls, AnswerTree, CallTree, InitTree, one_value, PointLabel}
 use Rattle.program_laws.specs.Decided.{Decided}
 
@@ -158,36 +158,42 @@ variables (object o t) _ = inr (λ e. cc)
 variables (temporary m k) (temporary n j) = two temporary m n k j (λ e. (cc, cc)) (cases_eq m n) (kinds k j)
 variables (temporary m k) _ = inr (λ e. cc)
 
-places : (a b : NamedPlace) → Decided a b
-places (variable v) (variable w) = one variable v w (λ e. cc) (variables v w)
+mutual
+  places : (a b : NamedPlace) → Decided a b
+  places (variable v) (variable w) = one variable v w (λ e. cc) (variables v w)
+  places (variable v) _ = inr (λ e. cc)
+  places (element_place u p a) (element_place w q b) = two (element_place u) p q a b (λ e. (cc, cc)) (places p q) (exprs a b)
+  places (element_place u p a) _ = inr (λ e. cc)
+  places (member_place a p) (member_place b q) = two member_place a b p q (λ e. (cc, cc)) (names a b) (places p q)
+  places (member_place a p) _ = inr (λ e. cc)
 
-pub exprs : (a b : NamedExpr) → Decided a b
-exprs (constant k v) (constant j w) = two constant k j v w (λ e. (cc, cc)) (kinds k j) (integers v w)
-exprs (constant k v) _ = inr (λ e. cc)
-exprs (reading p) (reading q) = one reading p q (λ e. cc) (places p q)
-exprs (reading p) _ = inr (λ e. cc)
-exprs (unary_operation o k a) (unary_operation u j b) = three unary_operation o u k j a b (λ e. (cc, cc, cc)) (unary_operators o u) (kinds k j) (exprs a b)
-exprs (unary_operation o k a) _ = inr (λ e. cc)
-exprs (conversion k a) (conversion j b) = two conversion k j a b (λ e. (cc, cc)) (kinds k j) (exprs a b)
-exprs (conversion k a) _ = inr (λ e. cc)
-exprs (stepping o p) (stepping u q) = two stepping o u p q (λ e. (cc, cc)) (step_operators o u) (places p q)
-exprs (stepping o p) _ = inr (λ e. cc)
-exprs (operation o k a b) (operation u j c d) = four operation o u k j a c b d (λ e. (cc, cc, cc, cc)) (operators o u) (kinds k j) (exprs a c) (exprs b d)
-exprs (operation o k a b) _ = inr (λ e. cc)
-exprs (conjunction a b) (conjunction c d) = two conjunction a c b d (λ e. (cc, cc)) (exprs a c) (exprs b d)
-exprs (conjunction a b) _ = inr (λ e. cc)
-exprs (disjunction a b) (disjunction c d) = two disjunction a c b d (λ e. (cc, cc)) (exprs a c) (exprs b d)
-exprs (disjunction a b) _ = inr (λ e. cc)
-exprs (choice k x a b) (choice j y c d) = four choice k j x y a c b d (λ e. (cc, cc, cc, cc)) (kinds k j) (exprs x y) (exprs a c) (exprs b d)
-exprs (choice k x a b) _ = inr (λ e. cc)
-exprs (assignment p a) (assignment q b) = two assignment p q a b (λ e. (cc, cc)) (places p q) (exprs a b)
-exprs (assignment p a) _ = inr (λ e. cc)
-exprs (update p o k a) (update q u j b) = four update p q o u k j a b (λ e. (cc, cc, cc, cc)) (places p q) (operators o u) (kinds k j) (exprs a b)
-exprs (update p o k a) _ = inr (λ e. cc)
-exprs input_byte input_byte = inl refl
-exprs input_byte _ = inr (λ e. cc)
-exprs (output_byte a) (output_byte b) = one output_byte a b (λ e. cc) (exprs a b)
-exprs (output_byte a) _ = inr (λ e. cc)
+  pub exprs : (a b : NamedExpr) → Decided a b
+  exprs (constant k v) (constant j w) = two constant k j v w (λ e. (cc, cc)) (kinds k j) (integers v w)
+  exprs (constant k v) _ = inr (λ e. cc)
+  exprs (reading p) (reading q) = one reading p q (λ e. cc) (places p q)
+  exprs (reading p) _ = inr (λ e. cc)
+  exprs (unary_operation o k a) (unary_operation u j b) = three unary_operation o u k j a b (λ e. (cc, cc, cc)) (unary_operators o u) (kinds k j) (exprs a b)
+  exprs (unary_operation o k a) _ = inr (λ e. cc)
+  exprs (conversion k a) (conversion j b) = two conversion k j a b (λ e. (cc, cc)) (kinds k j) (exprs a b)
+  exprs (conversion k a) _ = inr (λ e. cc)
+  exprs (stepping o p) (stepping u q) = two stepping o u p q (λ e. (cc, cc)) (step_operators o u) (places p q)
+  exprs (stepping o p) _ = inr (λ e. cc)
+  exprs (operation o k a b) (operation u j c d) = four operation o u k j a c b d (λ e. (cc, cc, cc, cc)) (operators o u) (kinds k j) (exprs a c) (exprs b d)
+  exprs (operation o k a b) _ = inr (λ e. cc)
+  exprs (conjunction a b) (conjunction c d) = two conjunction a c b d (λ e. (cc, cc)) (exprs a c) (exprs b d)
+  exprs (conjunction a b) _ = inr (λ e. cc)
+  exprs (disjunction a b) (disjunction c d) = two disjunction a c b d (λ e. (cc, cc)) (exprs a c) (exprs b d)
+  exprs (disjunction a b) _ = inr (λ e. cc)
+  exprs (choice k x a b) (choice j y c d) = four choice k j x y a c b d (λ e. (cc, cc, cc, cc)) (kinds k j) (exprs x y) (exprs a c) (exprs b d)
+  exprs (choice k x a b) _ = inr (λ e. cc)
+  exprs (assignment p a) (assignment q b) = two assignment p q a b (λ e. (cc, cc)) (places p q) (exprs a b)
+  exprs (assignment p a) _ = inr (λ e. cc)
+  exprs (update p o k a) (update q u j b) = four update p q o u k j a b (λ e. (cc, cc, cc, cc)) (places p q) (operators o u) (kinds k j) (exprs a b)
+  exprs (update p o k a) _ = inr (λ e. cc)
+  exprs input_byte input_byte = inl refl
+  exprs input_byte _ = inr (λ e. cc)
+  exprs (output_byte a) (output_byte b) = one output_byte a b (λ e. cc) (exprs a b)
+  exprs (output_byte a) _ = inr (λ e. cc)
 
 arguments : (a b : NamedArg) → Decided a b
 arguments (value_argument a) (value_argument b) = one value_argument a b (λ e. cc) (exprs a b)

@@ -11,12 +11,12 @@ use Rattle.csub_semantics.specs.declared.label.EndRule.{EndRule}
 use Rattle.csub_semantics.specs.declared.label.EndRule.TheVariants.{Nothing, Value, Main, Start}
 use Rattle.csub_semantics.specs.declared.status.Status.TheVariants.{Trap, Turns}
 use Rattle.csub_objects.specs.Types.{Name, MemberTree}
-use Rattle.csub_semantics.specs.Trees.{NamedPlace, NamedExpr, NamedArg, constant, reading, variable, object, temporary, unary_operation, conversion, stepping, operation, conjunction, disjunction, choice, assignment, update, input_byte, output_byte, value_argument}
+use Rattle.csub_semantics.specs.Trees.{NamedPlace, NamedExpr, NamedArg, constant, reading, variable, element_place, member_place, object, temporary, unary_operation, conversion, stepping, operation, conjunction, disjunction, choice, assignment, update, input_byte, output_byte, value_argument}
 use Rattle.csub_semantics.specs.Labels.{LabelTree, enters, exits, evaluates, initialises, branches, returns, calls, one_value, CallTree, call_of, PointLabel}
 use Rattle.csub_semantics.specs.Points.{PointTree, ExitTree, next}
 use Rattle.csub_semantics.specs.Flows.{Flow, Edge}
 use Rattle.csub_semantics.specs.Memory.{Answer, value, trapped, then_do, given, found, get_byte, put_byte, low_byte, most_output}
-use Rattle.csub_semantics.specs.Evaluation.{computed, fetch, step_by, step_value, locate, store, step, eval}
+use Rattle.csub_semantics.specs.Evaluation.{computed, fetch, step_by, step_value, is_index, indexed, locate, store, step, eval}
 use Rattle.csub_semantics.specs.Cells.{Spot, named, entered}
 use Rattle.csub_semantics.specs.Acts.{Store, Outcome, leaves, gives, pushes, pops, ends, after_value, argument_content, argument_contents, most_frames, act_exit, act}
 use Rattle.csub_semantics.specs.Runs.{Frame, Turn, goes, stops, lost, cross, put_result, come_back, come_back_to, pop, follow, turn_at, turn_of, turn, Moment, running, ended, nowhere, after_turn, go_on, after, results_at, Results}
@@ -64,9 +64,6 @@ short_given (Err t) s short = short
 short_fetch : (h : ℕ) (l : Spot) (s : Store) → IsShort s → LeavesShort (fetch (named h) l s)
 short_fetch h l s short = short_then (found ((named h).read l s.cells) s) _ (short_found ((named h).read l s.cells) s short) (λ v t below. below)
 
-short_locate : (h : ℕ) (p : NamedPlace) (s : Store) → IsShort s → LeavesShort (locate (named h) p s)
-short_locate h (variable v) s short = short_found ((named h).stand v s.cells) s short
-
 short_store : (h : ℕ) (l : Spot) (v : ℤ) (s : Store) → IsShort s → LeavesShort (store (named h) l v s)
 short_store h l v s short = short
 
@@ -80,37 +77,48 @@ short_input : (s : Store) (left : List ℕ) → IsShort s → LeavesShort (get_b
 short_input s [] short = short
 short_input s (b ∷ rest) short = short
 
-short_eval : (h : ℕ) (e : NamedExpr) (s : Store) → IsShort s → LeavesShort (eval (named h) e s)
-short_eval h (constant k v) s short = short
-short_eval h (reading p) s short = short_then (locate (named h) p s) _ (short_locate h p s short) (short_fetch h)
-short_eval h (unary_operation op k a) s short = short_then (eval (named h) a s) _ (short_eval h a s short) (λ v t below. short_given _ t below)
-short_eval h (conversion k a) s short = short_then (eval (named h) a s) _ (short_eval h a s short) (λ v t below. below)
-short_eval h (stepping op p) s short = short_then (locate (named h) p s) _ (short_locate h p s short) (short_step h op)
-short_eval h (operation op k a b) s short =
-    short_then (eval (named h) a s) _ (short_eval h a s short)
-    (λ v t below. short_then (eval (named h) b t) _ (short_eval h b t below) (λ w u under. short_given _ u under))
-short_eval h (conjunction a b) s short =
-    short_then (eval (named h) a s) _ (short_eval h a s short)
-    (λ v t below. short_if (int_eq v (pos 0)) _ _ below (short_then (eval (named h) b t) _ (short_eval h b t below) (λ w u under. under)))
-short_eval h (disjunction a b) s short =
-    short_then (eval (named h) a s) _ (short_eval h a s short)
-    (λ v t below. short_if (int_eq v (pos 0)) _ _ (short_then (eval (named h) b t) _ (short_eval h b t below) (λ w u under. under)) below)
-short_eval h (choice k c a b) s short =
-    short_then (eval (named h) c s) _ (short_eval h c s short)
-    (λ v t below.
-    short_then (if int_eq v (pos 0) then eval (named h) b t else eval (named h) a t) _
-    (short_if (int_eq v (pos 0)) _ _ (short_eval h b t below) (short_eval h a t below)) (λ w u under. under))
-short_eval h (assignment p e) s short =
-    short_then (locate (named h) p s) _ (short_locate h p s short)
-    (λ l t below. short_then (eval (named h) e t) _ (short_eval h e t below) (short_store h l))
-short_eval h (update p op k e) s short =
-    short_then (locate (named h) p s) _ (short_locate h p s short)
-    (λ l t below. short_then (fetch (named h) l t) _ (short_fetch h l t below)
-    (λ v u under. short_then (eval (named h) e u) _ (short_eval h e u under)
-    (λ w x deep. short_then (computed op k v w x) _ (short_given _ x deep) (short_store h l))))
-short_eval h input_byte s short = short_input s s.input short
-short_eval h (output_byte e) s short =
-    short_then (eval (named h) e s) _ (short_eval h e s short) (λ v t below. short_then (put_byte (low_byte v) t) _ (short_put (low_byte v) t (below_256 v) below) (λ x u under. under))
+short_indexed : (h : ℕ) (u : Unit {0}) (l : Spot) (v : ℤ) (s : Store) → IsShort s → LeavesShort (indexed (named h) u l v s)
+short_indexed h u l v s short = short_if (is_index v ((named h).bound l)) _ _ short short
+
+mutual
+  short_locate : (h : ℕ) (p : NamedPlace) (s : Store) → IsShort s → LeavesShort (locate (named h) p s)
+  short_locate h (variable v) s short = short_found ((named h).stand v s.cells) s short
+  short_locate h (element_place u p e) s short =
+      short_then (locate (named h) p s) _ (short_locate h p s short)
+      (λ l t below. short_then (eval (named h) e t) _ (short_eval h e t below) (short_indexed h u l))
+  short_locate h (member_place a p) s short = short_then (locate (named h) p s) _ (short_locate h p s short) (λ l t below. below)
+
+  short_eval : (h : ℕ) (e : NamedExpr) (s : Store) → IsShort s → LeavesShort (eval (named h) e s)
+  short_eval h (constant k v) s short = short
+  short_eval h (reading p) s short = short_then (locate (named h) p s) _ (short_locate h p s short) (short_fetch h)
+  short_eval h (unary_operation op k a) s short = short_then (eval (named h) a s) _ (short_eval h a s short) (λ v t below. short_given _ t below)
+  short_eval h (conversion k a) s short = short_then (eval (named h) a s) _ (short_eval h a s short) (λ v t below. below)
+  short_eval h (stepping op p) s short = short_then (locate (named h) p s) _ (short_locate h p s short) (short_step h op)
+  short_eval h (operation op k a b) s short =
+      short_then (eval (named h) a s) _ (short_eval h a s short)
+      (λ v t below. short_then (eval (named h) b t) _ (short_eval h b t below) (λ w u under. short_given _ u under))
+  short_eval h (conjunction a b) s short =
+      short_then (eval (named h) a s) _ (short_eval h a s short)
+      (λ v t below. short_if (int_eq v (pos 0)) _ _ below (short_then (eval (named h) b t) _ (short_eval h b t below) (λ w u under. under)))
+  short_eval h (disjunction a b) s short =
+      short_then (eval (named h) a s) _ (short_eval h a s short)
+      (λ v t below. short_if (int_eq v (pos 0)) _ _ (short_then (eval (named h) b t) _ (short_eval h b t below) (λ w u under. under)) below)
+  short_eval h (choice k c a b) s short =
+      short_then (eval (named h) c s) _ (short_eval h c s short)
+      (λ v t below.
+      short_then (if int_eq v (pos 0) then eval (named h) b t else eval (named h) a t) _
+      (short_if (int_eq v (pos 0)) _ _ (short_eval h b t below) (short_eval h a t below)) (λ w u under. under))
+  short_eval h (assignment p e) s short =
+      short_then (locate (named h) p s) _ (short_locate h p s short)
+      (λ l t below. short_then (eval (named h) e t) _ (short_eval h e t below) (short_store h l))
+  short_eval h (update p op k e) s short =
+      short_then (locate (named h) p s) _ (short_locate h p s short)
+      (λ l t below. short_then (fetch (named h) l t) _ (short_fetch h l t below)
+      (λ v u under. short_then (eval (named h) e u) _ (short_eval h e u under)
+      (λ w x deep. short_then (computed op k v w x) _ (short_given _ x deep) (short_store h l))))
+  short_eval h input_byte s short = short_input s s.input short
+  short_eval h (output_byte e) s short =
+      short_then (eval (named h) e s) _ (short_eval h e s short) (λ v t below. short_then (put_byte (low_byte v) t) _ (short_put (low_byte v) t (below_256 v) below) (λ x u under. under))
 
 -- what an act leaves; a run ends with a status that is a byte
 abbrev EndsShort : Outcome → Type 0

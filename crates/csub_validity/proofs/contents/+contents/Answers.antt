@@ -1,6 +1,6 @@
-use Rattle.std.proofs.Common.{ℕ, ◌<◌, ◌≤◌, ◌*◌, ◌+◌, map, arith, ap, subst, option_map}
+use Rattle.std.proofs.Common.{map, arith, ap, subst, option_map}
 use Rattle.std.specs.List.{repeat}
-use Rattle.csub_objects.specs.Codes.{type_size, members_size}
+use Rattle.csub_objects.specs.Codes.{type_size}
 use Rattle.csub_objects.specs.Meaning.{type_tree, member_tree}
 use Rattle.csub_objects.specs.Types.{kinds, member_kinds, members_of}
 use Rattle.csub_objects.proofs.LawsMembers.{member_falls}

@@ -1,15 +1,11 @@
 use Rattle.std.proofs.Common.{◌≡◌, ◌∙◌, ◌++◌, ◌∷◌, List, [], ℕ, ◌+◌, ap, map, reverse, arith}
-use Rattle.std.proofs.lemmas.List.{map-append}
 use Rattle.csub_semantics.specs.declared.function.RStmt.{RStmt}
-use Rattle.csub_semantics.specs.declared.label.EndRule.{EndRule}
 use Rattle.csub_semantics.specs.Labels.{enters, exits}
 use Rattle.csub_semantics.specs.Points.{entry, exit, next}
 use Rattle.csub_semantics.specs.Syntax.{stmt_tree, stmts_of, function_tree}
 use Rattle.csub_semantics.specs.Successors.{Way, way}
 use Rattle.csub_semantics.specs.Flows.{end_rule}
-use Rattle.flow_graph.specs.declared.node.GraphNode.{GraphNode}
-use Rattle.flow_graph.specs.declared.node.GraphWay.{GraphWay}
-use Rattle.flow_graph.specs.Numbers.{Numbered, numbered_node, numbered_way, count_list, enter_list, list_numbered, exit_number, all_to}
+use Rattle.flow_graph.specs.Numbers.{Numbered, numbered_node, count_list, enter_list, list_numbered, exit_number, all_to}
 use Rattle.flow_graph.proofs.Listed.{turned_round}
 use Rattle.flow_graph.proofs.build.list_function.Goals as goal
 
@@ -28,25 +24,17 @@ returns c =
     let is_last : last ≡ exit_number tree start = ap (λ n. start + 1 + n) (counted ∙ ap (λ b. count_list (stmts_of (map stmt_tree b))) value) in
     let is_path : c.as_slice.result.now ≡ [] = c.as_slice.ensures.value ∙ c.new-path.ensures.items in
     let lines = λ (b : List RStmt) (n : ℕ) (path : List ℕ) (e : ℕ). list_numbered (stmts_of (map stmt_tree b)) 0 n path (all_to e) in
-    let leave = λ (l : List GraphNode) (r : EndRule) (w : List GraphWay). map numbered_node l ++ record { point = exit; label = exits r; span = f.span; ways = map numbered_way w } ∷ [] in
-    let pushed =
-    ap (map numbered_node) c.in_ok-push.ensures.items
-    ∙ map-append numbered_node c.new-nodes.result.items _
-    ∙ ap (λ l. leave l c.end_rule.result c.new.result.items) c.new-nodes.ensures.items
-    ∙ ap (λ r. leave [] r c.new.result.items) c.end_rule.ensures
-    ∙ ap (λ w. leave [] (end_rule f.name f.result) w) c.new.ensures.items in
     let last_node : Numbered = record { point = exit; label = exits (end_rule f.name f.result); span = f.span; ways = [] } in
     let emitted =
     c.in_ok-begin.ensures.nodes
-    ∙ ap (λ l. l ++ reverse (lines slice first c.as_slice.result.now last)) pushed
+    ∙ ap (λ l. l ++ reverse (lines slice first c.as_slice.result.now last)) c.in_ok-nodes.ensures
     ∙ ap (λ b. (last_node ∷ []) ++ reverse (lines b first c.as_slice.result.now last)) value
     ∙ ap (λ n. (last_node ∷ []) ++ reverse (lines f.body.items n c.as_slice.result.now last)) is_first
     ∙ ap (λ p. (last_node ∷ []) ++ reverse (lines f.body.items (start + 1) p last)) is_path
     ∙ ap (λ e. (last_node ∷ []) ++ reverse (lines f.body.items (start + 1) [] e)) is_last in
     let begins = λ (b : List RStmt) (n : ℕ) (e : ℕ). way next (enter_list (stmts_of (map stmt_tree b)) n (all_to e)) ∷ [] in
     let one =
-    c.in_ok-one_way.ensures
-    ∙ ap (λ n. way next n ∷ []) c.in_ok-begin.ensures.enter
+    ap (λ n. way next n ∷ []) c.in_ok-begin.ensures.enter
     ∙ ap (λ b. begins b first last) value
     ∙ ap (λ n. begins f.body.items n last) is_first
     ∙ ap (λ e. begins f.body.items (start + 1) e) is_last in
@@ -54,8 +42,7 @@ returns c =
     let body = lines f.body.items (start + 1) [] (exit_number tree start) in
     let first_node : Numbered = record { point = entry; label = enters; span = f.span; ways = begins f.body.items (start + 1) (exit_number tree start) } in
     let whole =
-    ap (map numbered_node) c.in_ok-push-2.ensures.items
-    ∙ map-append numbered_node c.emit_list.new.out.items _
+    c.in_ok-push_entry.ensures
     ∙ ap (λ w. map numbered_node c.emit_list.new.out.items ++ begin w) one
     ∙ ap (λ l. l ++ begin (begins f.body.items (start + 1) (exit_number tree start))) emitted in
-    ap (map numbered_node) c.reverse.ensures.items ∙ turned_round first_node last_node body c.push-2.new.self.items whole
+    ap (map numbered_node) c.reverse.ensures.items ∙ turned_round first_node last_node body c.push_entry.new.nodes.items whole
