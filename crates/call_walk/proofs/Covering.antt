@@ -13,13 +13,13 @@ use Rattle.csub_validity.specs.declared.role.Role.TheVariants.{Whole, Test, Effe
 use Rattle.csub_objects.specs.Types.{Name, TypeTree, type_eq, MemberTree}
 use Rattle.csub_semantics.specs.Types.{name_eq, GlobalTree}
 use Rattle.csub_semantics.specs.Globals.{owner_names, variable_names, place_names, expr_names, arg_names, init_names, label_names, global_of, named_globals}
-use Rattle.csub_semantics.specs.Trees.{OwnerTree, global_owner, local_owner, Variable, object, temporary, NamedPlace, variable, NamedExpr, constant, reading, unary_operation, conversion, stepping, operation, conjunction, disjunction, choice, assignment, update, input_byte, output_byte, NamedArg, value_argument}
+use Rattle.csub_semantics.specs.Trees.{OwnerTree, global_owner, local_owner, Variable, object, temporary, NamedPlace, variable, element_place, member_place, NamedExpr, constant, reading, unary_operation, conversion, stepping, operation, conjunction, disjunction, choice, assignment, update, input_byte, output_byte, NamedArg, value_argument}
 use Rattle.csub_semantics.specs.Labels.{LabelTree, enters, exits, evaluates, initialises, branches, returns, calls, PointLabel, CallTree, AnswerTree, InitTree, one_value}
 use Rattle.csub_semantics.specs.Syntax.{LocalTree, FunctionTree, ProgramTree}
 use Rattle.csub_semantics.specs.Points.{PointTree}
 use Rattle.csub_semantics.specs.Flows.{Flow, flow_of}
 use Rattle.csub_semantics.specs.Cells.{Root, global_root, local_root, temp_root}
-use Rattle.csub_validity.specs.Valid.{Scope, scope_of, IsObject, IsPlace, IsTarget, IsExpr, AreArgs, IsCall, IsAnswer, IsInitialised, IsLast, IsValid}
+use Rattle.csub_validity.specs.Valid.{Scope, scope_of, IsObject, IsVariable, IsPlace, IsExpr, AreArgs, IsCall, IsAnswer, IsInitialised, IsLast, IsValid}
 use Rattle.program_laws.proofs.LawsFlows.{labelled_at}
 use Rattle.program_laws.proofs.LawsNames.{same_name}
 use Rattle.program_laws.proofs.LawsGlobals.{Among, among_left, among_right, named_is_listed, type_itself}
@@ -53,25 +53,28 @@ module _ (S T : Root → Bool) where
   more_variable (object owner t) more h = more_owner owner more h
   more_variable (temporary n k) more h = tt
 
-  more_place : (p : NamedPlace) → More (place_names p) → CoversPlace S p → CoversPlace T p
-  more_place (variable v) more h = more_variable v more h
+  mutual
+    more_place : (p : NamedPlace) → More (place_names p) → CoversPlace S p → CoversPlace T p
+    more_place (variable v) more h = more_variable v more h
+    more_place (element_place u p e) more h = (more_place p (first_more (place_names p) (expr_names e) more) h.0, more_expr e (later_more (place_names p) (expr_names e) more) h.1)
+    more_place (member_place a p) more h = more_place p more h
 
-  more_expr : (e : NamedExpr) → More (expr_names e) → CoversExpr S e → CoversExpr T e
-  more_expr (constant k v) more h = tt
-  more_expr (reading p) more h = more_place p more h
-  more_expr (unary_operation op k a) more h = more_expr a more h
-  more_expr (conversion k a) more h = more_expr a more h
-  more_expr (stepping op p) more h = more_place p more h
-  more_expr (operation op k a b) more h = (more_expr a (first_more (expr_names a) (expr_names b) more) h.0, more_expr b (later_more (expr_names a) (expr_names b) more) h.1)
-  more_expr (conjunction a b) more h = (more_expr a (first_more (expr_names a) (expr_names b) more) h.0, more_expr b (later_more (expr_names a) (expr_names b) more) h.1)
-  more_expr (disjunction a b) more h = (more_expr a (first_more (expr_names a) (expr_names b) more) h.0, more_expr b (later_more (expr_names a) (expr_names b) more) h.1)
-  more_expr (choice k c a b) more h =
-      let later = later_more (expr_names c) (expr_names a ++ expr_names b) more in
-      (more_expr c (first_more (expr_names c) (expr_names a ++ expr_names b) more) h.0, more_expr a (first_more (expr_names a) (expr_names b) later) h.1, more_expr b (later_more (expr_names a) (expr_names b) later) h.2)
-  more_expr (assignment p e) more h = (more_place p (first_more (place_names p) (expr_names e) more) h.0, more_expr e (later_more (place_names p) (expr_names e) more) h.1)
-  more_expr (update p op k e) more h = (more_place p (first_more (place_names p) (expr_names e) more) h.0, more_expr e (later_more (place_names p) (expr_names e) more) h.1)
-  more_expr input_byte more h = tt
-  more_expr (output_byte e) more h = more_expr e more h
+    more_expr : (e : NamedExpr) → More (expr_names e) → CoversExpr S e → CoversExpr T e
+    more_expr (constant k v) more h = tt
+    more_expr (reading p) more h = more_place p more h
+    more_expr (unary_operation op k a) more h = more_expr a more h
+    more_expr (conversion k a) more h = more_expr a more h
+    more_expr (stepping op p) more h = more_place p more h
+    more_expr (operation op k a b) more h = (more_expr a (first_more (expr_names a) (expr_names b) more) h.0, more_expr b (later_more (expr_names a) (expr_names b) more) h.1)
+    more_expr (conjunction a b) more h = (more_expr a (first_more (expr_names a) (expr_names b) more) h.0, more_expr b (later_more (expr_names a) (expr_names b) more) h.1)
+    more_expr (disjunction a b) more h = (more_expr a (first_more (expr_names a) (expr_names b) more) h.0, more_expr b (later_more (expr_names a) (expr_names b) more) h.1)
+    more_expr (choice k c a b) more h =
+        let later = later_more (expr_names c) (expr_names a ++ expr_names b) more in
+        (more_expr c (first_more (expr_names c) (expr_names a ++ expr_names b) more) h.0, more_expr a (first_more (expr_names a) (expr_names b) later) h.1, more_expr b (later_more (expr_names a) (expr_names b) later) h.2)
+    more_expr (assignment p e) more h = (more_place p (first_more (place_names p) (expr_names e) more) h.0, more_expr e (later_more (place_names p) (expr_names e) more) h.1)
+    more_expr (update p op k e) more h = (more_place p (first_more (place_names p) (expr_names e) more) h.0, more_expr e (later_more (place_names p) (expr_names e) more) h.1)
+    more_expr input_byte more h = tt
+    more_expr (output_byte e) more h = more_expr e more h
 
   more_arg : (a : NamedArg) → More (arg_names a) → CoversArg S a → CoversArg T a
   more_arg (value_argument e) more h = more_expr e more h
@@ -118,28 +121,30 @@ module _ (gs : List GlobalTree) (sc : Scope) (same : sc.globals ≡ gs) (k : ℕ
   valid_local objects (global_owner a) t h = cc
   valid_local objects (local_owner a n) t h = tt
 
-  valid_place : (p : NamedPlace) → IsPlace sc k p → CoversPlace S p
-  valid_place (variable (object owner t)) h = valid_object owner t h
-  valid_place (variable (temporary n kind)) h = tt
+  valid_variable : (v : Variable) → IsVariable sc k v → CoversVariable S v
+  valid_variable (object owner t) h = valid_object owner t h
+  valid_variable (temporary n kind) h = tt
 
-  valid_target : (p : NamedPlace) → IsTarget sc p → CoversPlace S p
-  valid_target (variable (object owner t)) h = valid_object owner t h.0
-  valid_target (variable (temporary n kind)) h = absurd h.0
+  mutual
+    valid_place : (p : NamedPlace) → IsPlace sc k p → CoversPlace S p
+    valid_place (variable v) h = valid_variable v h
+    valid_place (element_place u p e) h = (valid_place p h.0, valid_expr e h.1)
+    valid_place (member_place a p) h = valid_place p h
 
-  valid_expr : (e : NamedExpr) → IsExpr sc k e → CoversExpr S e
-  valid_expr (constant kind v) h = tt
-  valid_expr (reading p) h = valid_place p h.0
-  valid_expr (unary_operation op kind a) h = valid_expr a h.1
-  valid_expr (conversion kind a) h = valid_expr a h
-  valid_expr (stepping op p) h = valid_target p h
-  valid_expr (operation op kind a b) h = (valid_expr a h.1, valid_expr b h.2)
-  valid_expr (conjunction a b) h = (valid_expr a h.0, valid_expr b h.1)
-  valid_expr (disjunction a b) h = (valid_expr a h.0, valid_expr b h.1)
-  valid_expr (choice kind c a b) h = (valid_expr c h.1, valid_expr a h.2, valid_expr b h.3)
-  valid_expr (assignment p e) h = (valid_target p h.0, valid_expr e h.1)
-  valid_expr (update p op kind e) h = (valid_target p h.1, valid_expr e h.2)
-  valid_expr input_byte h = tt
-  valid_expr (output_byte e) h = valid_expr e h
+    valid_expr : (e : NamedExpr) → IsExpr sc k e → CoversExpr S e
+    valid_expr (constant kind v) h = tt
+    valid_expr (reading p) h = valid_place p h.1
+    valid_expr (unary_operation op kind a) h = valid_expr a h.1
+    valid_expr (conversion kind a) h = valid_expr a h
+    valid_expr (stepping op p) h = valid_place p h.1
+    valid_expr (operation op kind a b) h = (valid_expr a h.1, valid_expr b h.2)
+    valid_expr (conjunction a b) h = (valid_expr a h.0, valid_expr b h.1)
+    valid_expr (disjunction a b) h = (valid_expr a h.0, valid_expr b h.1)
+    valid_expr (choice kind c a b) h = (valid_expr c h.1, valid_expr a h.2, valid_expr b h.3)
+    valid_expr (assignment p e) h = (valid_place p h.1, valid_expr e h.2)
+    valid_expr (update p op kind e) h = (valid_place p h.2, valid_expr e h.3)
+    valid_expr input_byte h = tt
+    valid_expr (output_byte e) h = valid_expr e h
 
   valid_args : (params : List MemberTree) (args : List NamedArg) → AreArgs sc k params args → All (CoversArg S) args
   valid_args [] [] h = All-nil (CoversArg S)

@@ -9,9 +9,9 @@ use Rattle.csub_types.specs.declared.trap.Trap.TheVariants.{Flood}
 use Rattle.csub_types.specs.Kinds.{convert, promote}
 use Rattle.csub_types.specs.Arithmetic.{unary, binary}
 use Rattle.csub_objects.specs.Types.{TypeTree, number_type, array_type, struct_type, loose_type}
-use Rattle.csub_semantics.specs.Trees.{global_owner, local_owner, Variable, object, temporary, NamedPlace, variable, NamedExpr, constant, reading, unary_operation, conversion, stepping, operation, conjunction, disjunction, choice, assignment, update, input_byte, output_byte}
+use Rattle.csub_semantics.specs.Trees.{global_owner, local_owner, Variable, object, temporary, NamedPlace, variable, element_place, member_place, NamedExpr, constant, reading, unary_operation, conversion, stepping, operation, conjunction, disjunction, choice, assignment, update, input_byte, output_byte}
 use Rattle.csub_semantics.specs.Memory.{Answer, value, trapped, then_do, given, found, get_byte, most_output, put_byte, low_byte}
-use Rattle.csub_semantics.specs.Evaluation.{right_operand, computed, step_by, step_value, fetch, locate, store, step, eval}
+use Rattle.csub_semantics.specs.Evaluation.{right_operand, computed, step_by, step_value, fetch, is_index, indexed, locate, store, step, eval}
 use Rattle.csub_semantics.specs.Cells.{Root, root_of, Cell, cell_of, type_of, Spot, referred, stand_at, Content, number, reference, number_in, named}
 use Rattle.csub_semantics.specs.Acts.{Store}
 use Rattle.call_walk.specs.Shared.{Agree}
@@ -86,9 +86,6 @@ module _ (S : Root → Bool) (frames : HasFrames S) (h : ℕ) where
   same_stand c (struct_type tag ms) s s' inside agree = both_give inside agree
   same_stand c (loose_type t) s s' inside agree = same_referred t (s.cells c) (s'.cells c) s s' (agree.cells c inside) (agree.refers c) agree
 
-  pub same_locate : (p : NamedPlace) (s s' : Store) → CoversPlace S p → Agree S s s' → SameAnswer IsIn (Agree S) (locate (named h) p s) (locate (named h) p s')
-  same_locate (variable v) s s' covers agree = same_stand (cell_of h v) (type_of v) s s' (root_in S frames h v covers) agree
-
   -- both operations are one
   same_computed : (op : BinOp) (k : IntKind) (v w : ℤ) (s s' : Store) → Agree S s s' → SameNumber (computed op k v w s) (computed op k v w s')
   same_computed op k v w s s' agree = same_given (binary op (promote k) (convert (promote k) v) (right_operand op (promote k) w)) s s' agree
@@ -117,29 +114,41 @@ module _ (S : Root → Bool) (frames : HasFrames S) (h : ℕ) where
       subst (λ (o : List ℕ). SameAnswer IsAny (Agree S) (put_byte b s) (if nat_lt (length o) most_output then value tt (record s' { output = o ++ b ∷ [] }) else trapped Flood s')) agree.output
       (same_if (nat_lt (length s.output) most_output) (both_give tt (record { cells = agree.cells; refers = agree.refers; refers' = agree.refers'; input = agree.input; output = refl })) (both_trap agree))
 
-  pub same_eval : (e : NamedExpr) (s s' : Store) → CoversExpr S e → Agree S s s' → SameNumber (eval (named h) e s) (eval (named h) e s')
-  same_eval (constant k v) s s' covers agree = both_give tt agree
-  same_eval (reading p) s s' covers agree = then_same (same_locate p s s' covers agree) (λ l t t' inside r. same_fetch l t t' inside r)
-  same_eval (unary_operation op k a) s s' covers agree = then_same (same_eval a s s' covers agree) (λ v t t' q r. same_given (unary op (promote k) (convert (promote k) v)) t t' r)
-  same_eval (conversion k a) s s' covers agree = then_same (same_eval a s s' covers agree) (λ v t t' q r. both_give tt r)
-  same_eval (stepping op p) s s' covers agree = then_same (same_locate p s s' covers agree) (same_step op)
-  same_eval (operation op k a b) s s' covers agree =
-      then_same (same_eval a s s' covers.0 agree) (λ v t t' q r. then_same (same_eval b t t' covers.1 r) (λ w u u' o z. same_computed op k v w u u' z))
-  same_eval (conjunction a b) s s' covers agree =
-      then_same (same_eval a s s' covers.0 agree) (λ v t t' q r. same_if (int_eq v (pos 0)) (both_give tt r) (then_same (same_eval b t t' covers.1 r) (λ w u u' o z. both_give tt z)))
-  same_eval (disjunction a b) s s' covers agree =
-      then_same (same_eval a s s' covers.0 agree) (λ v t t' q r. same_if (int_eq v (pos 0)) (then_same (same_eval b t t' covers.1 r) (λ w u u' o z. both_give tt z)) (both_give tt r))
-  same_eval (choice k c a b) s s' covers agree =
-      then_same (same_eval c s s' covers.0 agree)
-      (λ v t t' q r. then_same (same_if (int_eq v (pos 0)) (same_eval b t t' covers.2 r) (same_eval a t t' covers.1 r)) (λ w u u' o z. both_give tt z))
-  same_eval (assignment p e) s s' covers agree =
-      then_same (same_locate p s s' covers.0 agree)
-      (λ l t t' inside r. then_same (same_eval e t t' covers.1 r) (λ v u u' o z. same_store l v u u' z))
-  same_eval (update p op k e) s s' covers agree =
-      then_same (same_locate p s s' covers.0 agree)
-      (λ l t t' inside r. then_same (same_fetch l t t' inside r)
-      (λ v u u' o z. then_same (same_eval e u u' covers.1 z)
-      (λ w x x' i y. then_same (same_computed op k v w x x' y) (λ n c c' j g. same_store l n c c' g))))
-  same_eval input_byte s s' covers agree = same_get_byte s s' agree
-  same_eval (output_byte e) s s' covers agree =
-      then_same (same_eval e s s' covers agree) (λ v t t' q r. then_same (same_put_byte (low_byte v) t t' r) (λ x u u' o z. both_give tt z))
+  -- an element has the root of its array
+  same_indexed : (u : Unit {0}) (l : Spot) (v : ℤ) (s s' : Store) → IsIn l → Agree S s s' → SameAnswer IsIn (Agree S) (indexed (named h) u l v s) (indexed (named h) u l v s')
+  same_indexed u l v s s' inside agree = same_if (is_index v l.length) (both_give inside agree) (both_trap agree)
+
+  mutual
+    pub same_locate : (p : NamedPlace) (s s' : Store) → CoversPlace S p → Agree S s s' → SameAnswer IsIn (Agree S) (locate (named h) p s) (locate (named h) p s')
+    same_locate (variable v) s s' covers agree = same_stand (cell_of h v) (type_of v) s s' (root_in S frames h v covers) agree
+    same_locate (element_place u p e) s s' covers agree =
+        then_same (same_locate p s s' covers.0 agree)
+        (λ l t t' inside r. then_same (same_eval e t t' covers.1 r) (λ v w w' q z. same_indexed u l v w w' inside z))
+    same_locate (member_place a p) s s' covers agree = then_same (same_locate p s s' covers agree) (λ l t t' inside r. both_give inside r)
+
+    pub same_eval : (e : NamedExpr) (s s' : Store) → CoversExpr S e → Agree S s s' → SameNumber (eval (named h) e s) (eval (named h) e s')
+    same_eval (constant k v) s s' covers agree = both_give tt agree
+    same_eval (reading p) s s' covers agree = then_same (same_locate p s s' covers agree) (λ l t t' inside r. same_fetch l t t' inside r)
+    same_eval (unary_operation op k a) s s' covers agree = then_same (same_eval a s s' covers agree) (λ v t t' q r. same_given (unary op (promote k) (convert (promote k) v)) t t' r)
+    same_eval (conversion k a) s s' covers agree = then_same (same_eval a s s' covers agree) (λ v t t' q r. both_give tt r)
+    same_eval (stepping op p) s s' covers agree = then_same (same_locate p s s' covers agree) (same_step op)
+    same_eval (operation op k a b) s s' covers agree =
+        then_same (same_eval a s s' covers.0 agree) (λ v t t' q r. then_same (same_eval b t t' covers.1 r) (λ w u u' o z. same_computed op k v w u u' z))
+    same_eval (conjunction a b) s s' covers agree =
+        then_same (same_eval a s s' covers.0 agree) (λ v t t' q r. same_if (int_eq v (pos 0)) (both_give tt r) (then_same (same_eval b t t' covers.1 r) (λ w u u' o z. both_give tt z)))
+    same_eval (disjunction a b) s s' covers agree =
+        then_same (same_eval a s s' covers.0 agree) (λ v t t' q r. same_if (int_eq v (pos 0)) (then_same (same_eval b t t' covers.1 r) (λ w u u' o z. both_give tt z)) (both_give tt r))
+    same_eval (choice k c a b) s s' covers agree =
+        then_same (same_eval c s s' covers.0 agree)
+        (λ v t t' q r. then_same (same_if (int_eq v (pos 0)) (same_eval b t t' covers.2 r) (same_eval a t t' covers.1 r)) (λ w u u' o z. both_give tt z))
+    same_eval (assignment p e) s s' covers agree =
+        then_same (same_locate p s s' covers.0 agree)
+        (λ l t t' inside r. then_same (same_eval e t t' covers.1 r) (λ v u u' o z. same_store l v u u' z))
+    same_eval (update p op k e) s s' covers agree =
+        then_same (same_locate p s s' covers.0 agree)
+        (λ l t t' inside r. then_same (same_fetch l t t' inside r)
+        (λ v u u' o z. then_same (same_eval e u u' covers.1 z)
+        (λ w x x' i y. then_same (same_computed op k v w x x' y) (λ n c c' j g. same_store l n c c' g))))
+    same_eval input_byte s s' covers agree = same_get_byte s s' agree
+    same_eval (output_byte e) s s' covers agree =
+        then_same (same_eval e s s' covers agree) (λ v t t' q r. then_same (same_put_byte (low_byte v) t t' r) (λ x u u' o z. both_give tt z))

@@ -3,7 +3,8 @@
 use Rattle.std.specs.Prelude.{ℕ, ℤ, Bool, IsTrue, All, Option, Some, None}
 use Rattle.csub_semantics.specs.declared.status.Status.{Status}
 use Rattle.csub_objects.specs.Types.{Name}
-use Rattle.csub_semantics.specs.Trees.{OwnerTree, global_owner, local_owner, Variable, object, temporary, NamedPlace, variable, NamedExpr, constant}
+use Rattle.csub_semantics.specs.Trees.{OwnerTree, global_owner, local_owner, Variable, object, temporary, NamedPlace, variable, element_place}
+use Rattle.csub_semantics.specs.Trees.{member_place, NamedExpr, constant}
 use Rattle.csub_semantics.specs.Trees.{reading, unary_operation, conversion, stepping, operation, conjunction, disjunction, choice, assignment}
 use Rattle.csub_semantics.specs.Trees.{update, input_byte, output_byte, NamedArg, value_argument}
 use Rattle.csub_semantics.specs.Labels.{LabelTree, enters, exits, evaluates, initialises, branches, returns, calls, AnswerTree, InitTree, one_value}
@@ -27,23 +28,26 @@ module _ (S : Root → Bool) where
   CoversVariable (object owner t) = CoversOwner owner
   CoversVariable (temporary n k) = Unit {0}
 
-  abbrev pub CoversPlace : NamedPlace → Type 0
-  CoversPlace (variable v) = CoversVariable v
+  abbrev mutual
+    pub CoversPlace : NamedPlace → Type 0
+    CoversPlace (variable v) = CoversVariable v
+    CoversPlace (element_place u p e) = CoversPlace p × CoversExpr e
+    CoversPlace (member_place a p) = CoversPlace p
 
-  abbrev pub CoversExpr : NamedExpr → Type 0
-  CoversExpr (constant k v) = Unit {0}
-  CoversExpr (reading p) = CoversPlace p
-  CoversExpr (unary_operation op k a) = CoversExpr a
-  CoversExpr (conversion k a) = CoversExpr a
-  CoversExpr (stepping op p) = CoversPlace p
-  CoversExpr (operation op k a b) = CoversExpr a × CoversExpr b
-  CoversExpr (conjunction a b) = CoversExpr a × CoversExpr b
-  CoversExpr (disjunction a b) = CoversExpr a × CoversExpr b
-  CoversExpr (choice k c a b) = CoversExpr c × CoversExpr a × CoversExpr b
-  CoversExpr (assignment p e) = CoversPlace p × CoversExpr e
-  CoversExpr (update p op k e) = CoversPlace p × CoversExpr e
-  CoversExpr input_byte = Unit {0}
-  CoversExpr (output_byte e) = CoversExpr e
+    pub CoversExpr : NamedExpr → Type 0
+    CoversExpr (constant k v) = Unit {0}
+    CoversExpr (reading p) = CoversPlace p
+    CoversExpr (unary_operation op k a) = CoversExpr a
+    CoversExpr (conversion k a) = CoversExpr a
+    CoversExpr (stepping op p) = CoversPlace p
+    CoversExpr (operation op k a b) = CoversExpr a × CoversExpr b
+    CoversExpr (conjunction a b) = CoversExpr a × CoversExpr b
+    CoversExpr (disjunction a b) = CoversExpr a × CoversExpr b
+    CoversExpr (choice k c a b) = CoversExpr c × CoversExpr a × CoversExpr b
+    CoversExpr (assignment p e) = CoversPlace p × CoversExpr e
+    CoversExpr (update p op k e) = CoversPlace p × CoversExpr e
+    CoversExpr input_byte = Unit {0}
+    CoversExpr (output_byte e) = CoversExpr e
 
   abbrev pub CoversArg : NamedArg → Type 0
   CoversArg (value_argument e) = CoversExpr e

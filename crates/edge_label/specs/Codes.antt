@@ -15,9 +15,9 @@ use Rattle.csub_semantics.specs.declared.label.EndRule.TheVariants as rule
 use Rattle.csub_objects.specs.Types.{Name, TypeTree, number_type, array_type, struct_type, loose_type}
 use Rattle.csub_objects.specs.Types.{MemberTree, MemberTrees, no_member, more_members}
 use Rattle.csub_semantics.specs.Types.{GlobalTree}
-use Rattle.csub_semantics.specs.Trees.{variable, constant, reading, unary_operation, conversion, stepping, operation, conjunction, disjunction}
-use Rattle.csub_semantics.specs.Trees.{choice, assignment, update, input_byte, output_byte, value_argument, OwnerTree, global_owner, local_owner}
-use Rattle.csub_semantics.specs.Trees.{Variable, object, temporary, NamedPlace, NamedExpr, NamedArg}
+use Rattle.csub_semantics.specs.Trees.{variable, element_place, member_place, constant, reading, unary_operation, conversion, stepping, operation}
+use Rattle.csub_semantics.specs.Trees.{conjunction, disjunction, choice, assignment, update, input_byte, output_byte, value_argument}
+use Rattle.csub_semantics.specs.Trees.{OwnerTree, global_owner, local_owner, Variable, object, temporary, NamedPlace, NamedExpr, NamedArg}
 use Rattle.csub_semantics.specs.Labels.{AnswerTree, CallTree, InitTree, one_value, LabelTree, enters, exits, evaluates, initialises, branches}
 use Rattle.csub_semantics.specs.Labels.{returns, calls, PointLabel}
 
@@ -106,23 +106,26 @@ abbrev pub variable_code : Variable → List ℕ
 variable_code (object owner ctype) = 0 ∷ (owner_code owner ++ type_code ctype)
 variable_code (temporary number kind) = 1 ∷ number ∷ kind_code kind
 
-abbrev pub place_code : NamedPlace → List ℕ
-place_code (variable v) = 0 ∷ variable_code v
+abbrev mutual
+  pub place_code : NamedPlace → List ℕ
+  place_code (variable v) = 0 ∷ variable_code v
+  place_code (element_place u p e) = 1 ∷ (place_code p ++ expr_code e)
+  place_code (member_place name p) = 2 ∷ (name_code name ++ place_code p)
 
-abbrev pub expr_code : NamedExpr → List ℕ
-expr_code (constant kind value) = 0 ∷ kind_number kind ∷ integer_code value
-expr_code (reading place) = 1 ∷ place_code place
-expr_code (operation op kind a b) = 2 ∷ operator_number op ∷ kind_number kind ∷ (expr_code a ++ expr_code b)
-expr_code input_byte = 3 ∷ []
-expr_code (output_byte e) = 4 ∷ expr_code e
-expr_code (unary_operation op kind a) = 5 ∷ unary_number op ∷ kind_number kind ∷ expr_code a
-expr_code (conversion kind a) = 6 ∷ kind_number kind ∷ expr_code a
-expr_code (conjunction a b) = 7 ∷ (expr_code a ++ expr_code b)
-expr_code (disjunction a b) = 8 ∷ (expr_code a ++ expr_code b)
-expr_code (choice kind c a b) = 9 ∷ kind_number kind ∷ (expr_code c ++ (expr_code a ++ expr_code b))
-expr_code (stepping op place) = 10 ∷ step_number op ∷ place_code place
-expr_code (assignment place e) = 11 ∷ (place_code place ++ expr_code e)
-expr_code (update place op kind e) = 12 ∷ operator_number op ∷ kind_number kind ∷ (place_code place ++ expr_code e)
+  pub expr_code : NamedExpr → List ℕ
+  expr_code (constant kind value) = 0 ∷ kind_number kind ∷ integer_code value
+  expr_code (reading place) = 1 ∷ place_code place
+  expr_code (operation op kind a b) = 2 ∷ operator_number op ∷ kind_number kind ∷ (expr_code a ++ expr_code b)
+  expr_code input_byte = 3 ∷ []
+  expr_code (output_byte e) = 4 ∷ expr_code e
+  expr_code (unary_operation op kind a) = 5 ∷ unary_number op ∷ kind_number kind ∷ expr_code a
+  expr_code (conversion kind a) = 6 ∷ kind_number kind ∷ expr_code a
+  expr_code (conjunction a b) = 7 ∷ (expr_code a ++ expr_code b)
+  expr_code (disjunction a b) = 8 ∷ (expr_code a ++ expr_code b)
+  expr_code (choice kind c a b) = 9 ∷ kind_number kind ∷ (expr_code c ++ (expr_code a ++ expr_code b))
+  expr_code (stepping op place) = 10 ∷ step_number op ∷ place_code place
+  expr_code (assignment place e) = 11 ∷ (place_code place ++ expr_code e)
+  expr_code (update place op kind e) = 12 ∷ operator_number op ∷ kind_number kind ∷ (place_code place ++ expr_code e)
 
 abbrev pub arg_code : NamedArg → List ℕ
 arg_code (value_argument e) = 0 ∷ expr_code e

@@ -1,6 +1,6 @@
 -- A label can be read back from its code, whatever follows the code. This is a proof, and nothing in it has to be believed.
-use Rattle.std.proofs.Common.{◌≡◌, ℕ, zero, suc, ℤ, pos, negsuc, List, [], ◌∷◌, ◌++◌, length, take, drop, Option, Some, None, refl, sym, ap, ap₂, ◌∙◌}
-use Rattle.std.proofs.Common.{append_assoc, append-nil, subst, ◌≤◌, arith, length-append}
+use Rattle.std.proofs.Common.{◌≡◌, ◌<◌, ◌+◌, ℕ, zero, suc, ℤ, pos, negsuc, List, [], ◌∷◌, ◌++◌, length, take, drop}
+use Rattle.std.proofs.Common.{Option, Some, None, refl, sym, ap, ap₂, ◌∙◌, append_assoc, append-nil, arith, length-append}
 use Rattle.std.specs.List.{flat_map}
 use Rattle.csub_text.specs.declared.operator.UnaryOp.{UnaryOp}
 use Rattle.csub_text.specs.declared.operator.UnaryOp.TheVariants.{Plus, Minus, Not, Flip}
@@ -15,9 +15,9 @@ use Rattle.csub_semantics.specs.declared.label.EndRule.TheVariants as rule
 use Rattle.csub_objects.specs.Types.{Name, TypeTree, number_type, array_type, struct_type, loose_type}
 use Rattle.csub_objects.specs.Types.{MemberTree, MemberTrees, no_member, more_members}
 use Rattle.csub_semantics.specs.Types.{GlobalTree}
-use Rattle.csub_semantics.specs.Trees.{variable, constant, reading, unary_operation, conversion, stepping, operation, conjunction, disjunction}
-use Rattle.csub_semantics.specs.Trees.{choice, assignment, update, input_byte, output_byte, value_argument, OwnerTree, global_owner, local_owner}
-use Rattle.csub_semantics.specs.Trees.{Variable, object, temporary, NamedPlace, NamedExpr, NamedArg}
+use Rattle.csub_semantics.specs.Trees.{variable, element_place, member_place, constant, reading, unary_operation, conversion, stepping, operation}
+use Rattle.csub_semantics.specs.Trees.{conjunction, disjunction, choice, assignment, update, input_byte, output_byte, value_argument}
+use Rattle.csub_semantics.specs.Trees.{OwnerTree, global_owner, local_owner, Variable, object, temporary, NamedPlace, NamedExpr, NamedArg}
 use Rattle.csub_semantics.specs.Labels.{AnswerTree, CallTree, InitTree, one_value, LabelTree, enters, exits, evaluates, initialises, branches}
 use Rattle.csub_semantics.specs.Labels.{returns, calls, PointLabel}
 use Rattle.edge_label.specs.Codes.{number_code, integer_code, name_code, list_code, option_code, kind_number, kind_code, unary_number, step_number}
@@ -25,7 +25,7 @@ use Rattle.edge_label.specs.Codes.{operator_number, rule_number, type_code, memb
 use Rattle.edge_label.specs.Codes.{place_code, expr_code, arg_code, answer_code, call_code, init_code, label_code, global_code, point_code}
 use Rattle.edge_label.specs.Readers.{Reader, then, read_number, read_integer, read_name, read_times, read_list, read_option, read_kind, read_unary}
 use Rattle.edge_label.specs.Readers.{read_step, read_operator, read_rule, read_type_levels, read_members_levels, read_type, read_member}
-use Rattle.edge_label.specs.Readers.{read_owner, read_variable, read_place, read_levels}
+use Rattle.edge_label.specs.Readers.{read_owner, read_variable, read_place_levels, read_expr_levels}
 use Rattle.edge_label.specs.Readers.{read_expr, read_arg, read_answer, read_call, read_init, read_tree, read_global, read_label, coded_global, label_of}
 
 -- what a reader and the one behind it give
@@ -110,24 +110,19 @@ module _ {A : Type 0} (code : A → List ℕ) (read : Reader A) (back : (x : A) 
 
 -- no type and no members have more levels than their code has numbers
 mutual
-  type_levels_back : (t : TypeTree) (n : ℕ) (s : List ℕ) → length (type_code t) ≤ n
+  type_levels_back : (t : TypeTree) (n : ℕ) (s : List ℕ) → length (type_code t) < n
       → read_type_levels n (type_code t ++ s) ≡ (t, s)
-  type_levels_back (number_type kind) zero s h = absurd (omega arith)
-  type_levels_back (array_type element k) zero s h = absurd (omega arith)
-  type_levels_back (struct_type tag members) zero s h = absurd (omega arith)
-  type_levels_back (loose_type element) zero s h = absurd (omega arith)
   type_levels_back (number_type kind) (suc n) s h = then_back _ _ (kind_back kind s) refl
   type_levels_back (array_type element k) (suc n) s h =
       then_back _ _ refl (then_back _ _ (type_levels_back element n s (omega arith)) refl)
   type_levels_back (struct_type tag members) (suc n) s h =
-      let falls : length (members_code members) ≤ n = omega (arith, length-append (name_code tag) (members_code members)) in
+      let falls : length (members_code members) < n = omega (arith, length-append (name_code tag) (members_code members)) in
       then_append _ _ (name_code tag) (members_code members) s (name_back tag) (then_back _ _ (members_levels_back members n s falls) refl)
   type_levels_back (loose_type element) (suc n) s h = then_back _ _ (type_levels_back element n s (omega arith)) refl
+  type_levels_back t zero s h = absurd (omega arith)
 
-  members_levels_back : (ms : MemberTrees) (n : ℕ) (s : List ℕ) → length (members_code ms) ≤ n
+  members_levels_back : (ms : MemberTrees) (n : ℕ) (s : List ℕ) → length (members_code ms) < n
       → read_members_levels n (members_code ms ++ s) ≡ (ms, s)
-  members_levels_back no_member zero s h = absurd (omega arith)
-  members_levels_back (more_members name ctype rest) zero s h = absurd (omega arith)
   members_levels_back no_member (suc n) s h = refl
   members_levels_back (more_members name ctype rest) (suc n) s h =
       let all = length-append (name_code name) (type_code ctype ++ members_code rest) in
@@ -135,10 +130,11 @@ mutual
       then_append _ _ (name_code name) (type_code ctype ++ members_code rest) s (name_back name)
       (then_append _ _ (type_code ctype) (members_code rest) s (λ t. type_levels_back ctype n t (omega (arith, all, both)))
       (then_back _ _ (members_levels_back rest n s (omega (arith, all, both))) refl))
+  members_levels_back ms zero s h = absurd (omega arith)
 
 type_back : (t : TypeTree) (s : List ℕ) → read_type (type_code t ++ s) ≡ (t, s)
 unfolding read_type
-type_back t s = type_levels_back t (length (type_code t ++ s)) s (omega (arith, length-append (type_code t) s))
+type_back t s = type_levels_back t (length (type_code t ++ s) + 1) s (omega (arith, length-append (type_code t) s))
 
 member_back : (m : MemberTree) (s : List ℕ) → read_member (member_code m ++ s) ≡ (m, s)
 member_back m s = then_append _ _ (name_code m.name) (type_code m.ctype) s (name_back m.name) (then_back _ _ (type_back m.ctype s) refl)
@@ -151,120 +147,66 @@ variable_back : (v : Variable) (s : List ℕ) → read_variable (variable_code v
 variable_back (object owner ctype) s = then_append _ _ (owner_code owner) (type_code ctype) s (owner_back owner) (then_back _ _ (type_back ctype s) refl)
 variable_back (temporary number kind) s = then_back _ _ refl (then_back _ _ (kind_back kind s) refl)
 
-place_back : (place : NamedPlace) (s : List ℕ) → read_place (place_code place ++ s) ≡ (place, s)
-place_back (variable v) s = then_back _ _ (variable_back v s) refl
+-- no place and no expression have more levels than their code has numbers
+mutual
+  place_levels_back : (p : NamedPlace) (n : ℕ) (s : List ℕ) → length (place_code p) < n
+      → read_place_levels n (place_code p ++ s) ≡ (p, s)
+  place_levels_back (variable v) (suc n) s h = then_back _ _ (variable_back v s) refl
+  place_levels_back (element_place u p e) (suc n) s h =
+      let both = length-append (place_code p) (expr_code e) in
+      then_append _ _ (place_code p) (expr_code e) s (λ t. place_levels_back p n t (omega (arith, both)))
+      (then_back _ _ (expr_levels_back e n s (omega (arith, both))) refl)
+  place_levels_back (member_place name p) (suc n) s h =
+      let falls : length (place_code p) < n = omega (arith, length-append (name_code name) (place_code p)) in
+      then_append _ _ (name_code name) (place_code p) s (name_back name) (then_back _ _ (place_levels_back p n s falls) refl)
+  place_levels_back p zero s h = absurd (omega arith)
 
--- an expression of at most so many levels
-HasLevels : ℕ → NamedExpr → Type 0
-HasLevels zero e = ⊥
-HasLevels (suc n) (unary_operation op kind a) = HasLevels n a
-HasLevels (suc n) (conversion kind a) = HasLevels n a
-HasLevels (suc n) (operation op kind a b) = HasLevels n a × HasLevels n b
-HasLevels (suc n) (conjunction a b) = HasLevels n a × HasLevels n b
-HasLevels (suc n) (disjunction a b) = HasLevels n a × HasLevels n b
-HasLevels (suc n) (choice kind c a b) = HasLevels n c × HasLevels n a × HasLevels n b
-HasLevels (suc n) (assignment place e) = HasLevels n e
-HasLevels (suc n) (update place op kind e) = HasLevels n e
-HasLevels (suc n) (output_byte e) = HasLevels n e
-HasLevels (suc n) _ = Unit {0}
-
-levels_more : (n : ℕ) (e : NamedExpr) → HasLevels n e → HasLevels (suc n) e
-unfolding HasLevels
-levels_more zero e h = absurd h
-levels_more (suc n) (constant kind value) h = tt
-levels_more (suc n) (reading place) h = tt
-levels_more (suc n) (unary_operation op kind a) h = levels_more n a h
-levels_more (suc n) (conversion kind a) h = levels_more n a h
-levels_more (suc n) (operation op kind a b) h = (levels_more n a h.0, levels_more n b h.1)
-levels_more (suc n) (conjunction a b) h = (levels_more n a h.0, levels_more n b h.1)
-levels_more (suc n) (disjunction a b) h = (levels_more n a h.0, levels_more n b h.1)
-levels_more (suc n) (choice kind c a b) h = (levels_more n c h.0, levels_more n a h.1, levels_more n b h.2)
-levels_more (suc n) (stepping op place) h = tt
-levels_more (suc n) (assignment place e) h = levels_more n e h
-levels_more (suc n) (update place op kind e) h = levels_more n e h
-levels_more (suc n) input_byte h = tt
-levels_more (suc n) (output_byte e) h = levels_more n e h
-
-levels_before : (before codes : List ℕ) (e : NamedExpr) → HasLevels (length codes) e → HasLevels (length (before ++ codes)) e
-levels_before [] codes e h = h
-levels_before (x ∷ before) codes e h = levels_more _ e (levels_before before codes e h)
-
--- the same of two codes behind others, for the first and for the second
-levels_first : (before code s : List ℕ) (e : NamedExpr) → HasLevels (length (expr_code e ++ (code ++ s))) e
-    → HasLevels (length (before ++ ((expr_code e ++ code) ++ s))) e
-levels_first before code s e h =
-    subst (λ codes. HasLevels (length (before ++ codes)) e) (sym (append_assoc (expr_code e) code s))
-    (levels_before before (expr_code e ++ (code ++ s)) e h)
-
-levels_second : (before first code s : List ℕ) (e : NamedExpr) → HasLevels (length (code ++ s)) e
-    → HasLevels (length (before ++ ((first ++ code) ++ s))) e
-levels_second before first code s e h =
-    subst (λ codes. HasLevels (length (before ++ codes)) e) (sym (append_assoc first code s))
-    (levels_before before (first ++ (code ++ s)) e (levels_before first (code ++ s) e h))
-
--- no expression has more levels than its code has numbers
-levels_of : (e : NamedExpr) (s : List ℕ) → HasLevels (length (expr_code e ++ s)) e
-unfolding HasLevels
-levels_of (constant kind value) s = tt
-levels_of (reading place) s = tt
-levels_of (unary_operation op kind a) s = levels_before (unary_number op ∷ kind_number kind ∷ []) (expr_code a ++ s) a (levels_of a s)
-levels_of (conversion kind a) s = levels_before (kind_number kind ∷ []) (expr_code a ++ s) a (levels_of a s)
-levels_of (operation op kind a b) s =
-    let before = operator_number op ∷ kind_number kind ∷ [] in
-    (levels_first before (expr_code b) s a (levels_of a (expr_code b ++ s)), levels_second before (expr_code a) (expr_code b) s b (levels_of b s))
-levels_of (conjunction a b) s = (
-  levels_first [] (expr_code b) s a (levels_of a (expr_code b ++ s)),
-  levels_second [] (expr_code a) (expr_code b) s b (levels_of b s),
-)
-levels_of (disjunction a b) s = (
-  levels_first [] (expr_code b) s a (levels_of a (expr_code b ++ s)),
-  levels_second [] (expr_code a) (expr_code b) s b (levels_of b s),
-)
-levels_of (choice kind c a b) s =
-    let before = kind_number kind ∷ [] in
-    let both = expr_code a ++ expr_code b in (
-      levels_first before both s c (levels_of c (both ++ s)),
-      levels_second before (expr_code c) both s a (levels_first [] (expr_code b) s a (levels_of a (expr_code b ++ s))),
-      levels_second before (expr_code c) both s b (levels_second [] (expr_code a) (expr_code b) s b (levels_of b s)),
-    )
-levels_of (stepping op place) s = tt
-levels_of (assignment place e) s = levels_second [] (place_code place) (expr_code e) s e (levels_of e s)
-levels_of (update place op kind e) s =
-    levels_second (operator_number op ∷ kind_number kind ∷ []) (place_code place) (expr_code e) s e (levels_of e s)
-levels_of input_byte s = tt
-levels_of (output_byte e) s = levels_of e s
-
-levels_back : (e : NamedExpr) (n : ℕ) (s : List ℕ) → HasLevels n e → read_levels n (expr_code e ++ s) ≡ (e, s)
-unfolding HasLevels
-levels_back (constant kind value) (suc n) s h = then_back _ _ (kind_back kind _) (then_back _ _ (integer_back value s) refl)
-levels_back (reading place) (suc n) s h = then_back _ _ (place_back place s) refl
-levels_back (unary_operation op kind a) (suc n) s h =
-    then_back _ _ (unary_back op _) (then_back _ _ (kind_back kind _) (then_back _ _ (levels_back a n s h) refl))
-levels_back (conversion kind a) (suc n) s h = then_back _ _ (kind_back kind _) (then_back _ _ (levels_back a n s h) refl)
-levels_back (operation op kind a b) (suc n) s h =
-    then_back _ _ (operator_back op _) (then_back _ _ (kind_back kind _)
-    (then_append _ _ (expr_code a) (expr_code b) s (λ t. levels_back a n t h.0) (then_back _ _ (levels_back b n s h.1) refl)))
-levels_back (conjunction a b) (suc n) s h =
-    then_append _ _ (expr_code a) (expr_code b) s (λ t. levels_back a n t h.0) (then_back _ _ (levels_back b n s h.1) refl)
-levels_back (disjunction a b) (suc n) s h =
-    then_append _ _ (expr_code a) (expr_code b) s (λ t. levels_back a n t h.0) (then_back _ _ (levels_back b n s h.1) refl)
-levels_back (choice kind c a b) (suc n) s h =
-    then_back _ _ (kind_back kind _)
-    (then_append _ _ (expr_code c) (expr_code a ++ expr_code b) s (λ t. levels_back c n t h.0)
-    (then_append _ _ (expr_code a) (expr_code b) s (λ t. levels_back a n t h.1) (then_back _ _ (levels_back b n s h.2) refl)))
-levels_back (stepping op place) (suc n) s h = then_back _ _ (step_back op _) (then_back _ _ (place_back place s) refl)
-levels_back (assignment place e) (suc n) s h =
-    then_append _ _ (place_code place) (expr_code e) s (place_back place) (then_back _ _ (levels_back e n s h) refl)
-levels_back (update place op kind e) (suc n) s h =
-    then_back _ _ (operator_back op _) (then_back _ _ (kind_back kind _)
-    (then_append _ _ (place_code place) (expr_code e) s (place_back place) (then_back _ _ (levels_back e n s h) refl)))
-levels_back input_byte (suc n) s h = refl
-levels_back (output_byte e) (suc n) s h = then_back _ _ (levels_back e n s h) refl
-levels_back e zero s h = absurd h
+  expr_levels_back : (e : NamedExpr) (n : ℕ) (s : List ℕ) → length (expr_code e) < n
+      → read_expr_levels n (expr_code e ++ s) ≡ (e, s)
+  expr_levels_back (constant kind value) (suc n) s h = then_back _ _ (kind_back kind _) (then_back _ _ (integer_back value s) refl)
+  expr_levels_back (reading place) (suc n) s h = then_back _ _ (place_levels_back place n s (omega arith)) refl
+  expr_levels_back (unary_operation op kind a) (suc n) s h =
+      then_back _ _ (unary_back op _) (then_back _ _ (kind_back kind _) (then_back _ _ (expr_levels_back a n s (omega arith)) refl))
+  expr_levels_back (conversion kind a) (suc n) s h =
+      then_back _ _ (kind_back kind _) (then_back _ _ (expr_levels_back a n s (omega arith)) refl)
+  expr_levels_back (operation op kind a b) (suc n) s h =
+      let both = length-append (expr_code a) (expr_code b) in
+      then_back _ _ (operator_back op _) (then_back _ _ (kind_back kind _)
+      (then_append _ _ (expr_code a) (expr_code b) s (λ t. expr_levels_back a n t (omega (arith, both)))
+      (then_back _ _ (expr_levels_back b n s (omega (arith, both))) refl)))
+  expr_levels_back (conjunction a b) (suc n) s h =
+      let both = length-append (expr_code a) (expr_code b) in
+      then_append _ _ (expr_code a) (expr_code b) s (λ t. expr_levels_back a n t (omega (arith, both)))
+      (then_back _ _ (expr_levels_back b n s (omega (arith, both))) refl)
+  expr_levels_back (disjunction a b) (suc n) s h =
+      let both = length-append (expr_code a) (expr_code b) in
+      then_append _ _ (expr_code a) (expr_code b) s (λ t. expr_levels_back a n t (omega (arith, both)))
+      (then_back _ _ (expr_levels_back b n s (omega (arith, both))) refl)
+  expr_levels_back (choice kind c a b) (suc n) s h =
+      let all = length-append (expr_code c) (expr_code a ++ expr_code b) in
+      let both = length-append (expr_code a) (expr_code b) in
+      then_back _ _ (kind_back kind _)
+      (then_append _ _ (expr_code c) (expr_code a ++ expr_code b) s (λ t. expr_levels_back c n t (omega (arith, all, both)))
+      (then_append _ _ (expr_code a) (expr_code b) s (λ t. expr_levels_back a n t (omega (arith, all, both)))
+      (then_back _ _ (expr_levels_back b n s (omega (arith, all, both))) refl)))
+  expr_levels_back (stepping op place) (suc n) s h =
+      then_back _ _ (step_back op _) (then_back _ _ (place_levels_back place n s (omega arith)) refl)
+  expr_levels_back (assignment place e) (suc n) s h =
+      let both = length-append (place_code place) (expr_code e) in
+      then_append _ _ (place_code place) (expr_code e) s (λ t. place_levels_back place n t (omega (arith, both)))
+      (then_back _ _ (expr_levels_back e n s (omega (arith, both))) refl)
+  expr_levels_back (update place op kind e) (suc n) s h =
+      let both = length-append (place_code place) (expr_code e) in
+      then_back _ _ (operator_back op _) (then_back _ _ (kind_back kind _)
+      (then_append _ _ (place_code place) (expr_code e) s (λ t. place_levels_back place n t (omega (arith, both)))
+      (then_back _ _ (expr_levels_back e n s (omega (arith, both))) refl)))
+  expr_levels_back input_byte (suc n) s h = refl
+  expr_levels_back (output_byte e) (suc n) s h = then_back _ _ (expr_levels_back e n s (omega arith)) refl
+  expr_levels_back e zero s h = absurd (omega arith)
 
 expr_back : (e : NamedExpr) (s : List ℕ) → read_expr (expr_code e ++ s) ≡ (e, s)
 unfolding read_expr
-expr_back e s = levels_back e (length (expr_code e ++ s)) s (levels_of e s)
+expr_back e s = expr_levels_back e (length (expr_code e ++ s) + 1) s (omega (arith, length-append (expr_code e) s))
 
 arg_back : (arg : NamedArg) (s : List ℕ) → read_arg (arg_code arg ++ s) ≡ (arg, s)
 arg_back (value_argument e) s = then_back _ _ (expr_back e s) refl

@@ -1,5 +1,5 @@
 -- Codes read back: what label a list of numbers is the code of. Lists that are no code give some label too.
-use Rattle.std.specs.Prelude.{ℕ, zero, suc, ℤ, pos, negsuc, List, [], ◌∷◌, length, Option, Some, None, take, drop}
+use Rattle.std.specs.Prelude.{ℕ, ◌+◌, zero, suc, ℤ, pos, negsuc, List, [], ◌∷◌, length, Option, Some, None, take, drop}
 use Rattle.std.proofs.Common.{get_or}
 use Rattle.csub_text.specs.declared.operator.UnaryOp.{UnaryOp}
 use Rattle.csub_text.specs.declared.operator.UnaryOp.TheVariants.{Plus, Minus, Not, Flip}
@@ -14,9 +14,9 @@ use Rattle.csub_semantics.specs.declared.label.EndRule.TheVariants as rule
 use Rattle.csub_objects.specs.Types.{Name, TypeTree, number_type, array_type, struct_type, loose_type}
 use Rattle.csub_objects.specs.Types.{MemberTree, MemberTrees, no_member, more_members}
 use Rattle.csub_semantics.specs.Types.{GlobalTree}
-use Rattle.csub_semantics.specs.Trees.{variable, constant, reading, unary_operation, conversion, stepping, operation, conjunction, disjunction}
-use Rattle.csub_semantics.specs.Trees.{choice, assignment, update, input_byte, output_byte, value_argument, OwnerTree, global_owner, local_owner}
-use Rattle.csub_semantics.specs.Trees.{Variable, object, temporary, NamedPlace, NamedExpr, NamedArg}
+use Rattle.csub_semantics.specs.Trees.{variable, element_place, member_place, constant, reading, unary_operation, conversion, stepping, operation}
+use Rattle.csub_semantics.specs.Trees.{conjunction, disjunction, choice, assignment, update, input_byte, output_byte, value_argument}
+use Rattle.csub_semantics.specs.Trees.{OwnerTree, global_owner, local_owner, Variable, object, temporary, NamedPlace, NamedExpr, NamedArg}
 use Rattle.csub_semantics.specs.Labels.{AnswerTree, CallTree, InitTree, one_value, LabelTree, enters, exits, evaluates, initialises, branches}
 use Rattle.csub_semantics.specs.Labels.{returns, calls, PointLabel}
 
@@ -90,9 +90,9 @@ abbrev mutual
       ∷ then read_name (λ name. then (read_type_levels n) (λ ctype. then (read_members_levels n) (λ rest. just (more_members name ctype rest))))
       ∷ []) no_member
 
--- a type has no more levels than its code has numbers
+-- no type has more levels than its code has numbers, so one more is enough
 unfoldable pub read_type : Reader TypeTree
-read_type codes = read_type_levels (length codes) codes
+read_type codes = read_type_levels (length codes + 1) codes
 
 abbrev pub read_member : Reader MemberTree
 read_member = then read_name (λ name. then read_type (λ ctype. just (record { name = name; ctype = ctype })))
@@ -109,31 +109,40 @@ read_variable =
     ∷ then read_number (λ number. then read_kind (λ kind. just (temporary number kind)))
     ∷ []) (temporary 0 Char)
 
-abbrev pub read_place : Reader NamedPlace
-read_place = by_number (then read_variable (λ v. just (variable v)) ∷ []) (variable (temporary 0 Char))
+-- a place and an expression of at most so many levels
+abbrev mutual
+  pub read_place_levels : ℕ → Reader NamedPlace
+  read_place_levels zero = just (variable (temporary 0 Char))
+  read_place_levels (suc n) =
+      by_number (then read_variable (λ v. just (variable v))
+      ∷ then (read_place_levels n) (λ place. then (read_expr_levels n) (λ index. just (element_place tt place index)))
+      ∷ then read_name (λ name. then (read_place_levels n) (λ place. just (member_place name place)))
+      ∷ []) (variable (temporary 0 Char))
 
--- an expression of at most so many levels
-abbrev pub read_levels : ℕ → Reader NamedExpr
-read_levels zero = just input_byte
-read_levels (suc n) =
-    by_number (then read_kind (λ kind. then read_integer (λ value. just (constant kind value)))
-    ∷ then read_place (λ place. just (reading place))
-    ∷ then read_operator (λ op. then read_kind (λ kind. then (read_levels n) (λ a. then (read_levels n) (λ b. just (operation op kind a b)))))
-    ∷ just input_byte
-    ∷ then (read_levels n) (λ e. just (output_byte e))
-    ∷ then read_unary (λ op. then read_kind (λ kind. then (read_levels n) (λ a. just (unary_operation op kind a))))
-    ∷ then read_kind (λ kind. then (read_levels n) (λ a. just (conversion kind a)))
-    ∷ then (read_levels n) (λ a. then (read_levels n) (λ b. just (conjunction a b)))
-    ∷ then (read_levels n) (λ a. then (read_levels n) (λ b. just (disjunction a b)))
-    ∷ then read_kind (λ kind. then (read_levels n) (λ c. then (read_levels n) (λ a. then (read_levels n) (λ b. just (choice kind c a b)))))
-    ∷ then read_step (λ op. then read_place (λ place. just (stepping op place)))
-    ∷ then read_place (λ place. then (read_levels n) (λ e. just (assignment place e)))
-    ∷ then read_operator (λ op. then read_kind (λ kind. then read_place (λ place. then (read_levels n) (λ e. just (update place op kind e)))))
-    ∷ []) input_byte
+  pub read_expr_levels : ℕ → Reader NamedExpr
+  read_expr_levels zero = just input_byte
+  read_expr_levels (suc n) =
+      by_number (then read_kind (λ kind. then read_integer (λ value. just (constant kind value)))
+      ∷ then (read_place_levels n) (λ place. just (reading place))
+      ∷ then read_operator (λ op. then read_kind (λ kind.
+      then (read_expr_levels n) (λ a. then (read_expr_levels n) (λ b. just (operation op kind a b)))))
+      ∷ just input_byte
+      ∷ then (read_expr_levels n) (λ e. just (output_byte e))
+      ∷ then read_unary (λ op. then read_kind (λ kind. then (read_expr_levels n) (λ a. just (unary_operation op kind a))))
+      ∷ then read_kind (λ kind. then (read_expr_levels n) (λ a. just (conversion kind a)))
+      ∷ then (read_expr_levels n) (λ a. then (read_expr_levels n) (λ b. just (conjunction a b)))
+      ∷ then (read_expr_levels n) (λ a. then (read_expr_levels n) (λ b. just (disjunction a b)))
+      ∷ then read_kind (λ kind. then (read_expr_levels n) (λ c.
+      then (read_expr_levels n) (λ a. then (read_expr_levels n) (λ b. just (choice kind c a b)))))
+      ∷ then read_step (λ op. then (read_place_levels n) (λ place. just (stepping op place)))
+      ∷ then (read_place_levels n) (λ place. then (read_expr_levels n) (λ e. just (assignment place e)))
+      ∷ then read_operator (λ op. then read_kind (λ kind.
+      then (read_place_levels n) (λ place. then (read_expr_levels n) (λ e. just (update place op kind e)))))
+      ∷ []) input_byte
 
--- an expression has no more levels than its code has numbers
+-- no expression has more levels than its code has numbers, so one more is enough
 unfoldable pub read_expr : Reader NamedExpr
-read_expr codes = read_levels (length codes) codes
+read_expr codes = read_expr_levels (length codes + 1) codes
 
 abbrev pub read_arg : Reader NamedArg
 read_arg = by_number (then read_expr (λ e. just (value_argument e)) ∷ []) (value_argument input_byte)

@@ -3,7 +3,7 @@ ghost use Rattle.std.specs.Prelude.{◌≡◌, ◌++◌, ◌∷◌, [], OnOk, ma
 ghost use Rattle.csub_objects.specs.Types.{members_of};
 ghost use Rattle.csub_objects.specs.Meaning.{type_tree, member_tree};
 ghost use Rattle.csub_semantics.specs.Types.{global_tree};
-ghost use Rattle.csub_semantics.specs.Trees.{constant, reading, stepping, variable, temporary, owner_tree, place_tree, expr_tree, arg_tree};
+ghost use Rattle.csub_semantics.specs.Trees.{constant, reading, stepping, variable, object, temporary, owner_tree, place_tree, expr_tree, arg_tree};
 ghost use Rattle.csub_semantics.specs.Labels.{answer_tree, call_tree, init_tree, label_tree};
 ghost use Rattle.edge_label.specs.Codes.{integer_code, name_code, list_code, option_code, number_code, kind_code, kind_number, unary_number, step_number, operator_number, rule_number, type_code, members_code, member_code, owner_code, place_code, expr_code, arg_code, answer_code, call_code, init_code, label_code, global_code};
 
@@ -208,7 +208,7 @@ fn push_expr(out: &mut Vec<u64>, expr: &RExpr) -> Result<(), AllocError>
 {
     match expr {
         RExpr::Const(kind, value) => push_constant(out, *kind, *value),
-        RExpr::Read(place) => push_read(out, place),
+        RExpr::Read(place) => push_place_behind(out, 1, place),
         RExpr::Temp(number, kind) => push_temporary(out, *number, *kind),
         RExpr::Binary(op, kind, left, right) => {
             push_operand(out, 2, operator_number(*op), *kind, left)?;
@@ -234,11 +234,15 @@ fn push_expr(out: &mut Vec<u64>, expr: &RExpr) -> Result<(), AllocError>
             push_expr(out, right)
         }
         RExpr::Step(op, place) => push_step(out, *op, place),
-        RExpr::Assign(place, value) => push_stored(out, 11, place, value),
+        RExpr::Assign(place, value) => {
+            push_place_behind(out, 11, place)?;
+            push_expr(out, value)
+        }
         RExpr::Update(place, op, kind, value) => {
             out.push(12)?;
             out.push(operator_number(*op))?;
-            push_stored(out, kind_number(*kind), place, value)
+            push_place_behind(out, kind_number(*kind), place)?;
+            push_expr(out, value)
         }
     }
 }
@@ -272,19 +276,13 @@ fn push_operand(
     push_converted(out, operator, kind, expr)
 }
 
-/// Appends a number, and behind it the codes of a place and of what is stored there.
+/// Appends a number, and behind it the code of a place.
 #[cycle(expressions)]
-fn push_stored(
-    out: &mut Vec<u64>,
-    number: u64,
-    place: &Place,
-    value: &RExpr,
-) -> Result<(), AllocError>
-    ensures { OnOk result (out.new.items ≡ out.old.items ++ number ∷ (place_code (place_tree place.now) ++ expr_code (expr_tree value.now))) }
+fn push_place_behind(out: &mut Vec<u64>, number: u64, place: &Place) -> Result<(), AllocError>
+    ensures { OnOk result (out.new.items ≡ out.old.items ++ number ∷ place_code (place_tree place.now)) }
 {
     out.push(number)?;
-    push_place(out, place)?;
-    push_expr(out, value)
+    push_place(out, place)
 }
 
 /// Appends a number, and behind it the code of an expression.
@@ -304,13 +302,6 @@ fn push_constant(out: &mut Vec<u64>, kind: IntKind, value: i64) -> Result<(), Al
     push_integer(out, value)
 }
 
-fn push_read(out: &mut Vec<u64>, place: &Place) -> Result<(), AllocError>
-    ensures { OnOk result (out.new.items ≡ out.old.items ++ expr_code (reading (place_tree place.now))) }
-{
-    out.push(1)?;
-    push_place(out, place)
-}
-
 /// Appends the code of the reading of a temporary.
 fn push_temporary(out: &mut Vec<u64>, number: u32, kind: IntKind) -> Result<(), AllocError>
     ensures { OnOk result (out.new.items ≡ out.old.items ++ expr_code (reading (variable (temporary number kind)))) }
@@ -322,6 +313,7 @@ fn push_temporary(out: &mut Vec<u64>, number: u32, kind: IntKind) -> Result<(), 
     Ok(out.push(kind_number(kind))?)
 }
 
+#[cycle(expressions)]
 fn push_step(out: &mut Vec<u64>, op: StepOp, place: &Place) -> Result<(), AllocError>
     ensures { OnOk result (out.new.items ≡ out.old.items ++ expr_code (stepping op (place_tree place.now))) }
 {
@@ -330,10 +322,29 @@ fn push_step(out: &mut Vec<u64>, op: StepOp, place: &Place) -> Result<(), AllocE
     push_place(out, place)
 }
 
+#[cycle(expressions)]
 fn push_place(out: &mut Vec<u64>, place: &Place) -> Result<(), AllocError>
     ensures { OnOk result (out.new.items ≡ out.old.items ++ place_code (place_tree place.now)) }
 {
-    let Place::Var(owner, ctype) = place;
+    match place {
+        Place::Var(owner, ctype) => push_object(out, owner, ctype),
+        Place::Index(array, index) => {
+            out.push(1)?;
+            push_place(out, array)?;
+            push_expr(out, index)
+        }
+        Place::Member(whole, name) => {
+            out.push(2)?;
+            push_name(out, name.bytes())?;
+            push_place(out, whole)
+        }
+    }
+}
+
+/// Appends the code of the place of an object.
+fn push_object(out: &mut Vec<u64>, owner: &Owner, ctype: &CType) -> Result<(), AllocError>
+    ensures { OnOk result (out.new.items ≡ out.old.items ++ place_code (variable (object (owner_tree owner.now) (type_tree ctype.now)))) }
+{
     out.push(0)?;
     out.push(0)?;
     push_owner(out, owner)?;

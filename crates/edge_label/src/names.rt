@@ -75,6 +75,7 @@ fn add_arg<'a>(set: &mut NameSet<'a>, arg: &'a RArg) -> Result<(), AllocError>
     add_expr(set, expr)
 }
 
+#[cycle(expressions)]
 #[tactic(auto, using(crate::proofs::NameLemmas::ordered_append))]
 fn add_expr<'a>(set: &mut NameSet<'a>, expr: &'a RExpr) -> Result<(), AllocError>
     ensures { OnOk result (set.new ≡ ordered set.old (expr_names (expr_tree expr.now))) }
@@ -101,11 +102,19 @@ fn add_expr<'a>(set: &mut NameSet<'a>, expr: &'a RExpr) -> Result<(), AllocError
     }
 }
 
+#[cycle(expressions)]
+#[tactic(auto, using(crate::proofs::NameLemmas::ordered_append))]
 fn add_place<'a>(set: &mut NameSet<'a>, place: &'a Place) -> Result<(), AllocError>
     ensures { OnOk result (set.new ≡ ordered set.old (place_names (place_tree place.now))) }
 {
-    let Place::Var(owner, _) = place;
-    add_owner(set, owner)
+    match place {
+        Place::Var(owner, _) => add_owner(set, owner),
+        Place::Index(array, index) => {
+            add_place(set, array)?;
+            add_expr(set, index)
+        }
+        Place::Member(whole, _) => add_place(set, whole),
+    }
 }
 
 fn add_owner<'a>(set: &mut NameSet<'a>, owner: &'a Owner) -> Result<(), AllocError>
