@@ -1,6 +1,10 @@
 pub mod LawsOrder
 pub mod LawsSites
+pub mod LawsSized
 mod Objects
+mod Sized
+mod Arguments
+mod Members
 mod Stages
 mod Standing
 mod Slots

@@ -1,5 +1,5 @@
 -- Objects one after another, looked at in turn.
-use Rattle.std.proofs.Common.{◌≡◌, ◌<◌, ◌≤◌, ◌∙◌, ℕ, ◌+◌, ◌&&◌, nat_eq, List, [], ◌∷◌, map, drop, length, get_or, Bool, true, false, Option, Some, None, if◌then◌else◌, refl, ap, sym, subst, arith}
+use Rattle.std.proofs.Common.{◌≡◌, ◌<◌, ◌≤◌, ◌∙◌, ℕ, ◌+◌, ◌&&◌, nat_eq, List, ◌∷◌, map, drop, length, get_or, Bool, true, false, Option, Some, None, if◌then◌else◌, ap, sym, arith}
 use Rattle.std.specs.Option.{option_map}
 use Rattle.std.proofs.lemmas.List.{drop_more, drop_all}
 use Rattle.csub_objects.specs.Types.{Name, cells}

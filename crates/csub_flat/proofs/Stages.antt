@@ -5,17 +5,19 @@ use Rattle.std.specs.Option.{option_and_then}
 use Rattle.std.proofs.lemmas.List.Elements.{All-nil, All-cons}
 use Rattle.csub_types.specs.declared.kind.IntKind.{IntKind}
 use Rattle.csub_types.specs.declared.kind.IntKind.TheVariants.{Int}
-use Rattle.csub_objects.specs.Types.{MemberTree, IsNumber}
-use Rattle.csub_semantics.specs.Trees.{NamedPlace, NamedExpr, NamedArg, local_owner, variable, object, temporary, constant, reading, unary_operation, conversion, stepping, operation, conjunction, disjunction, choice, assignment, update, input_byte, output_byte, value_argument}
+use Rattle.csub_objects.specs.Types.{MemberTree, number_type, IsNumber}
+use Rattle.csub_semantics.specs.Trees.{NamedPlace, NamedExpr, NamedArg, local_owner, variable, element_place, member_place, object, temporary, constant, reading, unary_operation, conversion, stepping, operation, conjunction, disjunction, choice, assignment, update, input_byte, output_byte, value_argument}
 use Rattle.csub_semantics.specs.Labels.{LabelTree, enters, exits, evaluates, initialises, branches, returns, calls, AnswerTree, CallTree, InitTree, one_value}
 use Rattle.csub_semantics.specs.Syntax.{PartTree, FunctionTree, ProgramTree}
 use Rattle.csub_semantics.specs.Flows.{function_of}
 use Rattle.csub_validity.specs.declared.role.Role.{Role}
 use Rattle.csub_validity.specs.declared.role.Role.TheVariants.{Whole, Test, Effect}
-use Rattle.csub_validity.specs.Valid.{objects_of, label_result, stage_result, Scope, scope_of, result_of, IsRead, IsTarget, IsExpr, AreArgs, IsInit, temp_of, IsDefinedAs, IsCall, IsAnswer, IsLast, IsEarlier, AreStages, IsPart, AreOther}
+use Rattle.csub_validity.specs.Valid.{objects_of, label_result, stage_result, Scope, scope_of, result_of, IsPlace, IsExpr, AreArgs, IsInit, temp_of, IsDefinedAs, IsCall, IsAnswer, IsInitialised, IsLast, IsEarlier, AreStages, IsPart, AreOther, AreDeclared, AreGlobals}
 use Rattle.csub_flat.specs.Frames.{globals_of}
 use Rattle.csub_flat.specs.Fits.{HasPlace, FitsPlace, FitsExpr, FitsArg, FitsAnswer, FitsInit, FitsTemp, FitsCall, FitsLabel}
 use Rattle.csub_flat.proofs.Objects.{all_has, object_place, local_place, parameter_place, temporary_has}
+use Rattle.csub_flat.proofs.LawsSized.{number_sized}
+use Rattle.csub_flat.proofs.Sized.{object_sized}
 
 module _ (P : ProgramTree) (f : FunctionTree) where
   -- a call with a result has its temporary within the frame
@@ -61,32 +63,31 @@ module _ (P : ProgramTree) (f : FunctionTree) where
           let w = stages_temp (scope_of P f p) role 1 p i kind h (g ∙ ap Some e) in
           (omega arith, omega arith)
 
-  module _ (pairs : AllPairs AreOther (objects_of f)) (p : PartTree) (temps : (n : ℕ) (kind : IntKind) → result_of (map stage_result p) n ≡ Some kind → (1 ≤ n) × (n ≤ f.temps)) where
+  module _ (pairs : AllPairs AreOther (objects_of f)) (declared : AreDeclared f) (globals : AreGlobals P.globals) (p : PartTree) (temps : (n : ℕ) (kind : IntKind) → result_of (map stage_result p) n ≡ Some kind → (1 ≤ n) × (n ≤ f.temps)) where
     abbrev sc : Scope
     sc = scope_of P f p
 
-    place_fits : (k : ℕ) (q : NamedPlace) → IsRead sc k q → FitsPlace (globals_of P) f q
-    place_fits k (variable (object owner t)) h = (object_place P.globals f owner t h.0, h.1)
-    place_fits k (variable (temporary n kind)) h = let w = temps n kind h.0.1 in (temporary_has P.globals f n kind w.0 w.1, tt)
+    mutual
+      pub place_fits : (k : ℕ) (q : NamedPlace) → IsPlace sc k q → FitsPlace (globals_of P) f q
+      place_fits k (variable (object owner t)) h = (object_place P.globals f owner t h, object_sized P.globals f declared owner t globals h)
+      place_fits k (variable (temporary n kind)) h = let w = temps n kind h.1 in (temporary_has P.globals f n kind w.0 w.1, number_sized (number_type kind) tt)
+      place_fits k (element_place u q e) h = (place_fits k q h.0, expr_fits k e h.1)
+      place_fits k (member_place a q) h = place_fits k q h
 
-    target_fits : (q : NamedPlace) → IsTarget sc q → FitsPlace (globals_of P) f q
-    target_fits (variable (object owner t)) h = (object_place P.globals f owner t h.0, h.1)
-    target_fits (variable (temporary n kind)) h = absurd h.0
-
-    pub expr_fits : (k : ℕ) (e : NamedExpr) → IsExpr sc k e → FitsExpr (globals_of P) f e
-    expr_fits k (constant kind v) h = tt
-    expr_fits k (reading q) h = place_fits k q h
-    expr_fits k (unary_operation op kind a) h = expr_fits k a h.1
-    expr_fits k (conversion kind a) h = expr_fits k a h
-    expr_fits k (stepping op q) h = target_fits q h
-    expr_fits k (operation op kind a b) h = (expr_fits k a h.1, expr_fits k b h.2)
-    expr_fits k (conjunction a b) h = (expr_fits k a h.0, expr_fits k b h.1)
-    expr_fits k (disjunction a b) h = (expr_fits k a h.0, expr_fits k b h.1)
-    expr_fits k (choice kind c a b) h = (expr_fits k c h.1, expr_fits k a h.2, expr_fits k b h.3)
-    expr_fits k (assignment q e) h = (target_fits q h.0, expr_fits k e h.1)
-    expr_fits k (update q op kind e) h = (target_fits q h.1, expr_fits k e h.2)
-    expr_fits k input_byte h = tt
-    expr_fits k (output_byte e) h = expr_fits k e h
+      pub expr_fits : (k : ℕ) (e : NamedExpr) → IsExpr sc k e → FitsExpr (globals_of P) f e
+      expr_fits k (constant kind v) h = tt
+      expr_fits k (reading q) h = (h.0, place_fits k q h.1)
+      expr_fits k (unary_operation op kind a) h = expr_fits k a h.1
+      expr_fits k (conversion kind a) h = expr_fits k a h
+      expr_fits k (stepping op q) h = (h.0.1, place_fits k q h.1)
+      expr_fits k (operation op kind a b) h = (expr_fits k a h.1, expr_fits k b h.2)
+      expr_fits k (conjunction a b) h = (expr_fits k a h.0, expr_fits k b h.1)
+      expr_fits k (disjunction a b) h = (expr_fits k a h.0, expr_fits k b h.1)
+      expr_fits k (choice kind c a b) h = (expr_fits k c h.1, expr_fits k a h.2, expr_fits k b h.3)
+      expr_fits k (assignment q e) h = (h.0.1, place_fits k q h.1, expr_fits k e h.2)
+      expr_fits k (update q op kind e) h = (h.1.1, place_fits k q h.2, expr_fits k e h.3)
+      expr_fits k input_byte h = tt
+      expr_fits k (output_byte e) h = expr_fits k e h
 
     args_fit : (k : ℕ) (params : List MemberTree) (args : List NamedArg) → AreArgs sc k params args → All (FitsArg (globals_of P) f) args
     args_fit k [] [] h = All-nil (FitsArg (globals_of P) f)
@@ -140,10 +141,15 @@ module _ (P : ProgramTree) (f : FunctionTree) where
       init_number : (k : ℕ) (t : _) (init : InitTree) → IsInit sc k t init → IsNumber t
       init_number k t (one_value e) h = h.0
 
+      init_all : (k : ℕ) (owner : _) (t : _) (init : InitTree) → IsInitialised f sc k owner t init → FitsLabel P f (initialises owner t init)
+      init_all k owner t init h =
+          let number = init_number k t init h.1 in
+          (number, (local_place P.globals f owner t pairs h.0, number_sized t number), init_fits k t init h.1)
+
       pub last_fits : (role : Role) (k : ℕ) (l : LabelTree) → 1 ≤ k → IsLast P f sc role k l → FitsLabel P f l
       last_fits Whole k (calls c) low h = call_fits k c low h
       last_fits Whole k (evaluates e) low h = expr_fits k e h
-      last_fits Whole k (initialises owner t init) low h = ((local_place P.globals f owner t pairs h.0, init_number k t init h.1), init_fits k t init h.1)
+      last_fits Whole k (initialises owner t init) low h = init_all k owner t init h
       last_fits Whole k (returns answer) low h = answer_fits k f.result answer h
       last_fits Whole k enters low h = absurd h
       last_fits Whole k (exits rule) low h = absurd h
@@ -157,7 +163,7 @@ module _ (P : ProgramTree) (f : FunctionTree) where
       last_fits Test k (calls c) low h = absurd h
       last_fits Effect k (calls c) low h = call_fits k c low h
       last_fits Effect k (evaluates e) low h = expr_fits k e h
-      last_fits Effect k (initialises owner t init) low h = ((local_place P.globals f owner t pairs h.0, init_number k t init h.1), init_fits k t init h.1)
+      last_fits Effect k (initialises owner t init) low h = init_all k owner t init h
       last_fits Effect k enters low h = absurd h
       last_fits Effect k (exits rule) low h = absurd h
       last_fits Effect k (branches e) low h = absurd h

@@ -12,7 +12,7 @@ use Rattle.csub_semantics.specs.Successors.{Way}
 use Rattle.csub_semantics.specs.Flows.{start_name, main_name, end_rule, result_rule, function_nodes, function_in, function_of}
 use Rattle.csub_validity.specs.declared.role.Role.{Role}
 use Rattle.csub_validity.specs.declared.role.Role.TheVariants.{Whole, Test}
-use Rattle.csub_validity.specs.Valid.{objects_of, AreOther, BeginsWithStart, IsValid}
+use Rattle.csub_validity.specs.Valid.{objects_of, AreOther, AreDeclared, BeginsWithStart, IsValid}
 use Rattle.program_laws.proofs.LawsNames.{same_name}
 use Rattle.program_laws.proofs.LawsNodes.{MayStand, IsNode, begins, ends, goes_on, tests}
 use Rattle.program_laws.proofs.LawsStanding.{IsPoint, Stands, name_is, node_is}
@@ -26,11 +26,14 @@ module _ (P : ProgramTree) (valid : IsValid P) where
   others : (g : FunctionTree) (a : Name) → function_of P a ≡ Some g → AllPairs AreOther (objects_of g)
   others g a e = found_has P (λ f. AllPairs AreOther (objects_of f)) a g valid.objects e
 
+  declared : (g : FunctionTree) (a : Name) → function_of P a ≡ Some g → AreDeclared g
+  declared g a e = found_has P AreDeclared a g valid.types e
+
   -- a label that may stand in a function fits its frame
-  standing : (f : FunctionTree) → AllPairs AreOther (objects_of f) → (role : Role) (l : LabelTree) → MayStand P f role l → FitsLabel P f l
-  standing f pairs role l m =
+  standing : (f : FunctionTree) → AllPairs AreOther (objects_of f) → AreDeclared f → (role : Role) (l : LabelTree) → MayStand P f role l → FitsLabel P f l
+  standing f pairs types role l m =
       let w = m.within in
-      last_fits P f pairs w.part (result_temp P f w.role w.part w.valid) others role m.stage l m.first m.last
+      last_fits P f pairs types valid.globals w.part (result_temp P f w.role w.part w.valid) others role m.stage l m.first m.last
 
   -- the function of the name of `#start` has a temporary
   first_is : (fs : List FunctionTree) → BeginsWithStart fs → (f : FunctionTree) → function_in fs start_name ≡ Some f → f.temps ≡ 1
@@ -65,5 +68,5 @@ module _ (P : ProgramTree) (valid : IsValid P) where
       by_node : (q : PointTree) (l : LabelTree) (ws : List (Way PointTree)) → IsNode P s.function (IsPoint (function_nodes s.function)) q l ws → FitsLabel P s.function l
       by_node q l ws (begins to h) = tt
       by_node q l ws ends = rule_fits s.function g s.defined (name_is P g p valid s)
-      by_node q l ws (goes_on r k to m h) = standing s.function (others s.function g s.defined) Whole k m
-      by_node q l ws (tests r k a b m h i) = standing s.function (others s.function g s.defined) Test k m
+      by_node q l ws (goes_on r k to m h) = standing s.function (others s.function g s.defined) (declared s.function g s.defined) Whole k m
+      by_node q l ws (tests r k a b m h i) = standing s.function (others s.function g s.defined) (declared s.function g s.defined) Test k m

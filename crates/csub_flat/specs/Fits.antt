@@ -3,8 +3,10 @@ use Rattle.std.specs.Prelude.{ℕ, ◌≡◌, List, All, Option, Some, None}
 use Rattle.csub_types.specs.declared.kind.IntKind.TheVariants.{Int}
 use Rattle.csub_semantics.specs.declared.label.EndRule.{EndRule}
 use Rattle.csub_semantics.specs.declared.label.EndRule.TheVariants.{Nothing, Value, Main, Start}
-use Rattle.csub_objects.specs.Types.{MemberTree, IsNumber}
-use Rattle.csub_semantics.specs.Trees.{NamedPlace, NamedExpr, NamedArg, Variable, variable, object, temporary, local_owner, value_argument}
+use Rattle.csub_objects.specs.Types.{MemberTree, IsNumber, IsSized}
+use Rattle.csub_validity.specs.Valid.{IsNumberPlace}
+use Rattle.csub_semantics.specs.Trees.{NamedPlace, NamedExpr, NamedArg, Variable, variable, element_place, member_place, object, temporary}
+use Rattle.csub_semantics.specs.Trees.{local_owner, value_argument}
 use Rattle.csub_semantics.specs.Trees.{constant, reading, unary_operation, conversion, stepping, operation, conjunction, disjunction, choice}
 use Rattle.csub_semantics.specs.Trees.{assignment, update, input_byte, output_byte}
 use Rattle.csub_semantics.specs.Labels.{LabelTree, enters, exits, evaluates, initialises, branches, returns, calls, AnswerTree, CallTree, InitTree, one_value}
@@ -20,25 +22,28 @@ module _ (gs : List LocalTree) (f : FunctionTree) where
   abbrev pub HasPlace : Variable → Type 0
   HasPlace v = (s : ℕ) × (variable_place gs f v ≡ Some (inside_at s (plain (type_of v))))
 
-  -- a place that is read or written is a number's
-  abbrev pub FitsPlace : NamedPlace → Type 0
-  FitsPlace (variable v) = HasPlace v × IsNumber (type_of v)
+  abbrev mutual
+    -- so has each variable of a place, with a type that an object may have
+    pub FitsPlace : NamedPlace → Type 0
+    FitsPlace (variable v) = HasPlace v × IsSized (type_of v)
+    FitsPlace (element_place u p e) = FitsPlace p × FitsExpr e
+    FitsPlace (member_place a p) = FitsPlace p
 
-  -- so has each variable of an expression
-  abbrev pub FitsExpr : NamedExpr → Type 0
-  FitsExpr (constant k v) = Unit {0}
-  FitsExpr (reading p) = FitsPlace p
-  FitsExpr (unary_operation op k a) = FitsExpr a
-  FitsExpr (conversion k a) = FitsExpr a
-  FitsExpr (stepping op p) = FitsPlace p
-  FitsExpr (operation op k a b) = FitsExpr a × FitsExpr b
-  FitsExpr (conjunction a b) = FitsExpr a × FitsExpr b
-  FitsExpr (disjunction a b) = FitsExpr a × FitsExpr b
-  FitsExpr (choice k c a b) = FitsExpr c × FitsExpr a × FitsExpr b
-  FitsExpr (assignment p e) = FitsPlace p × FitsExpr e
-  FitsExpr (update p op k e) = FitsPlace p × FitsExpr e
-  FitsExpr input_byte = Unit {0}
-  FitsExpr (output_byte e) = FitsExpr e
+    -- and of an expression, where what is read or written is a number
+    pub FitsExpr : NamedExpr → Type 0
+    FitsExpr (constant k v) = Unit {0}
+    FitsExpr (reading p) = IsNumberPlace p × FitsPlace p
+    FitsExpr (unary_operation op k a) = FitsExpr a
+    FitsExpr (conversion k a) = FitsExpr a
+    FitsExpr (stepping op p) = IsNumberPlace p × FitsPlace p
+    FitsExpr (operation op k a b) = FitsExpr a × FitsExpr b
+    FitsExpr (conjunction a b) = FitsExpr a × FitsExpr b
+    FitsExpr (disjunction a b) = FitsExpr a × FitsExpr b
+    FitsExpr (choice k c a b) = FitsExpr c × FitsExpr a × FitsExpr b
+    FitsExpr (assignment p e) = IsNumberPlace p × FitsPlace p × FitsExpr e
+    FitsExpr (update p op k e) = IsNumberPlace p × FitsPlace p × FitsExpr e
+    FitsExpr input_byte = Unit {0}
+    FitsExpr (output_byte e) = FitsExpr e
 
   abbrev pub FitsArg : NamedArg → Type 0
   FitsArg (value_argument e) = FitsExpr e
@@ -79,7 +84,7 @@ abbrev pub FitsLabel : ProgramTree → FunctionTree → LabelTree → Type 0
 FitsLabel P f enters = Unit {0}
 FitsLabel P f (exits rule) = FitsRule (globals_of P) f rule
 FitsLabel P f (evaluates e) = FitsExpr (globals_of P) f e
-FitsLabel P f (initialises owner t init) = FitsPlace (globals_of P) f (variable (object owner t)) × FitsInit (globals_of P) f init
+FitsLabel P f (initialises owner t init) = IsNumber t × FitsPlace (globals_of P) f (variable (object owner t)) × FitsInit (globals_of P) f init
 FitsLabel P f (branches e) = FitsExpr (globals_of P) f e
 FitsLabel P f (returns answer) = FitsAnswer (globals_of P) f answer
 FitsLabel P f (calls c) = FitsCall P f c

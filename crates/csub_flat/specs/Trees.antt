@@ -4,22 +4,32 @@ use Rattle.csub_types.specs.declared.kind.IntKind.{IntKind}
 use Rattle.csub_semantics.specs.declared.label.EndRule.{EndRule}
 use Rattle.csub_semantics.specs.Trees.{PlaceTree, ExprTree}
 
--- a variable, with the kind of the number there: a slot of the frame, counted from the frame's first, or one of the globals
-pub data FlatVariable : Type 0 where
-  frame_slot : ℕ → IntKind → FlatVariable
-  global_slot : ℕ → IntKind → FlatVariable
+-- what is at a place: the declared kind of a number (`int` where there is none), and how many elements an array has (0
+-- where there is none)
+pub record Form : Type 0 where
+  pub kind : IntKind
+  pub length : ℕ
 
--- the declared kind of the number there
-abbrev pub variable_kind : FlatVariable → IntKind
-variable_kind (frame_slot s k) = k
-variable_kind (global_slot s k) = k
+-- a variable, with what is there: a slot of the frame, counted from the frame's first, or one of the globals
+pub data FlatVariable : Type 0 where
+  frame_slot : ℕ → Form → FlatVariable
+  global_slot : ℕ → Form → FlatVariable
+
+abbrev pub variable_form : FlatVariable → Form
+variable_form (frame_slot s form) = form
+variable_form (global_slot s form) = form
+
+-- a part of an array or of a struct, with what is there: how many slots an element has, or how many are before a member
+pub record FlatPart : Type 0 where
+  pub slots : ℕ
+  pub form : Form
 
 -- places and expressions of slots
 abbrev pub FlatPlace : Type 0
-FlatPlace = PlaceTree FlatVariable (Unit {0}) (Unit {0})
+FlatPlace = PlaceTree FlatVariable FlatPart FlatPart
 
 abbrev pub FlatExpr : Type 0
-FlatExpr = ExprTree FlatVariable (Unit {0}) (Unit {0})
+FlatExpr = ExprTree FlatVariable FlatPart FlatPart
 
 -- an argument, with the parameter that it goes to
 pub record FlatArg : Type 0 where

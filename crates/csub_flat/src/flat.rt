@@ -1,43 +1,74 @@
 //! Flat labels: slots in place of names.
 use csub_semantics::{BinOp, EndRule, IntKind, StepOp, UnaryOp};
 
-/// A variable, with the declared kind of the number there.
+/// What is at a place.
+#[derive(Clone, Copy, Debug, PartialEq, Eq)]
+pub struct Form {
+    /// The declared kind of a number, `int` where there is none.
+    pub kind: IntKind,
+    /// How many elements an array has, 0 where there is none.
+    pub length: u32,
+}
+
+/// A variable, with what is there.
 #[derive(Clone, Copy, Debug, PartialEq, Eq)]
 pub enum FlatVariable {
     /// A slot of the frame, counted from the frame's first.
-    Frame(u32, IntKind),
+    Frame(u32, Form),
     /// A slot of the globals.
-    Global(u32, IntKind),
+    Global(u32, Form),
+}
+
+/// A part of an array or of a struct.
+#[derive(Clone, Copy, Debug, PartialEq, Eq)]
+pub struct FlatPart {
+    /// How many slots an element has, or how many are before a member.
+    pub slots: u32,
+    /// What is there.
+    pub form: Form,
 }
 
 impl FlatVariable {
     ghost use Rattle.std.specs.Prelude.{◌≡◌};
-    ghost use Rattle.csub_flat.specs.Trees.{variable_kind};
-    ghost use Rattle.csub_flat.specs.Seen.{variable_seen};
+    ghost use Rattle.csub_flat.specs.Trees.{variable_form};
+    ghost use Rattle.csub_flat.specs.Seen.{form_seen, variable_seen};
 
-    /// The declared kind of the number there.
-    pub fn kind(self) -> IntKind
-        ensures { result ≡ variable_kind (variable_seen self) }
+    /// What is there.
+    pub fn form(self) -> Form
+        ensures { form_seen result ≡ variable_form (variable_seen self) }
     {
         match self {
-            FlatVariable::Frame(_, kind) | FlatVariable::Global(_, kind) => kind,
+            FlatVariable::Frame(_, form) | FlatVariable::Global(_, form) => form,
         }
     }
 }
 
+/// A place.
+#[derive(Drop)]
+#[cycle(tree)]
+pub enum FlatPlace {
+    /// A variable.
+    Variable(FlatVariable),
+    /// An element of an array, by its index.
+    Element(FlatPart, Box<FlatPlace>, Box<FlatExpr>),
+    /// A member of a struct.
+    Member(FlatPart, Box<FlatPlace>),
+}
+
 /// An expression.
 #[derive(Drop)]
+#[cycle(tree)]
 pub enum FlatExpr {
     /// A constant.
     Const(IntKind, i64),
-    /// The number in a variable.
-    Read(FlatVariable),
+    /// The number in a place.
+    Read(FlatPlace),
     /// A unary operation.
     Unary(UnaryOp, IntKind, Box<FlatExpr>),
     /// A cast.
     Cast(IntKind, Box<FlatExpr>),
     /// `++` and `--`.
-    Step(StepOp, FlatVariable),
+    Step(StepOp, FlatPlace),
     /// A binary operation.
     Binary(BinOp, IntKind, Box<FlatExpr>, Box<FlatExpr>),
     /// `a && b`.
@@ -47,9 +78,9 @@ pub enum FlatExpr {
     /// `a ? b : c`.
     Choose(IntKind, Box<FlatExpr>, Box<FlatExpr>, Box<FlatExpr>),
     /// An assignment.
-    Assign(FlatVariable, Box<FlatExpr>),
+    Assign(FlatPlace, Box<FlatExpr>),
     /// A compound assignment.
-    Update(FlatVariable, BinOp, IntKind, Box<FlatExpr>),
+    Update(FlatPlace, BinOp, IntKind, Box<FlatExpr>),
     /// `getchar()`.
     Getchar,
     /// `putchar(e)`.

@@ -1,20 +1,24 @@
 //! The flat copy of a label, made from the label and where it stands.
-ghost use Rattle.std.specs.Prelude.{◌≡◌, ◌≤◌, [], map, IfOk};
+ghost use Rattle.std.specs.Prelude.{◌≡◌, ◌≤◌, map, All, IfOk};
+ghost use Rattle.std.specs.Option.{option_map};
 ghost use Rattle.csub_objects.specs.Meaning.{type_tree, member_tree};
-ghost use Rattle.csub_semantics.specs.Trees.{object, temporary, owner_tree, place_tree, variable, expr_tree, arg_tree};
+ghost use Rattle.csub_semantics.specs.Trees.{object, temporary, owner_tree, place_tree, expr_tree, arg_tree};
 ghost use Rattle.csub_semantics.specs.Labels.{init_tree};
 ghost use Rattle.csub_semantics.specs.Syntax.{function_tree};
-ghost use Rattle.csub_validity.specs.Valid.{objects_of};
+ghost use Rattle.csub_validity.specs.Valid.{objects_of, place_type};
 ghost use Rattle.csub_flat.specs.Frames.{place_in, frame_size};
-ghost use Rattle.csub_flat.specs.Flatten.{slot_or, flat_variable, flat_place, flattened, flat_parameter, flat_arg, paired, flat_init, temp_slot};
+ghost use Rattle.csub_flat.specs.Flatten.{slot_or, form_of, part_of, flat_variable, element_part, member_part, flat_place, flattened, flat_parameter, flat_arg, paired};
+ghost use Rattle.csub_flat.specs.Flatten.{flat_init, temp_slot};
+ghost use Rattle.csub_flat.specs.Fits.{FitsPlace, FitsExpr, FitsArg, FitsInit};
 ghost use Rattle.csub_flat.specs.Scopes.{globals_at, function_at};
-ghost use Rattle.csub_flat.specs.Seen.{variable_seen, expr_seen, arg_seen};
+ghost use Rattle.csub_flat.specs.Seen.{form_seen, variable_seen, part_seen, place_seen, expr_seen, arg_seen};
 
-use crate::flat::{FlatArg, FlatExpr, FlatVariable};
-use crate::places::{find_local, find_param, params_size};
+use crate::flat::{FlatArg, FlatExpr, FlatPart, FlatPlace, FlatVariable, Form};
+use crate::places::{find_local, find_param, params_size, slots_before, slots_of};
 use crate::scope::Scope;
-use csub_objects::number_kind;
+use csub_objects::{array_length, first_cell, member_type, number_kind};
 use csub_semantics::{CType, Function, IntKind, Member, Owner, Place, RArg, RExpr, RInit, Text};
+use csub_validity::places::place_type;
 use std::alloc::{AllocError, Global};
 
 /// The slot of an object in a frame of its function; 0 where there is no such object, as in no valid program.
@@ -54,15 +58,25 @@ fn global_slot(scope: Scope<'_>, name: &Text) -> u32
     }
 }
 
+/// What is at a place of a type.
+fn form_of(ctype: &CType) -> Form
+    ensures { form_seen result ≡ form_of (type_tree ctype.now) }
+{
+    Form {
+        kind: number_kind(ctype),
+        length: array_length(ctype),
+    }
+}
+
 /// An object with its slot.
 pub fn flatten_object(scope: Scope<'_>, owner: &Owner, ctype: &CType) -> FlatVariable
     ensures { variable_seen result ≡ flat_variable (globals_at scope.entry) (function_at scope.entry) (object (owner_tree owner.now) (type_tree ctype.now)) }
 {
-    let kind = number_kind(ctype);
+    let form = form_of(ctype);
     match owner {
-        Owner::Global(name) => FlatVariable::Global(global_slot(scope, name), kind),
+        Owner::Global(name) => FlatVariable::Global(global_slot(scope, name), form),
         Owner::Local(name, number) => {
-            FlatVariable::Frame(object_slot(scope.function, name.bytes(), *number), kind)
+            FlatVariable::Frame(object_slot(scope.function, name.bytes(), *number), form)
         }
     }
 }
@@ -71,36 +85,104 @@ pub fn flatten_object(scope: Scope<'_>, owner: &Owner, ctype: &CType) -> FlatVar
 pub fn flatten_temporary(scope: Scope<'_>, number: u32, kind: IntKind) -> FlatVariable
     ensures { variable_seen result ≡ flat_variable (globals_at scope.entry) (function_at scope.entry) (temporary number kind) }
 {
-    FlatVariable::Frame(temporary_slot(scope, number), kind)
+    let form = Form { kind, length: 0 };
+    FlatVariable::Frame(temporary_slot(scope, number), form)
 }
 
-fn flatten_place(scope: Scope<'_>, place: &Place) -> FlatVariable
-    ensures { variable (variable_seen result) ≡ flat_place (globals_at scope.entry) (function_at scope.entry) (place_tree place.now) }
+/// A part of a type with so many slots, or behind so many; where there is no such part, as in no valid program, one of
+/// an `int`.
+fn part_of(slots: u32, ctype: Option<&CType>) -> FlatPart
+    ensures { part_seen result ≡ part_of slots (option_map (λ t. type_tree t.now) ctype.entry) }
 {
-    let Place::Var(owner, ctype) = place;
-    flatten_object(scope, owner, ctype)
+    let form = match ctype {
+        Some(found) => form_of(found),
+        None => Form {
+            kind: IntKind::Int,
+            length: 0,
+        },
+    };
+    FlatPart { slots, form }
+}
+
+/// An element, with as many slots as it has cells.
+fn element_part(scope: Scope<'_>, element: &Place) -> FlatPart
+    requires { FitsPlace (globals_at scope) (function_at scope) (place_tree element.now) }
+    ensures { part_seen result ≡ element_part (place_type (place_tree element.now)) }
+{
+    let ctype = place_type(element);
+    let slots = match ctype {
+        Some(found) => slots_of(found),
+        None => 0,
+    };
+    part_of(slots, ctype)
+}
+
+/// A member of a struct's place, behind the members before it.
+fn member_part(scope: Scope<'_>, whole: &Place, name: &Text) -> FlatPart
+    requires { FitsPlace (globals_at scope) (function_at scope) (place_tree whole.now) }
+    ensures { part_seen result ≡ member_part name.now (place_type (place_tree whole.now)) }
+{
+    match place_type(whole) {
+        Some(ctype) => part_of(slots_before(ctype, name), member_type(ctype, name.bytes())),
+        None => part_of(0, None),
+    }
+}
+
+/// The flat copy of a place. An `Err` is want of memory.
+#[cycle(flattening)]
+fn flatten_place(alloc: Global, scope: Scope<'_>, place: &Place) -> Result<FlatPlace, AllocError>
+    requires { FitsPlace (globals_at scope) (function_at scope) (place_tree place.now) }
+    ensures { IfOk result (λ made. place_seen made ≡ flat_place (globals_at scope.entry) (function_at scope.entry) (place_tree place.now)) }
+{
+    match place {
+        Place::Var(owner, ctype) => Ok(FlatPlace::Variable(flatten_object(scope, owner, ctype))),
+        Place::Index(array, index) => {
+            let part = element_part(scope, place);
+            let new_array = flatten_boxed_place(alloc, scope, array)?;
+            Ok(FlatPlace::Element(part, new_array, flatten_boxed(alloc, scope, index)?))
+        }
+        Place::Member(whole, name) => {
+            let part = member_part(scope, whole, name);
+            Ok(FlatPlace::Member(part, flatten_boxed_place(alloc, scope, whole)?))
+        }
+    }
+}
+
+#[cycle(flattening)]
+fn flatten_boxed_place(
+    alloc: Global,
+    scope: Scope<'_>,
+    place: &Place,
+) -> Result<Box<FlatPlace>, AllocError>
+    requires { FitsPlace (globals_at scope) (function_at scope) (place_tree place.now) }
+    ensures { IfOk result (λ made. place_seen made.value ≡ flat_place (globals_at scope.entry) (function_at scope.entry) (place_tree place.now)) }
+{
+    let made = flatten_place(alloc, scope, place)?;
+    Ok(Box::new(alloc, made)?)
 }
 
 /// The flat copy of an expression. An `Err` is want of memory.
 #[cycle(flattening)]
 pub fn flatten_expr(alloc: Global, scope: Scope<'_>, expr: &RExpr) -> Result<FlatExpr, AllocError>
+    requires { FitsExpr (globals_at scope) (function_at scope) (expr_tree expr.now) }
     ensures { IfOk result (λ made. expr_seen made ≡ flattened (globals_at scope.entry) (function_at scope.entry) (expr_tree expr.now)) }
 {
     match expr {
         RExpr::Const(kind, value) => Ok(FlatExpr::Const(*kind, *value)),
         RExpr::Getchar => Ok(FlatExpr::Getchar),
         RExpr::Putchar(byte) => Ok(FlatExpr::Putchar(flatten_boxed(alloc, scope, byte)?)),
-        RExpr::Read(place) => Ok(FlatExpr::Read(flatten_place(scope, place))),
+        RExpr::Read(place) => Ok(FlatExpr::Read(flatten_place(alloc, scope, place)?)),
         RExpr::Temp(number, kind) => {
-            Ok(FlatExpr::Read(flatten_temporary(scope, *number, *kind)))
+            let variable = flatten_temporary(scope, *number, *kind);
+            Ok(FlatExpr::Read(FlatPlace::Variable(variable)))
         }
-        RExpr::Step(op, place) => Ok(FlatExpr::Step(*op, flatten_place(scope, place))),
+        RExpr::Step(op, place) => Ok(FlatExpr::Step(*op, flatten_place(alloc, scope, place)?)),
         RExpr::Assign(place, value) => {
-            let target = flatten_place(scope, place);
+            let target = flatten_place(alloc, scope, place)?;
             Ok(FlatExpr::Assign(target, flatten_boxed(alloc, scope, value)?))
         }
         RExpr::Update(place, op, kind, value) => {
-            let target = flatten_place(scope, place);
+            let target = flatten_place(alloc, scope, place)?;
             Ok(FlatExpr::Update(target, *op, *kind, flatten_boxed(alloc, scope, value)?))
         }
         RExpr::Unary(op, kind, operand) => {
@@ -136,6 +218,7 @@ pub fn flatten_expr(alloc: Global, scope: Scope<'_>, expr: &RExpr) -> Result<Fla
 
 #[cycle(flattening)]
 fn flatten_boxed(alloc: Global, scope: Scope<'_>, expr: &RExpr) -> Result<Box<FlatExpr>, AllocError>
+    requires { FitsExpr (globals_at scope) (function_at scope) (expr_tree expr.now) }
     ensures { IfOk result (λ made. expr_seen made.value ≡ flattened (globals_at scope.entry) (function_at scope.entry) (expr_tree expr.now)) }
 {
     let made = flatten_expr(alloc, scope, expr)?;
@@ -150,7 +233,8 @@ pub fn flatten_args(
     params: &[Member],
     args: &[RArg],
 ) -> Result<Vec<FlatArg>, AllocError>
-    requires { frame_size (function_tree callee.now) ≤ 4096 }
+    requires size { frame_size (function_tree callee.now) ≤ 4096 }
+    requires fits { All (FitsArg (globals_at scope) (function_at scope)) (map arg_tree args.now) }
     ensures { IfOk result (λ made. map arg_seen made.items ≡ paired (globals_at scope.entry) (function_at scope.entry) (function_tree callee.now) (map member_tree params.now) (map arg_tree args.now)) }
 {
     let mut made = Vec::new(alloc);
@@ -172,15 +256,16 @@ fn flatten_arg(
     param: &Member,
     arg: &RArg,
 ) -> Result<FlatArg, AllocError>
-    requires { frame_size (function_tree callee.now) ≤ 4096 }
+    requires size { frame_size (function_tree callee.now) ≤ 4096 }
+    requires fits { FitsArg (globals_at scope) (function_at scope) (arg_tree arg.now) }
     ensures { IfOk result (λ made. arg_seen made ≡ record { param = flat_parameter (function_tree callee.now) (member_tree param.now); value = flat_arg (globals_at scope.entry) (function_at scope.entry) (arg_tree arg.now) }) }
 {
     let RArg::Value(expr) = arg;
     let slot = object_slot(callee, param.name.bytes(), 1);
-    let kind = number_kind(&param.ctype);
+    let form = form_of(&param.ctype);
     let value = flatten_expr(alloc, scope, expr)?;
     Ok(FlatArg {
-        param: FlatVariable::Frame(slot, kind),
+        param: FlatVariable::Frame(slot, form),
         value,
     })
 }
@@ -193,9 +278,10 @@ pub fn flatten_init(
     ctype: &CType,
     init: &RInit,
 ) -> Result<FlatExpr, AllocError>
+    requires { FitsInit (globals_at scope) (function_at scope) (init_tree init.now) }
     ensures { IfOk result (λ made. expr_seen made ≡ flat_init (globals_at scope.entry) (function_at scope.entry) (owner_tree owner.now) (type_tree ctype.now) (init_tree init.now)) }
 {
     let RInit::One(expr) = init;
-    let target = flatten_object(scope, owner, ctype);
+    let target = FlatPlace::Variable(flatten_object(scope, owner, ctype));
     Ok(FlatExpr::Assign(target, flatten_boxed(alloc, scope, expr)?))
 }

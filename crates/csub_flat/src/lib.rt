@@ -6,8 +6,8 @@
 //!
 //! What is promised of the code: [`flatten_program`] gives for each point of a valid program a copy of its label, in
 //! which every object has its place in the frame of its function or among the globals, and the counts of slots of the
-//! globals and of the greatest frame (`IsFlatOf` of `specs/Copies`). Proofs above cite `proofs/LawsSites`, points and functions by their numbers and
-//! names, and `proofs/LawsOrder`, numbers in order.
+//! globals and of the greatest frame (`IsFlatOf` of `specs/Copies`). Proofs above cite `proofs/LawsSites`, points and
+//! functions by their numbers and names; `proofs/LawsOrder`, numbers in order; and `proofs/LawsSized`, the types of places.
 #![tactic(auto)]
 
 pub mod flat;
@@ -17,5 +17,5 @@ mod places;
 pub mod program;
 mod scope;
 
-pub use flat::{FlatArg, FlatCall, FlatExpr, FlatLabel, FlatVariable};
+pub use flat::{FlatArg, FlatCall, FlatExpr, FlatLabel, FlatPart, FlatPlace, FlatVariable, Form};
 pub use program::{FlatProgram, Sizes, first_slots, flatten_program};

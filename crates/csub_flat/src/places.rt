@@ -1,15 +1,16 @@
 //! The slots of objects among others, one after another.
 ghost use Rattle.std.specs.Prelude.{◌≡◌, ◌&&◌, ◌≤◌, nat_eq, map, IfSome};
 ghost use Rattle.std.specs.Option.{option_map};
-ghost use Rattle.csub_objects.specs.Types.{cells};
+ghost use Rattle.csub_objects.specs.Types.{cells, first_cell, IsSized};
 ghost use Rattle.csub_objects.specs.Meaning.{type_tree};
 ghost use Rattle.csub_objects.specs.Paths.{Inside};
 ghost use Rattle.csub_semantics.specs.Types.{name_eq};
 ghost use Rattle.csub_semantics.specs.Syntax.{local_tree};
 ghost use Rattle.csub_flat.specs.Frames.{place_in, objects_size, as_object};
+ghost use Rattle.csub_flat.specs.Flatten.{cell_or};
 
-use csub_objects::{CType, cells};
-use csub_semantics::{LocalVar, Member};
+use csub_objects::{CType, cells, first_cell};
+use csub_semantics::{LocalVar, Member, Text};
 
 /// How many slots an object of a type has.
 pub fn slots_of(ctype: &CType) -> u32
@@ -17,6 +18,17 @@ pub fn slots_of(ctype: &CType) -> u32
     ensures { result ≡ cells (type_tree ctype.now) }
 {
     cells(ctype) as u32
+}
+
+/// How many slots of a struct are before its member of a name; 0 where there is no such member, as in no valid program.
+pub fn slots_before(ctype: &CType, name: &Text) -> u32
+    requires { IsSized (type_tree ctype.now) }
+    ensures { result ≡ cell_or (first_cell name.now (type_tree ctype.now)) }
+{
+    match first_cell(ctype, name.bytes()) {
+        Some(before) => before as u32,
+        None => 0,
+    }
 }
 
 /// The slot of a parameter among parameters.

@@ -2,6 +2,7 @@
 use Rattle.std.proofs.Common.{◌≡◌, ◌<◌, ◌≤◌, ◌+◌, ◌*◌, ◌∙◌, get_or, ℕ, ℤ, List, [], ◌∷◌, ◌++◌, map, length, reverse, All, Option, Some, None, refl, ap, sym, subst, arith}
 use Rattle.std.specs.Option.{option_map}
 use Rattle.std.proofs.lemmas.List.{length-map, length-append, length-reverse, reverse-append}
+use Rattle.std.proofs.Math.Nat.{mul-le-mul_right}
 use Rattle.std.proofs.lemmas.List.Elements.{All-map, All-push, All-nil, All-cons, All-head, All-tail}
 use Rattle.csub_semantics.specs.declared.status.Status.{Status}
 use Rattle.csub_objects.specs.Types.{Name}
@@ -17,11 +18,13 @@ use Rattle.csub_machine.specs.Crossed.{edge_of}
 use Rattle.csub_flat.specs.Sites.{place_of, site_or}
 use Rattle.csub_flat.specs.Frames.{objects_size, frame_size, globals_of}
 use Rattle.csub_slots.specs.Layout.{live_size}
+use Rattle.csub_slots.specs.Memory.{most_slot}
 use Rattle.csub_flat.specs.Fits.{FitsLabel, FitsTemp}
 use Rattle.csub_slots.specs.Acts.{FlatStore, FlatOutcome, leaves, pushes, pops, ends, flat_act, flat_result}
 use Rattle.csub_flat.specs.Trees.{FlatCall, FlatLabel, enters_callee}
 use Rattle.csub_flat.specs.Flatten.{temp_slot}
-use Rattle.csub_flat.specs.Copies.{IsFlat, IsFlatCall, IsCopyAt}
+use Rattle.csub_flat.specs.Copies.{IsFlat, IsFlatCall, IsCopyAt, IsFlatOf}
+use Rattle.csub_flat.specs.declared.program.FlatProgram.{FlatProgram}
 use Rattle.csub_slots.specs.Like.{Like}
 use Rattle.csub_slots.proofs.LawsFrames.{result_stands}
 use Rattle.csub_slots.proofs.LawsActs.{LikeOutcome, act_like, left, pushed, popped, ended}
@@ -66,7 +69,7 @@ module _ (P : ProgramTree) where
   same_function : (f g : Frame) → (place_of P f.point).function ≡ (place_of P g.point).function → live_function P f ≡ live_function P g
   same_function f g e = ap (λ (n : Name). function_or (function_of P n)) e
 
-  module _ (frames : Frames) (n cnt : ℕ) (ready : AreFrames P frames n) (m : FlatLabel) (k : IsCopyAt P frames.top.point m) (s : Store) (s' : FlatStore) (counted : cnt ≡ length frames.below.items + 1) (like : Like (globals_of P) (live_of P frames) s s') where
+  module _ (frames : Frames) (n cnt : ℕ) (ready : AreFrames P frames n) (small : live_size (globals_of P) (live_of P frames) ≤ most_slot) (m : FlatLabel) (k : IsCopyAt P frames.top.point m) (s : Store) (s' : FlatStore) (counted : cnt ≡ length frames.below.items + 1) (like : Like (globals_of P) (live_of P frames) s s') where
     abbrev items : List Frame
     items = frames.below.items
 
@@ -84,7 +87,7 @@ module _ (P : ProgramTree) where
         (subst (λ (j : ℕ). LikeOutcome P f (live_below P items) (act k.label (j + 1) r s) (flat_act m (length items + 1) frames.top.base r s')) (sym (length_below items))
         (subst (λ (b : ℕ). LikeOutcome P f (live_below P items) (act k.label (length items + 1) r s) (flat_act m (length items + 1) b r s')) (sym ready.based.0)
         (subst (λ (j : ℕ). LikeOutcome P f (live_below P items) (act k.label (j + 1) r s) (flat_act m (j + 1) (live_size (globals_of P) (live_below P items)) r s')) (length_live items)
-        (act_like P f (live_below P items) k.label m r s s' (subst (λ (g : FunctionTree). FitsLabel P g k.label) (sym function_is) k.fits) (subst (λ (g : FunctionTree). IsFlat P g k.label m) (sym function_is) k.copy) like))))
+        (act_like P f (live_below P items) small k.label m r s s' (subst (λ (g : FunctionTree). FitsLabel P g k.label) (sym function_is) k.fits) (subst (λ (g : FunctionTree). IsFlat P g k.label m) (sym function_is) k.copy) like))))
 
     turned : turn F (standing_of P frames s) ≡ follow F top (below_of P items) (act k.label (length (below_of P items) + 1) frames.top.result s)
     turned = ap (turn_at F top (below_of P items) s) k.labelled
@@ -243,3 +246,13 @@ module _ (P : ProgramTree) where
         let whole = ready.count in
         let scaled = ap (λ k. k * most) count in
         omega arith
+
+  -- so few that each slot has a number
+  pub lives_few : (flat : FlatProgram) → IsFlatOf P flat → (frames : Frames) (n : ℕ) → AreFrames P frames n → live_size (globals_of P) (live_of P frames) ≤ most_slot
+  lives_few flat copies frames n ready =
+      let most = flat.sizes.most in
+      let room = lives_room most copies.most frames n ready in
+      let few = ready.few in
+      let scaled : (length frames.below.items + 1) * most ≤ 256 * most = mul-le-mul_right most few in
+      let globals = copies.globals in let fewer = copies.few in let small = copies.small in let whole = ready.count in
+      omega arith

@@ -96,7 +96,8 @@ Crosses P t (Stops status) at = t ≡ the.stops status at.store
 Crosses P t Lost at = t ≡ the.lost
 
 -- the frame of a call goes on, above others of these functions
-pub record ResumesTo (P : ProgramTree) (t : the.Turn) (e : Option ℕ) (top : Frame) (below : List the.Frame) (fs : List FunctionTree) (s' : FlatStore) : Type 0 where
+pub record ResumesTo (P : ProgramTree) (t : the.Turn) (e : Option ℕ) (top : Frame) (below : List the.Frame) (fs : List FunctionTree)
+    (s' : FlatStore) : Type 0 where
   pub store : Store
   pub goes : t ≡ the.goes (edge_of P e) (record { frames = frame_of P top ∷ below; store = store })
   pub like : Like (globals_of P) (live_function P top ∷ fs) store s'

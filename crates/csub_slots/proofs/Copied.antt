@@ -1,24 +1,26 @@
 -- A flat copy is like the tree whose names have places.
 use Rattle.std.proofs.lemmas.Bool.{eq-eqb}
-use Rattle.std.proofs.Common.{ℕ, ◌+◌, ◌≡◌, List, [], ◌∷◌, length, true, Some, if◌then◌else◌, refl, sym, ◌∙◌, ap, subst}
+use Rattle.std.proofs.Common.{ℕ, ◌+◌, ◌≡◌, List, [], ◌∷◌, length, Bool, true, false, Option, Some, None, option_map, bytes_eq, if◌then◌else◌, refl, sym, ◌∙◌, ap, subst}
 use Rattle.csub_types.specs.declared.kind.IntKind.{IntKind}
 use Rattle.csub_types.specs.declared.kind.IntKind.TheVariants.{Int}
-use Rattle.csub_objects.specs.Types.{Name, TypeTree, number_type, array_type, struct_type, loose_type, IsNumber, number_kind}
-use Rattle.csub_semantics.specs.Trees.{NamedPlace, NamedExpr, Variable, variable, object, temporary, global_owner, local_owner, constant, reading}
-use Rattle.csub_semantics.specs.Trees.{unary_operation, conversion, stepping, operation, conjunction, disjunction, choice, assignment, update}
-use Rattle.csub_semantics.specs.Trees.{input_byte, output_byte}
+use Rattle.csub_objects.specs.Types.{Name, TypeTree, number_type, array_type, struct_type, loose_type, MemberTrees, no_member, more_members, IsNumber, IsSized}
+use Rattle.csub_objects.specs.Types.{element_type, member_type, find_member, find_cell, cells}
+use Rattle.csub_objects.specs.Paths.{Inside, inside_at, moved}
+use Rattle.csub_semantics.specs.Trees.{NamedPlace, variable, element_place, member_place, NamedExpr, Variable, object, temporary, global_owner, local_owner}
+use Rattle.csub_semantics.specs.Trees.{constant, reading, unary_operation, conversion, stepping, operation, conjunction, disjunction, choice}
+use Rattle.csub_semantics.specs.Trees.{assignment, update, input_byte, output_byte}
 use Rattle.csub_semantics.specs.Syntax.{LocalTree, FunctionTree}
 use Rattle.csub_semantics.specs.Cells.{Root, global_root, local_root, temp_root, type_of, of_frame}
-use Rattle.csub_validity.specs.Valid.{objects_of}
-use Rattle.csub_slots.proofs.Evals.{LikePlace, like_variable, LikeExpr, like_constant, like_reading, like_unary, like_conversion, like_stepping}
-use Rattle.csub_slots.proofs.Evals.{like_operation, like_conjunction, like_disjunction, like_choice, like_assignment, like_update, like_input, like_output}
-use Rattle.csub_objects.specs.Paths.{Inside, inside_at, moved}
+use Rattle.csub_validity.specs.Valid.{objects_of, place_type, IsNumberAt}
 use Rattle.csub_flat.specs.Frames.{plain, objects_size, place_in, temporary_place, frame_place}
-use Rattle.csub_slots.specs.Layout.{live_size, live}
-use Rattle.csub_flat.specs.Trees.{FlatVariable, frame_slot, global_slot}
-use Rattle.csub_slots.proofs.Memories.{SameVariable, same_number, same_global}
-use Rattle.csub_flat.specs.Flatten.{slot_or, temp_slot, flat_variable, flat_place, flattened}
+use Rattle.csub_flat.specs.Trees.{FlatVariable, frame_slot, global_slot, FlatPart, FlatPlace}
+use Rattle.csub_flat.specs.Flatten.{slot_or, temp_slot, form_of, part_of, cell_or, element_part, member_part, flat_variable, flat_place, flattened}
 use Rattle.csub_flat.specs.Fits.{HasPlace, FitsPlace, FitsExpr}
+use Rattle.csub_flat.proofs.LawsSized.{part_found, place_sized}
+use Rattle.csub_slots.specs.Layout.{live_size, live}
+use Rattle.csub_slots.proofs.Evals.{LikePlace, like_variable, like_element, like_member, LikeExpr, like_constant, like_reading, like_unary, like_conversion}
+use Rattle.csub_slots.proofs.Evals.{like_stepping, like_operation, like_conjunction, like_disjunction, like_choice, like_assignment, like_update, like_input, like_output}
+use Rattle.csub_slots.proofs.Memories.{IsWhole, SameVariable, same_frame, same_global, SameElement, same_element, SameMember, same_member}
 
 module _ (gs : List LocalTree) where
   -- where a root of the top frame is, and where a global is
@@ -30,63 +32,101 @@ module _ (gs : List LocalTree) where
   global_lives [] a = refl
   global_lives (f ∷ below) a = global_lives below a
 
+-- what is at a place of a number
+number_at : (o : Option TypeTree) → IsNumberAt o → (t : TypeTree) × (o ≡ Some t) × IsNumber t
+number_at None n = absurd n
+number_at (Some t) n = (t, refl, n)
+
+-- no array parameter is a type that an object may have
+sized_whole : (t : TypeTree) → IsSized t → IsWhole t
+sized_whole (number_type k) h = tt
+sized_whole (array_type t n) h = tt
+sized_whole (struct_type tag ms) h = tt
+sized_whole (loose_type t) h = absurd h.arrays
+
+-- what has elements is an array
+array_has : (w t : TypeTree) (u : Unit {0}) → IsSized w → element_type w ≡ Some t → SameElement w t u (element_part (Some t))
+array_has (number_type k) t u h e = cc
+array_has (array_type v n) t u h e = let is : v ≡ t = cc in subst (λ (x : TypeTree). SameElement (array_type x n) t u (element_part (Some t))) (sym is) same_element
+array_has (struct_type tag ms) t u h e = cc
+array_has (loose_type v) t u h e = absurd h.arrays
+
+-- a member that is found has a first cell
+cell_found : (ms : MemberTrees) (a : Name) (t : TypeTree) → find_member a ms ≡ Some t → (k : ℕ) × (find_cell a ms ≡ Some k)
+cell_found no_member a t e = cc
+cell_found (more_members x u rest) a t e = pick (bytes_eq x a) e (λ g. cell_found rest a t g)
+  where
+    pick : (b : Bool) → (if b then Some u else find_member a rest) ≡ Some t → (find_member a rest ≡ Some t → (k : ℕ) × (find_cell a rest ≡ Some k))
+        → (k : ℕ) × ((if b then Some 0 else option_map (λ n. cells u + n) (find_cell a rest)) ≡ Some k)
+    pick true g later = (0, refl)
+    pick false g later = let w = later g in (cells u + w.0, ap (option_map (λ n. cells u + n)) w.1)
+
+-- what has members is a struct
+struct_has : (w t : TypeTree) (a : Name) → member_type a w ≡ Some t → SameMember w t a (member_part a (Some w))
+struct_has (number_type k) t a e = cc
+struct_has (array_type v n) t a e = cc
+struct_has (struct_type tag ms) t a e =
+    let c = cell_found ms a t e in
+    subst (λ (p : FlatPart). SameMember (struct_type tag ms) t a p)
+    (sym (ap (λ (o : Option ℕ). part_of (cell_or o) (find_member a ms)) c.1 ∙ ap (part_of c.0) e))
+    (same_member c.0 e c.1)
+struct_has (loose_type v) t a e = cc
+
 module _ (gs : List LocalTree) (f : FunctionTree) (below : List FunctionTree) where
   abbrev pub Same : TypeTree → Variable → FlatVariable → Type 0
   Same t v v' = SameVariable (live gs (f ∷ below)) (length below) (live_size gs below) t v v'
 
-  -- a number's place, by its slot
-  global_number : (a : Name) (k : IntKind) → (s : ℕ) × (place_in gs a 0 ≡ Some (inside_at s (number_type Int)))
-      → Same (number_type k) (object (global_owner a) (number_type k)) (global_slot (slot_or (place_in gs a 0)) k)
-  global_number a k (s, p) =
-      subst (λ (n : ℕ). Same (number_type k) (object (global_owner a) (number_type k)) (global_slot n k)) (sym (ap slot_or p))
-      (same_global s k refl (global_lives gs (f ∷ below) a ∙ p))
+  global_flat : (a : Name) (t : TypeTree) → IsWhole t → (s : ℕ) × (place_in gs a 0 ≡ Some (inside_at s (plain t)))
+      → Same t (object (global_owner a) t) (global_slot (slot_or (place_in gs a 0)) (form_of t))
+  global_flat a t w (s, p) =
+      subst (λ (n : ℕ). Same t (object (global_owner a) t) (global_slot n (form_of t))) (sym (ap slot_or p))
+      (same_global s w (global_lives gs (f ∷ below) a ∙ p))
 
-  global_flat : (a : Name) (t : TypeTree) → IsNumber t → (s : ℕ) × (place_in gs a 0 ≡ Some (inside_at s (plain t)))
-      → Same t (object (global_owner a) t) (global_slot (slot_or (place_in gs a 0)) (number_kind t))
-  global_flat a (number_type k) n h = global_number a k h
-  global_flat a (array_type t m) n h = absurd n
-  global_flat a (struct_type tag ms) n h = absurd n
-  global_flat a (loose_type t) n h = absurd n
-
-  local_number : (a : Name) (n : ℕ) (k : IntKind) → (s : ℕ) × (place_in (objects_of f) a n ≡ Some (inside_at s (number_type Int)))
-      → Same (number_type k) (object (local_owner a n) (number_type k)) (frame_slot (slot_or (place_in (objects_of f) a n)) k)
-  local_number a n k (s, p) =
-      let own = eq-eqb (length below) (length below) refl in
-      subst (λ (m : ℕ). Same (number_type k) (object (local_owner a n) (number_type k)) (frame_slot m k)) (sym (ap slot_or p))
-      (same_number s k refl (frame_lives gs f below (local_root (length below) a n) (inside_at s (number_type Int)) own p))
-
-  local_flat : (a : Name) (n : ℕ) (t : TypeTree) → IsNumber t → (s : ℕ) × (place_in (objects_of f) a n ≡ Some (inside_at s (plain t)))
-      → Same t (object (local_owner a n) t) (frame_slot (slot_or (place_in (objects_of f) a n)) (number_kind t))
-  local_flat a n (number_type k) i h = local_number a n k h
-  local_flat a n (array_type t m) i h = absurd i
-  local_flat a n (struct_type tag ms) i h = absurd i
-  local_flat a n (loose_type t) i h = absurd i
+  local_flat : (a : Name) (n : ℕ) (t : TypeTree) → IsWhole t → (s : ℕ) × (place_in (objects_of f) a n ≡ Some (inside_at s (plain t)))
+      → Same t (object (local_owner a n) t) (frame_slot (slot_or (place_in (objects_of f) a n)) (form_of t))
+  local_flat a n t w (s, p) =
+      subst (λ (m : ℕ). Same t (object (local_owner a n) t) (frame_slot m (form_of t))) (sym (ap slot_or p))
+      (same_frame s w (frame_lives gs f below (local_root (length below) a n) (inside_at s (plain t)) (eq-eqb (length below) (length below) refl) p))
 
   temporary_flat : (n : ℕ) (k : IntKind) → (s : ℕ) × (temporary_place (objects_size (objects_of f)) f.temps n ≡ Some (inside_at s (number_type Int)))
-      → Same (number_type k) (temporary n k) (frame_slot (temp_slot f n) k)
+      → Same (number_type k) (temporary n k) (frame_slot (temp_slot f n) (form_of (number_type k)))
   temporary_flat n k (s, p) =
-      subst (λ (m : ℕ). Same (number_type k) (temporary n k) (frame_slot m k)) (sym (ap slot_or p))
-      (same_number s k refl (frame_lives gs f below (temp_root (length below) n) (inside_at s (number_type Int)) (eq-eqb (length below) (length below) refl) p))
+      subst (λ (m : ℕ). Same (number_type k) (temporary n k) (frame_slot m (form_of (number_type k)))) (sym (ap slot_or p))
+      (same_frame s tt (frame_lives gs f below (temp_root (length below) n) (inside_at s (number_type Int)) (eq-eqb (length below) (length below) refl) p))
 
-  variable_flat : (v : Variable) → IsNumber (type_of v) → HasPlace gs f v → Same (type_of v) v (flat_variable gs f v)
-  variable_flat (object (global_owner a) t) n h = global_flat a t n h
-  variable_flat (object (local_owner a m) t) n h = local_flat a m t n h
-  variable_flat (temporary m k) n h = temporary_flat m k h
+  variable_flat : (v : Variable) → IsWhole (type_of v) → HasPlace gs f v → Same (type_of v) v (flat_variable gs f v)
+  variable_flat (object (global_owner a) t) w h = global_flat a t w h
+  variable_flat (object (local_owner a m) t) w h = local_flat a m t w h
+  variable_flat (temporary m k) w h = temporary_flat m k h
 
-  place_flat : (p : NamedPlace) → FitsPlace gs f p → (t : TypeTree) × IsNumber t × LikePlace IsNumber Same t p (flat_place gs f p)
-  place_flat (variable v) (h, n) = (type_of v, n, like_variable (variable_flat v n h))
+  abbrev pub LikeCopy : TypeTree → NamedPlace → FlatPlace → Type 0
+  LikeCopy t p p' = LikePlace IsNumber Same SameElement SameMember t p p'
 
-  pub expr_flat : (e : NamedExpr) → FitsExpr gs f e → LikeExpr IsNumber Same e (flattened gs f e)
-  expr_flat (constant k v) h = like_constant
-  expr_flat (reading p) h = let q = place_flat p h in like_reading q.1 q.2
-  expr_flat (unary_operation op k a) h = like_unary (expr_flat a h)
-  expr_flat (conversion k a) h = like_conversion (expr_flat a h)
-  expr_flat (stepping op p) h = let q = place_flat p h in like_stepping q.1 q.2
-  expr_flat (operation op k a b) (h, g) = like_operation (expr_flat a h) (expr_flat b g)
-  expr_flat (conjunction a b) (h, g) = like_conjunction (expr_flat a h) (expr_flat b g)
-  expr_flat (disjunction a b) (h, g) = like_disjunction (expr_flat a h) (expr_flat b g)
-  expr_flat (choice k c a b) (h, g, i) = like_choice (expr_flat c h) (expr_flat a g) (expr_flat b i)
-  expr_flat (assignment p e) (h, g) = let q = place_flat p h in like_assignment q.1 q.2 (expr_flat e g)
-  expr_flat (update p op k e) (h, g) = let q = place_flat p h in like_update q.1 q.2 (expr_flat e g)
-  expr_flat input_byte h = like_input
-  expr_flat (output_byte e) h = like_output (expr_flat e h)
+  mutual
+    place_flat : (p : NamedPlace) (t : TypeTree) → FitsPlace gs f p → place_type p ≡ Some t → LikeCopy t p (flat_place gs f p)
+    place_flat (variable v) t (h, sized) e =
+        let is : type_of v ≡ t = cc in
+        subst (λ (x : TypeTree). LikeCopy x (variable v) (variable (flat_variable gs f v))) is (like_variable (variable_flat v (sized_whole (type_of v) sized) h))
+    place_flat (element_place u p i) t (h, g) e =
+        let w = part_found element_type (place_type p) t e in
+        subst (λ (o : Option TypeTree). LikeCopy t (element_place u p i) (element_place (element_part o) (flat_place gs f p) (flattened gs f i))) (sym e)
+        (like_element (array_has w.0 t u (place_sized gs f p w.0 h w.1) w.2) (place_flat p w.0 h w.1) (expr_flat i g))
+    place_flat (member_place a p) t h e =
+        let w = part_found (member_type a) (place_type p) t e in
+        subst (λ (o : Option TypeTree). LikeCopy t (member_place a p) (member_place (member_part a o) (flat_place gs f p))) (sym w.1)
+        (like_member (struct_has w.0 t a w.2) (place_flat p w.0 h w.1))
+
+    pub expr_flat : (e : NamedExpr) → FitsExpr gs f e → LikeExpr IsNumber Same SameElement SameMember e (flattened gs f e)
+    expr_flat (constant k v) h = like_constant
+    expr_flat (reading p) (n, h) = let q = number_at (place_type p) n in like_reading q.2 (place_flat p q.0 h q.1)
+    expr_flat (unary_operation op k a) h = like_unary (expr_flat a h)
+    expr_flat (conversion k a) h = like_conversion (expr_flat a h)
+    expr_flat (stepping op p) (n, h) = let q = number_at (place_type p) n in like_stepping q.2 (place_flat p q.0 h q.1)
+    expr_flat (operation op k a b) (h, g) = like_operation (expr_flat a h) (expr_flat b g)
+    expr_flat (conjunction a b) (h, g) = like_conjunction (expr_flat a h) (expr_flat b g)
+    expr_flat (disjunction a b) (h, g) = like_disjunction (expr_flat a h) (expr_flat b g)
+    expr_flat (choice k c a b) (h, g, i) = like_choice (expr_flat c h) (expr_flat a g) (expr_flat b i)
+    expr_flat (assignment p e) (n, h, g) = let q = number_at (place_type p) n in like_assignment q.2 (place_flat p q.0 h q.1) (expr_flat e g)
+    expr_flat (update p op k e) (n, h, g) = let q = number_at (place_type p) n in like_update q.2 (place_flat p q.0 h q.1) (expr_flat e g)
+    expr_flat input_byte h = like_input
+    expr_flat (output_byte e) h = like_output (expr_flat e h)

@@ -6,7 +6,7 @@ use Rattle.csub_semantics.specs.Evaluation.{eval}
 use Rattle.csub_slots.specs.Layout as layout
 use Rattle.csub_slots.specs.Memory.{flat}
 use Rattle.csub_slots.specs.Acts.{FlatStore, flat_arguments, flat_entered}
-use Rattle.csub_flat.specs.Trees.{FlatArg, variable_kind}
+use Rattle.csub_flat.specs.Trees.{FlatArg, variable_form}
 use Rattle.csub_slots.specs.declared.slot.Slot.{Slot}
 use Rattle.csub_slots.specs.declared.slot.Slot.TheVariants.{Empty}
 use Rattle.csub_flat.specs.declared.flat.FlatArg.{FlatArg as CodeArg}
@@ -58,20 +58,20 @@ grown old new r n len size e ok el en =
 
 -- one argument more
 pub args_more : (base : ℕ) (args : List CodeArg) (i : ℕ) (a : CodeArg) (made new : List ℤ) (v w : ℤ) (s t : FlatStore) (whole : Answer (List ℤ) FlatStore)
-    → i < length args → a ≡ get_or args i a → eval (flat base) (expr_seen a.value) s ≡ value v t → w ≡ convert (variable_kind (variable_seen a.param)) v → new ≡ made ++ w ∷ []
+    → i < length args → a ≡ get_or args i a → eval (flat base) (expr_seen a.value) s ≡ value v t → w ≡ convert (variable_form (variable_seen a.param)).kind v → new ≡ made ++ w ∷ []
     → then_do (flat_arguments base (map arg_seen (drop i args)) s) (λ vs u. value (made ++ vs) u) ≡ whole
     → then_do (flat_arguments base (map arg_seen (drop (i + 1) args)) t) (λ vs u. value (new ++ vs) u) ≡ whole
 args_more base args i a made new v w s t whole h is e c n before =
     let rest = drop (i + 1) args in
     let split : drop i args ≡ a ∷ rest = drop-cons args i a h ∙ ap (λ (x : CodeArg). x ∷ drop (suc i) args) (sym is) ∙ ap (λ (k : ℕ). a ∷ drop k args) (sym (add-one i)) in
     later (flat_arguments base (map arg_seen rest) t)
-    ∙ sym (ap (λ (x : Answer ℤ FlatStore). then_do (then_do (then_do x (λ y z. value (convert (variable_kind (variable_seen a.param)) y) z)) (λ y z. then_do (flat_arguments base (map arg_seen rest) z) (λ vs u. value (y ∷ vs) u))) (λ vs u. value (made ++ vs) u)) e)
+    ∙ sym (ap (λ (x : Answer ℤ FlatStore). then_do (then_do (then_do x (λ y z. value (convert (variable_form (variable_seen a.param)).kind y) z)) (λ y z. then_do (flat_arguments base (map arg_seen rest) z) (λ vs u. value (y ∷ vs) u))) (λ vs u. value (made ++ vs) u)) e)
     ∙ sym (ap (λ (x : List CodeArg). then_do (flat_arguments base (map arg_seen x) s) (λ vs u. value (made ++ vs) u)) split)
     ∙ before
   where
-    later : (x : Answer (List ℤ) FlatStore) → then_do x (λ vs u. value (new ++ vs) u) ≡ then_do (then_do x (λ vs u. value (convert (variable_kind (variable_seen a.param)) v ∷ vs) u)) (λ vs u. value (made ++ vs) u)
+    later : (x : Answer (List ℤ) FlatStore) → then_do x (λ vs u. value (new ++ vs) u) ≡ then_do (then_do x (λ vs u. value (convert (variable_form (variable_seen a.param)).kind v ∷ vs) u)) (λ vs u. value (made ++ vs) u)
     later (value vs u) =
-        let both : new ++ vs ≡ made ++ convert (variable_kind (variable_seen a.param)) v ∷ vs =
+        let both : new ++ vs ≡ made ++ convert (variable_form (variable_seen a.param)).kind v ∷ vs =
         ap (λ (ws : List ℤ). ws ++ vs) n ∙ append_assoc made (w ∷ []) vs ∙ ap (λ (y : ℤ). made ++ y ∷ vs) c in
         ap (λ (ws : List ℤ). let x : Answer (List ℤ) FlatStore = value ws u in x) both
     later (trapped r u) = refl

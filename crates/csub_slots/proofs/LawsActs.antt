@@ -1,5 +1,5 @@
 -- Acts over slots are like acts over named cells.
-use Rattle.std.proofs.Common.{ℕ, ◌+◌, ◌-◌, ◌≡◌, ℤ, pos, List, [], ◌∷◌, ◌++◌, map, length, replicate, All, Bool, true, false, Option, Some, None, nat_le, int_eq, if◌then◌else◌, refl, sym, ◌∙◌, ap, subst, arith}
+use Rattle.std.proofs.Common.{ℕ, ◌+◌, ◌-◌, ◌≡◌, ◌≤◌, ℤ, pos, List, [], ◌∷◌, ◌++◌, map, length, replicate, All, Bool, true, false, Option, Some, None, nat_le, int_eq, if◌then◌else◌, refl, sym, ◌∙◌, ap, subst, arith}
 use Rattle.std.proofs.lemmas.List.Elements.{All-head, All-tail}
 use Rattle.csub_types.specs.declared.kind.IntKind.TheVariants.{Int}
 use Rattle.csub_types.specs.declared.trap.Trap.TheVariants.{Depth}
@@ -7,7 +7,7 @@ use Rattle.csub_semantics.specs.declared.label.EndRule.{EndRule}
 use Rattle.csub_semantics.specs.declared.label.EndRule.TheVariants.{Nothing, Value, Main, Start}
 use Rattle.csub_semantics.specs.declared.status.Status.{Status}
 use Rattle.csub_semantics.specs.declared.status.Status.TheVariants.{Trap}
-use Rattle.csub_objects.specs.Types.{Name, MemberTree, IsNumber}
+use Rattle.csub_objects.specs.Types.{Name, number_type, MemberTree, IsNumber}
 use Rattle.csub_semantics.specs.Trees.{NamedExpr, NamedArg, value_argument, reading, assignment, variable, object, temporary}
 use Rattle.csub_semantics.specs.Labels.{LabelTree, enters, exits, evaluates, initialises, branches, returns, calls, CallTree, InitTree, one_value}
 use Rattle.csub_semantics.specs.Syntax.{LocalTree, FunctionTree, ProgramTree}
@@ -22,15 +22,16 @@ use Rattle.csub_slots.proofs.Evals.{LikeAnswer, both_values, both_trapped, LikeM
 use Rattle.csub_slots.specs.Layout.{empty, StandsFor, live_size, live}
 use Rattle.csub_flat.specs.Sites.{IsEntry}
 use Rattle.csub_flat.specs.Frames.{frame_size, globals_of}
-use Rattle.csub_slots.specs.Memory.{flat}
+use Rattle.csub_slots.specs.Memory.{most_slot, flat}
 use Rattle.csub_flat.specs.Flatten.{flat_variable, flattened, flat_parameter, flat_arg, paired, flat_init}
 use Rattle.csub_flat.specs.Fits.{HasParam, FitsExpr, FitsArg, FitsRule, FitsCall, FitsLabel}
 use Rattle.csub_slots.specs.Acts.{FlatStore, FlatOutcome, leaves, pushes, pops, ends, flat_after, flat_argument, flat_arguments, flat_entered, flat_call, flat_leave, flat_exit, flat_act}
 use Rattle.csub_flat.specs.Trees.{FlatArg, FlatCall, FlatLabel}
 use Rattle.csub_flat.specs.Copies.{IsFlatCall, IsFlat}
+use Rattle.csub_flat.proofs.LawsSized.{number_sized}
 use Rattle.csub_slots.specs.Like.{Like, SameText}
 use Rattle.csub_slots.proofs.Layouts.{live_is_layout}
-use Rattle.csub_slots.proofs.Memories.{SameVariable, SameSpot, flat_like}
+use Rattle.csub_slots.proofs.Memories.{SameVariable, SameElement, SameMember, SameSpot, flat_like}
 use Rattle.csub_slots.proofs.Copied.{expr_flat}
 use Rattle.csub_slots.proofs.LawsFrames.{enter_stands, leave_stands, entered_stands}
 
@@ -41,7 +42,8 @@ pub data LikeOutcome (P : ProgramTree) (f : FunctionTree) (below : List Function
   both_pop : {r : Option ℤ} {s : Store} {s' : FlatStore} → Like (globals_of P) below s s' → LikeOutcome P f below (the.pops r s) (pops r s')
   both_end : {t : Status} {s : Store} {s' : FlatStore} → SameText s s' → LikeOutcome P f below (the.ends t s) (ends t s')
 
-module _ (P : ProgramTree) (f : FunctionTree) (below : List FunctionTree) where
+-- where no more slots are live than can be numbered
+module _ (P : ProgramTree) (f : FunctionTree) (below : List FunctionTree) (few : live_size (globals_of P) (f ∷ below) ≤ most_slot) where
   abbrev gs : List LocalTree
   gs = globals_of P
 
@@ -51,8 +53,8 @@ module _ (P : ProgramTree) (f : FunctionTree) (below : List FunctionTree) where
   abbrev base : ℕ
   base = live_size gs below
 
-  alike : LikeMemory IsNumber (SameVariable (live gs fs) (length below) base) (SameSpot (live gs fs)) (StandsFor (live gs fs) (live_size gs fs)) (named (length below)) (flat base)
-  alike = flat_like (live gs fs) (live_size gs fs) (live_is_layout gs fs) (length below) base
+  alike : LikeMemory IsNumber (SameVariable (live gs fs) (length below) base) SameElement SameMember (SameSpot (live gs fs)) (StandsFor (live gs fs) (live_size gs fs)) (named (length below)) (flat base)
+  alike = flat_like (live gs fs) (live_size gs fs) (live_is_layout gs fs) (length below) base few
 
   eval_like : (h : ℕ) (e : NamedExpr) (s : Store) (s' : FlatStore) → h ≡ length below → FitsExpr gs f e → Like gs fs s s' → LikeAnswer (λ (x y : ℤ). x ≡ y) (Like gs fs) (eval (named h) e s) (eval (flat base) (flattened gs f e) s')
   eval_like h e s s' same fit like =
@@ -83,7 +85,7 @@ module _ (P : ProgramTree) (f : FunctionTree) (below : List FunctionTree) where
   exit_like Main n None s s' same fit like = leave_like n (Some (pos 0)) s s' same like
   exit_like Main n (Some v) s s' same fit like = leave_like n (Some v) s s' same like
   exit_like Start n r s s' same fit like =
-      after_same (eval_like (n - 1) (reading (variable (temporary 1 Int))) s s' same (fit, tt) like) (λ v t t' l. both_end (record { input = l.input; output = l.output }))
+      after_same (eval_like (n - 1) (reading (variable (temporary 1 Int))) s s' same (tt, (fit, number_sized (number_type Int) tt)) like) (λ v t t' l. both_end (record { input = l.input; output = l.output }))
 
   argument_like : (h : ℕ) (g : FunctionTree) (p : MemberTree) (a : NamedArg) (s : Store) (s' : FlatStore) → h ≡ length below → FitsArg gs f a → Like gs fs s s'
       → LikeAnswer (λ (c : Content) (v : ℤ). c ≡ number v) (Like gs fs) (argument_content h p a s) (flat_argument base (record { param = flat_parameter g p; value = flat_arg gs f a }) s')

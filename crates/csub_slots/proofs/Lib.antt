@@ -7,6 +7,7 @@ mod Numbered
 mod Plain
 mod Layouts
 mod Places
+mod Parts
 mod Writes
 mod Evals
 mod Memories

@@ -14,7 +14,7 @@ use Rattle.csub_semantics.specs.Memory.{State, Answer, value, trapped, then_do, 
 use Rattle.csub_semantics.specs.Evaluation.{eval}
 use Rattle.csub_semantics.specs.Acts.{most_frames}
 use Rattle.csub_slots.specs.Layout.{Slot, empty, holding}
-use Rattle.csub_flat.specs.Trees.{FlatVariable, variable_kind, FlatArg, FlatCall, FlatLabel, goes_on, leaves_by, does, tests, answers, enters_callee}
+use Rattle.csub_flat.specs.Trees.{FlatVariable, variable_form, FlatArg, FlatCall, FlatLabel, goes_on, leaves_by, does, tests, answers, enters_callee}
 use Rattle.csub_slots.specs.Memory.{flat_spot, flat}
 
 -- input left, output so far and slots
@@ -39,7 +39,7 @@ flat_after (trapped t s) go = ends (Trap t) s
 
 -- what an argument gives to its parameter, converted to the declared kind (C11 6.5.2.2)
 abbrev pub flat_argument : ℕ → FlatArg → FlatStore → Answer ℤ FlatStore
-flat_argument base a s = then_do (eval (flat base) a.value s) (λ v t. value (convert (variable_kind a.param) v) t)
+flat_argument base a s = then_do (eval (flat base) a.value s) (λ v t. value (convert (variable_form a.param).kind v) t)
 
 -- the arguments of a call, from left to right
 abbrev pub flat_arguments : ℕ → List FlatArg → FlatStore → Answer (List ℤ) FlatStore

@@ -7,8 +7,9 @@ ghost use Rattle.csub_flat.specs.Seen.{variable_seen, arg_seen, call_seen, label
 ghost use Rattle.csub_slots.specs.Seen.{slot_seen};
 ghost use Rattle.csub_slots.specs.States.{state_of, Gives, Acts, Keeps, FitsMost};
 
-use crate::eval::{eval, locate, put_at, read};
+use crate::eval::{eval, fetch, put_at};
 use crate::slot::Slot;
+use crate::spot::stand;
 use crate::store::Store;
 use csub_flat::{FlatArg, FlatCall, FlatLabel, FlatVariable};
 use csub_semantics::{EndRule, ExitLabel, Status, Trap};
@@ -92,7 +93,7 @@ fn act_exit(
             Some(value) => Some(value),
         },
         EndRule::Start => {
-            let value = read(store, base, first)?;
+            let value = fetch(store, stand(base as usize, first))?;
             return Ok(Outcome::Ends(Status::Exit(value.rem_euclid(256) as u8)));
         }
     };
@@ -139,7 +140,7 @@ fn eval_args(store: &mut Store, base: u32, args: &[FlatArg]) -> Result<(), Trap>
     store.values.clear();
     for arg in args {
         let value = eval(store, base, &arg.value)?;
-        push_value(&mut store.values, convert(arg.param.kind(), value));
+        push_value(&mut store.values, convert(arg.param.form().kind, value));
     }
     Ok(())
 }
@@ -191,8 +192,8 @@ fn fill(store: &mut Store, base: usize, args: &[FlatArg])
             return;
         }
         let value = store.values[i];
-        let slot = locate(base, args[i].param);
-        put_at(store, slot, value);
+        let spot = stand(base, args[i].param);
+        put_at(store, spot.slot, value);
     }
 }
 

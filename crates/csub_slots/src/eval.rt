@@ -1,20 +1,20 @@
 //! What expressions give, over slots. Nothing here takes memory.
-ghost use Rattle.std.specs.Prelude.{◌≡◌, ◌≤◌, ◌+◌, map, length, pos, slice_index_or, slice_set, Ok};
+ghost use Rattle.std.specs.Prelude.{ℕ, ◌≡◌, map, pos, slice_index_or, slice_set, Ok};
 ghost use Rattle.csub_types.specs.Kinds.{promote, convert};
 ghost use Rattle.csub_types.specs.Arithmetic.{unary, binary};
-ghost use Rattle.csub_semantics.specs.Trees.{stepping, update, output_byte, variable};
 ghost use Rattle.csub_semantics.specs.Memory.{value, then_do, get_byte, put_byte, low_byte};
 ghost use Rattle.csub_semantics.specs.Evaluation as the;
-ghost use Rattle.csub_semantics.specs.Evaluation.{right_operand, computed, computed_unary, is_nonzero, eval, fetch};
+ghost use Rattle.csub_semantics.specs.Evaluation.{right_operand, is_nonzero, locate, eval, fetch};
 ghost use Rattle.csub_slots.specs.Layout as layout;
-ghost use Rattle.csub_slots.specs.Memory.{flat, flat_slot, flat_spot};
-ghost use Rattle.csub_flat.specs.Seen.{variable_seen, expr_seen};
-ghost use Rattle.csub_slots.specs.Seen.{slot_seen};
+ghost use Rattle.csub_slots.specs.Memory.{flat, spots};
+ghost use Rattle.csub_flat.specs.Seen.{place_seen, expr_seen};
+ghost use Rattle.csub_slots.specs.Seen.{slot_seen, spot_seen};
 ghost use Rattle.csub_slots.specs.States.{state_of, Gives, same, nothing, Keeps};
 
 use crate::slot::Slot;
+use crate::spot::{Spot, element, member, stand};
 use crate::store::Store;
-use csub_flat::{FlatExpr, FlatVariable};
+use csub_flat::{FlatExpr, FlatPlace};
 use csub_semantics::{BinOp, IntKind, StepOp, Trap, UnaryOp};
 use csub_types::arithmetic::{binary, unary};
 use csub_types::kind::{convert, promote};
@@ -70,17 +70,6 @@ pub fn put_at(store: &mut Store, at: usize, value: i64)
     set_slot(store.slots.as_mut_slice(), at, value);
 }
 
-/// Where a variable is among the slots, for the frame whose slots begin at a base.
-pub fn locate(base: usize, variable: FlatVariable) -> usize
-    requires { base ≤ 4294967295 }
-    ensures { result ≡ flat_slot base (variable_seen variable) }
-{
-    match variable {
-        FlatVariable::Frame(slot, _) => base + slot as usize,
-        FlatVariable::Global(slot, _) => slot as usize,
-    }
-}
-
 /// The next byte of the input, or -1 at its end (C11 7.21.7.6).
 fn next_byte(store: &mut Store) -> i64
     ensures value { get_byte (state_of store.old) (state_of store.old).input ≡ value result (state_of store.new) }
@@ -118,41 +107,61 @@ fn write_low(store: &mut Store, number: i64) -> Result<i64, Trap>
     Ok(i64::from(byte))
 }
 
-/// The number in a variable of the frame at a base.
-pub fn read(store: &Store, base: u32, variable: FlatVariable) -> Result<i64, Trap>
-    ensures { Gives same (fetch (flat base) (flat_spot base (variable_seen variable)) (state_of store.now)) result (state_of store.now) }
+/// The number at a spot, in the kind that is declared there; one that was never written is the trap `unset`.
+pub fn fetch(store: &Store, spot: Spot) -> Result<i64, Trap>
+    ensures { Gives same (fetch spots (spot_seen spot) (state_of store.now)) result (state_of store.now) }
 {
-    match slot_at(store.slots.as_slice(), locate(base as usize, variable)) {
-        Slot::Holding(value) => Ok(convert(variable.kind(), value)),
+    match slot_at(store.slots.as_slice(), spot.slot) {
+        Slot::Holding(value) => Ok(convert(spot.form.kind, value)),
         Slot::Empty => Err(Trap::Unset),
     }
 }
 
-/// A number goes into a variable, converted to its kind, and is given so.
-fn put(store: &mut Store, base: u32, variable: FlatVariable, number: i64) -> i64
-    ensures value { Gives same (the.store (flat base) (flat_spot base (variable_seen variable)) number (state_of store.old)) (Ok result) (state_of store.new) }
+/// A number goes to a spot, converted to the kind that is declared there, and is given so.
+fn put(store: &mut Store, spot: Spot, number: i64) -> i64
+    ensures value { Gives same (the.store spots (spot_seen spot) number (state_of store.old)) (Ok result) (state_of store.new) }
     ensures kept { Keeps store.old store.new }
 {
-    let stored = convert(variable.kind(), number);
-    put_at(store, locate(base as usize, variable), stored);
+    let stored = convert(spot.form.kind, number);
+    put_at(store, spot.slot, stored);
     stored
 }
 
-/// What `++` and `--` give at a variable (C11 6.5.2.4 and 6.5.3.1).
-fn step(store: &mut Store, base: u32, op: StepOp, spot: FlatVariable) -> Result<i64, Trap>
-    ensures value { Gives same (eval (flat base) (stepping op (variable (variable_seen spot))) (state_of store.old)) result (state_of store.new) }
+/// What `++` and `--` give at a spot (C11 6.5.2.4 and 6.5.3.1).
+fn step(store: &mut Store, op: StepOp, spot: Spot) -> Result<i64, Trap>
+    ensures value { Gives same (the.step spots op (spot_seen spot) (state_of store.old)) result (state_of store.new) }
     ensures kept { Keeps store.old store.new }
 {
-    let before = read(store, base, spot)?;
+    let before = fetch(store, spot)?;
     let by = match op {
         StepOp::PreUp | StepOp::PostUp => 1,
         StepOp::PreDown | StepOp::PostDown => -1,
     };
-    let value = compute(BinOp::Add, spot.kind(), before, by)?;
-    let after = put(store, base, spot, value);
+    let value = compute(BinOp::Add, spot.form.kind, before, by)?;
+    let after = put(store, spot, value);
     match op {
         StepOp::PreUp | StepOp::PreDown => Ok(after),
         StepOp::PostUp | StepOp::PostDown => Ok(before),
+    }
+}
+
+/// Where a place is for the frame at a base; an index comes behind the place that it stands on.
+#[cycle(expressions)]
+fn locate(store: &mut Store, base: u32, place: &FlatPlace) -> Result<Spot, Trap>
+    ensures value { Gives spot_seen (locate (flat base) (place_seen place.now) (state_of store.old)) result (state_of store.new) }
+    ensures kept { Keeps store.old store.new }
+{
+    match place {
+        FlatPlace::Variable(variable) => Ok(stand(base as usize, *variable)),
+        FlatPlace::Element(part, array, index) => {
+            let spot = locate(store, base, array)?;
+            let value = eval(store, base, index)?;
+            element(*part, spot, value)
+        }
+        FlatPlace::Member(part, whole) => {
+            let spot = locate(store, base, whole)?;
+            Ok(member(*part, spot))
+        }
     }
 }
 
@@ -164,7 +173,10 @@ pub fn eval(store: &mut Store, base: u32, expr: &FlatExpr) -> Result<i64, Trap>
 {
     match expr {
         FlatExpr::Const(_, value) => Ok(*value),
-        FlatExpr::Read(variable) => read(store, base, *variable),
+        FlatExpr::Read(place) => {
+            let spot = locate(store, base, place)?;
+            fetch(store, spot)
+        }
         FlatExpr::Unary(op, kind, operand) => {
             let value = eval(store, base, operand)?;
             compute_unary(*op, *kind, value)
@@ -173,7 +185,10 @@ pub fn eval(store: &mut Store, base: u32, expr: &FlatExpr) -> Result<i64, Trap>
             let value = eval(store, base, operand)?;
             Ok(convert(*kind, value))
         }
-        FlatExpr::Step(op, variable) => step(store, base, *op, *variable),
+        FlatExpr::Step(op, place) => {
+            let spot = locate(store, base, place)?;
+            step(store, *op, spot)
+        }
         FlatExpr::Binary(op, kind, left, right) => {
             let a = eval(store, base, left)?;
             let b = eval(store, base, right)?;
@@ -191,15 +206,17 @@ pub fn eval(store: &mut Store, base: u32, expr: &FlatExpr) -> Result<i64, Trap>
             0 => eval_as(store, base, *kind, right),
             _ => eval_as(store, base, *kind, left),
         },
-        FlatExpr::Assign(variable, operand) => {
-            let value = eval(store, base, operand)?;
-            Ok(put(store, base, *variable, value))
+        FlatExpr::Assign(place, operand) => {
+            let spot = locate(store, base, place)?;
+            let number = eval(store, base, operand)?;
+            Ok(put(store, spot, number))
         }
-        FlatExpr::Update(variable, op, kind, operand) => {
-            let before = read(store, base, *variable)?;
+        FlatExpr::Update(place, op, kind, operand) => {
+            let spot = locate(store, base, place)?;
+            let before = fetch(store, spot)?;
             let value = eval(store, base, operand)?;
             let after = compute(*op, *kind, before, value)?;
-            Ok(put(store, base, *variable, after))
+            Ok(put(store, spot, after))
         }
         FlatExpr::Getchar => Ok(next_byte(store)),
         FlatExpr::Putchar(inner) => {

@@ -10,7 +10,8 @@
 //!   (`specs/Memory`).
 //! - [`act::put_result`]: a result goes into the slot of the call's temporary.
 //!
-//! Proofs above cite `proofs/LawsActs`: the act of a flat copy is like the act of its label over named cells;
+//! Proofs above cite `proofs/LawsActs`: the act of a flat copy is like the act of its label over named cells, where no
+//! more slots are live than can be numbered;
 //! `proofs/LawsFrames`: how frames come and go, and where results go; `proofs/LawsBegins`: the slots at the beginning of a
 //! run stand for its first cells; and `proofs/LawsBounds`: what bounds frames, arguments and slots.
 #![tactic(auto)]
@@ -19,6 +20,7 @@ pub mod act;
 mod begin;
 mod eval;
 mod slot;
+mod spot;
 mod store;
 
 pub use begin::make_store;

@@ -1,5 +1,5 @@
 use Rattle.csub_flat.proofs.Slots.{size_objects, slot_in_params, slot_in_locals, slot_nowhere}
-use Rattle.std.proofs.Common.{◌≡◌, ◌∙◌, ap, ◌+◌, ◌≤◌, Fits, w32, map, rules, arith}
+use Rattle.std.proofs.Common.{◌≡◌, ◌∙◌, ap, ◌+◌, ◌≤◌, map, rules, arith}
 use Rattle.csub_flat.specs.Frames.{objects_size, as_object}
 use Rattle.csub_semantics.specs.Syntax.{local_tree}
 use Rattle.csub_flat.proofs.flatten.object_slot.Goals as goal

@@ -1,8 +1,8 @@
-use Rattle.std.proofs.Common.{◌≡◌, ◌+◌, ◌≤◌, ap, sym, ◌∙◌, get_or, arith}
+use Rattle.std.proofs.Common.{◌+◌, ap, ◌∙◌, arith}
 use Rattle.csub_objects.specs.Meaning.{type_tree}
 use Rattle.csub_objects.specs.Types.{cells}
 use Rattle.csub_semantics.specs.declared.types.GlobalVar.{GlobalVar}
-use Rattle.csub_flat.proofs.Indexes.{size_to, size_next, size_within}
+use Rattle.csub_flat.proofs.Indexes.{size_next, size_within}
 use Rattle.csub_flat.proofs.globals.globals_size.Goals as goal
 
 pub slots_of-size-requires : goal.slots_of-size-requires

@@ -24,8 +24,8 @@ returns c =
       temp = c.flatten_temp-temp.ensures;
     }
 
-pub flatten_args-requires : goal.flatten_args-requires
-flatten_args-requires c =
+pub flatten_args-requires-clause-size : goal.flatten_args-requires-clause-size
+flatten_args-requires-clause-size c =
     let P = program_at c.args.scope in
     let functions = functions_counted c.args.graph.now P c.requires.graph in
     let listed = length-map c.args.scope.program.now.functions function_tree in

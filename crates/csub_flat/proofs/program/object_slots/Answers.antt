@@ -1,4 +1,4 @@
-use Rattle.std.proofs.Common.{◌≡◌, ◌≤◌, ◌+◌, map, rules, arith}
+use Rattle.std.proofs.Common.{◌≡◌, ◌≤◌, map, rules, arith}
 use Rattle.csub_semantics.specs.Syntax.{local_tree}
 use Rattle.csub_flat.specs.Frames.{objects_size, as_object}
 use Rattle.csub_flat.proofs.Slots.{size_objects}

@@ -9,7 +9,7 @@ use Rattle.csub_flat.specs.Seen.{label_seen}
 use Rattle.csub_slots.specs.States.{state_of, FitsMost}
 use Rattle.csub_flat.specs.Copies.{IsCopyAt}
 use Rattle.csub_slots.proofs.LawsBounds.{fits_most}
-use Rattle.csub_machine.proofs.Turns.{lives_room, ends_on, leaves_on, pushes_on, pops_on}
+use Rattle.csub_machine.proofs.Turns.{lives_room, lives_few, ends_on, leaves_on, pushes_on, pops_on}
 use Rattle.csub_machine.proofs.turn.take_turn.Goals as goal
 
 pub act-requires-clause-room : goal.act-requires-clause-room
@@ -43,7 +43,7 @@ returns-in-Err-clause-moves c s like =
     let inside : n < length c.args.flat.now.labels.items = omega (arith, c.requires.frames.top) in
     let k : IsCopyAt P n (label_seen c.index-label.result.now) = copies.copies n c.index-label.result.now inside c.index-label.ensures in
     let counted : c.len.result ≡ length c.args.frames.now.below.items = search rules in
-    ends_on P c.args.frames.now _ (c.len.result + 1) c.requires.frames (label_seen c.index-label.result.now) k s (state_of c.args.store.now) (ap (λ j. j + 1) counted) like (Trap c.in-Err.trap) (state_of c.act.new.store) c.in-Err.ensures.value
+    ends_on P c.args.frames.now _ (c.len.result + 1) c.requires.frames (lives_few P c.args.flat.now copies c.args.frames.now _ c.requires.frames) (label_seen c.index-label.result.now) k s (state_of c.args.store.now) (ap (λ j. j + 1) counted) like (Trap c.in-Err.trap) (state_of c.act.new.store) c.in-Err.ensures.value
 
 pub returns-in-Ok-Ends-clause-moves : goal.returns-in-Ok-Ends-clause-moves
 returns-in-Ok-Ends-clause-moves c s like =
@@ -55,7 +55,7 @@ returns-in-Ok-Ends-clause-moves c s like =
     let k : IsCopyAt P n (label_seen c.index-label.result.now) = copies.copies n c.index-label.result.now inside c.index-label.ensures in
     let counted : c.len.result ≡ length c.args.frames.now.below.items = search rules in
     let acts = rw c.in-Ok-Ends.field-0-is at c.in-Ok-Ends.ensures.value in
-    ends_on P c.args.frames.now _ (c.len.result + 1) c.requires.frames (label_seen c.index-label.result.now) k s (state_of c.args.store.now) (ap (λ j. j + 1) counted) like c.in-Ok-Ends.status (state_of c.act.new.store) acts
+    ends_on P c.args.frames.now _ (c.len.result + 1) c.requires.frames (lives_few P c.args.flat.now copies c.args.frames.now _ c.requires.frames) (label_seen c.index-label.result.now) k s (state_of c.args.store.now) (ap (λ j. j + 1) counted) like c.in-Ok-Ends.status (state_of c.act.new.store) acts
 
 pub returns-in-Ok-Leaves-clause-moves : goal.returns-in-Ok-Leaves-clause-moves
 returns-in-Ok-Leaves-clause-moves c s like =
@@ -67,7 +67,7 @@ returns-in-Ok-Leaves-clause-moves c s like =
     let k : IsCopyAt P n (label_seen c.index-label.result.now) = copies.copies n c.index-label.result.now inside c.index-label.ensures in
     let counted : c.len.result ≡ length c.args.frames.now.below.items = search rules in
     let acts = rw c.in-Ok-Leaves.field-0-is at c.in-Ok-Leaves.ensures.value in
-    leaves_on P c.args.frames.now _ (c.len.result + 1) c.requires.frames (label_seen c.index-label.result.now) k s (state_of c.args.store.now) (ap (λ j. j + 1) counted) like (exit_tree c.in-Ok-Leaves.exit) c.in-Ok-Leaves.given (state_of c.act.new.store) acts
+    leaves_on P c.args.frames.now _ (c.len.result + 1) c.requires.frames (lives_few P c.args.flat.now copies c.args.frames.now _ c.requires.frames) (label_seen c.index-label.result.now) k s (state_of c.args.store.now) (ap (λ j. j + 1) counted) like (exit_tree c.in-Ok-Leaves.exit) c.in-Ok-Leaves.given (state_of c.act.new.store) acts
     _ c.leave_by.result c.leave_by.ensures.moves refl c.leave_by.ensures.point c.leave_by.ensures.function c.leave_by.ensures.base
 
 pub returns-in-Ok-Pushes-clause-moves : goal.returns-in-Ok-Pushes-clause-moves
@@ -80,7 +80,7 @@ returns-in-Ok-Pushes-clause-moves c s like =
     let k : IsCopyAt P n (label_seen c.index-label.result.now) = copies.copies n c.index-label.result.now inside c.index-label.ensures in
     let counted : c.len.result ≡ length c.args.frames.now.below.items = search rules in
     let acts = rw c.in-Ok-Pushes.field-0-is at c.in-Ok-Pushes.ensures.value in
-    pushes_on P c.args.frames.now _ (c.len.result + 1) c.requires.frames (label_seen c.index-label.result.now) k s (state_of c.args.store.now) (ap (λ j. j + 1) counted) like c.in-Ok-Pushes.entry c.in-Ok-Pushes.begin (state_of c.act.new.store) acts
+    pushes_on P c.args.frames.now _ (c.len.result + 1) c.requires.frames (lives_few P c.args.flat.now copies c.args.frames.now _ c.requires.frames) (label_seen c.index-label.result.now) k s (state_of c.args.store.now) (ap (λ j. j + 1) counted) like c.in-Ok-Pushes.entry c.in-Ok-Pushes.begin (state_of c.act.new.store) acts
     c.push_frame.new.frames c.push_frame.ensures.top c.push_frame.ensures.below
 
 pub returns-in-Some-clause-moves : goal.returns-in-Some-clause-moves
@@ -93,5 +93,5 @@ returns-in-Some-clause-moves c s like =
     let k : IsCopyAt P n (label_seen c.index-label.result.now) = copies.copies n c.index-label.result.now inside c.index-label.ensures in
     let counted : c.len.result ≡ length c.args.frames.now.below.items = search rules in
     let acts = rw c.in-Ok-Pops.field-0-is at c.in-Ok-Pops.ensures.value in
-    pops_on P c.args.frames.now _ (c.len.result + 1) c.requires.frames (label_seen c.index-label.result.now) k s (state_of c.args.store.now) (ap (λ j. j + 1) counted) like c.in-Ok-Pops.given (state_of c.act.new.store) acts
+    pops_on P c.args.frames.now _ (c.len.result + 1) c.requires.frames (lives_few P c.args.flat.now copies c.args.frames.now _ c.requires.frames) (label_seen c.index-label.result.now) k s (state_of c.args.store.now) (ap (λ j. j + 1) counted) like c.in-Ok-Pops.given (state_of c.act.new.store) acts
     c.in-Some.frame c.pop.new.self.items c.in-Some.ensures.items _ c.resume.result (state_of c.resume.new.store) c.resume.ensures.moves refl c.resume.ensures.point c.resume.ensures.base
