@@ -13,14 +13,14 @@ const CHANGED: &str =
     "int main(void) { if (getchar() == 65) { putchar(66); } else { putchar(68); } return 0; }";
 
 pub const BRANCHING_HISTORY: &str =
-    "dejavu history 1\nsource 720637fdcd894bb8ccb9d36c0cd133613d681911fdf1f57983db95d5bb25131b\nedges 8\ntests 2\ntest A\nbudget 100\ninput 41\nstatus exit 0\nturns 8\noutput 42\ncrossed 0 1 2 3 5 7\ntest B\nbudget 100\ninput 42\nstatus exit 0\nturns 8\noutput 43\ncrossed 0 1 2 4 6 7\nend 0bc316408f7242f3c5c5ed8b088347e07f369cbec4df9697f6861b2db1073bc5\n";
+    "dejavu history 3\nsource 720637fdcd894bb8ccb9d36c0cd133613d681911fdf1f57983db95d5bb25131b\nedges 8\ntests 2\ntest A\nbudget 100\ninput 41\nstatus exit 0\nturns 8\noutput 42\ncrossed af\ntest B\nbudget 100\ninput 42\nstatus exit 0\nturns 8\noutput 43\ncrossed d7\nend 1ae825afb57f73619266aa578ec04b64a79208545da7c94d4ecd2544b127df50\n";
 
 pub const EMPTY_HISTORY: &str =
-    "dejavu history 1\nsource 24243bfac9f6afa167d0b0fe14c3ac8b5b4e34d974861164ca11dfab4601216b\nedges 3\ntests 1\ntest E\nbudget 9\ninput -\nstatus exit 0\nturns 5\noutput -\ncrossed 0 1 2\nend bf058354d525dd080cca930761ae7e363856871d20a54cfca26560f9a1d868a9\n";
+    "dejavu history 3\nsource 24243bfac9f6afa167d0b0fe14c3ac8b5b4e34d974861164ca11dfab4601216b\nedges 3\ntests 1\ntest E\nbudget 9\ninput -\nstatus exit 0\nturns 5\noutput -\ncrossed 07\nend 04369fb62ca113b872f362f482ef8eb348e2de27dcd9acf452f498304eecfa46\n";
 
 // The history of `branching`, in which the output of A is another.
 const SPOILED_HISTORY: &str =
-    "dejavu history 1\nsource 720637fdcd894bb8ccb9d36c0cd133613d681911fdf1f57983db95d5bb25131b\nedges 8\ntests 2\ntest A\nbudget 100\ninput 41\nstatus exit 0\nturns 8\noutput 52\ncrossed 0 1 2 3 5 7\ntest B\nbudget 100\ninput 42\nstatus exit 0\nturns 8\noutput 43\ncrossed 0 1 2 4 6 7\nend 0bc316408f7242f3c5c5ed8b088347e07f369cbec4df9697f6861b2db1073bc5\n";
+    "dejavu history 3\nsource 720637fdcd894bb8ccb9d36c0cd133613d681911fdf1f57983db95d5bb25131b\nedges 8\ntests 2\ntest A\nbudget 100\ninput 41\nstatus exit 0\nturns 8\noutput 52\ncrossed af\ntest B\nbudget 100\ninput 42\nstatus exit 0\nturns 8\noutput 43\ncrossed d7\nend 1ae825afb57f73619266aa578ec04b64a79208545da7c94d4ecd2544b127df50\n";
 
 /// Of `branching`, `changed` and the history: B alone crosses edge 4, which leads to the changed line.
 pub const SELECTION: &str = "left A\nrun B edge 4\nselected 1 of 2\n";

@@ -3,4 +3,5 @@ mod ByteLemmas
 mod CommonLemmas
 mod CountLemmas
 pub mod Laws
+pub mod LawsOfBytes
 mod Threads

@@ -76,12 +76,12 @@ fn an_entry_has_seven_lines(rt: HostRuntime) -> Result<(), Fail> {
             (Status::Exit(0), 9, b"C", &[8, 7, 5, 3, 2, 1, 0, 0]),
         ],
     )?;
-    let want = "dejavu history 1\n\
+    let want = "dejavu history 3\n\
          source f3e7b98b7d4d95f021635d364627ee64e4acd311669841db52966ba816eaeb96\n\
          edges 9\ntests 2\n\
-         test A\nbudget 100\ninput 41\nstatus exit 0\nturns 9\noutput 42\ncrossed 0 1 2 3 4 6 8\n\
-         test B\nbudget 100\ninput 42\nstatus exit 0\nturns 9\noutput 43\ncrossed 0 1 2 3 5 7 8\n\
-         end 5cb9b77e6c420835933248acd351ce3e93dd9341ba7193721ccc8db1e7950bc8\n";
+         test A\nbudget 100\ninput 41\nstatus exit 0\nturns 9\noutput 42\ncrossed 5f01\n\
+         test B\nbudget 100\ninput 42\nstatus exit 0\nturns 9\noutput 43\ncrossed af01\n\
+         end eac55876d49f0d1fe32a649b9e1751d299b9e79be91b030c71dd123e5014b43c\n";
     assert!(rt; text.as_slice() == want.as_bytes());
     assert!(rt; text_again(rt.alloc(), &text)?.as_slice() == want.as_bytes());
     Ok(())
@@ -94,11 +94,11 @@ fn what_is_empty_is_a_dash(rt: HostRuntime) -> Result<(), Fail> {
         b"dejavu suite 1\ntest Z 0 -\n",
         &[(Status::Turns, 0, b"", &[])],
     )?;
-    let want = "dejavu history 1\n\
+    let want = "dejavu history 3\n\
          source f3e7b98b7d4d95f021635d364627ee64e4acd311669841db52966ba816eaeb96\n\
          edges 9\ntests 1\n\
-         test Z\nbudget 0\ninput -\nstatus turns\nturns 0\noutput -\ncrossed -\n\
-         end 65a841e1075577a7a50bd7386d17092378eee4e35444f8c8ee539a9710412c6f\n";
+         test Z\nbudget 0\ninput -\nstatus turns\nturns 0\noutput -\ncrossed 0000\n\
+         end 1398e80858f678d15cbe6bb52aec344480156fe865a408c4058537b25a4b9b36\n";
     assert!(rt; text.as_slice() == want.as_bytes());
     assert!(rt; text_again(rt.alloc(), &text)?.as_slice() == want.as_bytes());
     Ok(())
@@ -107,10 +107,10 @@ fn what_is_empty_is_a_dash(rt: HostRuntime) -> Result<(), Fail> {
 #[test]
 fn a_history_may_have_no_entry(rt: HostRuntime) -> Result<(), Fail> {
     let text = text_of(rt.alloc(), b"dejavu suite 1\n", &[])?;
-    let want = "dejavu history 1\n\
+    let want = "dejavu history 3\n\
          source f3e7b98b7d4d95f021635d364627ee64e4acd311669841db52966ba816eaeb96\n\
          edges 9\ntests 0\n\
-         end 336dad8fee8486994aee5e394c2ce44b066492ec81ef5aed2a342d8df2d1987e\n";
+         end 8db80b913844150239fb5ef64f6950d627052b93e5984d18fc02d408ab46cb0a\n";
     assert!(rt; text.as_slice() == want.as_bytes());
     assert!(rt; text_again(rt.alloc(), &text)?.as_slice() == want.as_bytes());
     Ok(())
@@ -132,19 +132,19 @@ const ALL_ENDS: &[u8] = b"dejavu suite 1\n\
     test missing 100 -\n\
     test exit 10000000 00ff\n";
 
-const ALL_ENDS_TEXT: &str = "dejavu history 1\n\
+const ALL_ENDS_TEXT: &str = "dejavu history 3\n\
     source f3e7b98b7d4d95f021635d364627ee64e4acd311669841db52966ba816eaeb96\n\
     edges 9\ntests 9\n\
-    test overflow\nbudget 100\ninput -\nstatus trap overflow\nturns 5\noutput 78\ncrossed 0 2 3\n\
-    test divide\nbudget 100\ninput -\nstatus trap divide\nturns 5\noutput 78\ncrossed 0 2 3\n\
-    test shift\nbudget 100\ninput -\nstatus trap shift\nturns 5\noutput 78\ncrossed 0 2 3\n\
-    test bounds\nbudget 100\ninput -\nstatus trap bounds\nturns 5\noutput 78\ncrossed 0 2 3\n\
-    test unset\nbudget 100\ninput -\nstatus trap unset\nturns 5\noutput 78\ncrossed 0 2 3\n\
-    test flood\nbudget 100\ninput -\nstatus trap flood\nturns 5\noutput 78\ncrossed 0 2 3\n\
-    test depth\nbudget 100\ninput -\nstatus trap depth\nturns 5\noutput 78\ncrossed 0 2 3\n\
-    test missing\nbudget 100\ninput -\nstatus trap missing\nturns 5\noutput 78\ncrossed 0 2 3\n\
-    test exit\nbudget 10000000\ninput 00ff\nstatus exit 255\nturns 10000000\noutput -\ncrossed 8\n\
-    end bd749741f60dc5614dac114e5eda3a89b8c89b615431061c8249de1f1d7a56a6\n";
+    test overflow\nbudget 100\ninput -\nstatus trap overflow\nturns 5\noutput 78\ncrossed 0d00\n\
+    test divide\nbudget 100\ninput -\nstatus trap divide\nturns 5\noutput 78\ncrossed 0d00\n\
+    test shift\nbudget 100\ninput -\nstatus trap shift\nturns 5\noutput 78\ncrossed 0d00\n\
+    test bounds\nbudget 100\ninput -\nstatus trap bounds\nturns 5\noutput 78\ncrossed 0d00\n\
+    test unset\nbudget 100\ninput -\nstatus trap unset\nturns 5\noutput 78\ncrossed 0d00\n\
+    test flood\nbudget 100\ninput -\nstatus trap flood\nturns 5\noutput 78\ncrossed 0d00\n\
+    test depth\nbudget 100\ninput -\nstatus trap depth\nturns 5\noutput 78\ncrossed 0d00\n\
+    test missing\nbudget 100\ninput -\nstatus trap missing\nturns 5\noutput 78\ncrossed 0d00\n\
+    test exit\nbudget 10000000\ninput 00ff\nstatus exit 255\nturns 10000000\noutput -\ncrossed 0001\n\
+    end e310979df4ec9ea873650f2454a21d81a38aefb7232c6187d458a9286fd8c69d\n";
 
 #[test]
 fn every_end_of_a_run_has_its_words(rt: HostRuntime) -> Result<(), Fail> {

@@ -46,12 +46,29 @@ fn a_text_has_at_most_134217728_bytes(rt: HostRuntime) -> Result<(), Fail> {
     Ok(())
 }
 
-/// The text of a history of `SOURCE` with so many tests and 10,000 edges. Test `number` crosses the
-/// edges of `number` and of 9,999.
-fn numbered(alloc: Global, tests: u64) -> Result<Vec<u8>, AllocError> {
-    let mut text = b"dejavu history 1\nsource ".to_vec(alloc)?;
+/// Appends the bytes of a row whose last edge is `last`. It has that one, and `number` if that is less.
+fn push_row(text: &mut Vec<u8>, last: u64, number: u64) -> Result<(), AllocError> {
+    for place in 0..last / 8 + 1 {
+        let mut byte: u8 = 0;
+        for edge in [number.min(last), last] {
+            if edge / 8 == place {
+                byte |= 1 << (edge % 8);
+            }
+        }
+        push_hex(text, &[byte])?;
+    }
+    Ok(())
+}
+
+/// The text of a history of `SOURCE` with so many tests. Its last edge is `last`, and test `number` crosses
+/// the edges of `push_row`.
+fn numbered(alloc: Global, tests: u64, last: u32) -> Result<Vec<u8>, AllocError> {
+    let last = u64::from(last);
+    let mut text = b"dejavu history 3\nsource ".to_vec(alloc)?;
     text.extend_from_slice(DIGEST)?;
-    text.extend_from_slice(b"\nedges 10000\ntests ")?;
+    text.extend_from_slice(b"\nedges ")?;
+    push_decimal(&mut text, last + 1)?;
+    text.extend_from_slice(b"\ntests ")?;
     push_decimal(&mut text, tests)?;
     for number in 0..tests {
         text.extend_from_slice(b"\ntest t")?;
@@ -59,8 +76,7 @@ fn numbered(alloc: Global, tests: u64) -> Result<Vec<u8>, AllocError> {
         text.extend_from_slice(b"\nbudget 10000000\ninput -\nstatus trap flood\nturns ")?;
         push_decimal(&mut text, number)?;
         text.extend_from_slice(b"\noutput 5a\ncrossed ")?;
-        push_decimal(&mut text, number)?;
-        text.extend_from_slice(b" 9999")?;
+        push_row(&mut text, last, number)?;
     }
     text.push(b'\n')?;
     let sum = digest_of(&text);
@@ -73,17 +89,29 @@ fn numbered(alloc: Global, tests: u64) -> Result<Vec<u8>, AllocError> {
 #[test]
 fn a_history_has_at_most_8192_tests(rt: HostRuntime) -> Result<(), Fail> {
     let alloc = rt.alloc();
-    let text = numbered(alloc, 8_192)?;
-    let history = read_history(alloc, &text, SOURCE, 10_000)?;
+    let text = numbered(alloc, 8_192, 15)?;
+    let history = read_history(alloc, &text, SOURCE, 16)?;
     assert_eq!(rt; history.entries().len(), 8_192);
     let last = &history.entries()[8_191];
     assert!(rt; last.status() == Status::Trap(Trap::Flood) && last.turns() == 8_191);
-    assert_eq!(rt;
-        (last.crossed().edges(), last.crossed().count()),
-        (10_000, 2)
-    );
-    let more = numbered(alloc, 8_193)?;
-    let answer = read_history(alloc, &more, SOURCE, 10_000).err();
+    assert_eq!(rt; (last.crossed().edges(), last.crossed().count()), (16, 1));
+    let more = numbered(alloc, 8_193, 15)?;
+    let answer = read_history(alloc, &more, SOURCE, 16).err();
     assert!(rt; answer == Some(HistoryError::Malformed(4, 4)));
+    Ok(())
+}
+
+#[test]
+fn a_history_has_at_most_10000_edges(rt: HostRuntime) -> Result<(), Fail> {
+    let alloc = rt.alloc();
+    let text = numbered(alloc, 65, 9_999)?;
+    let history = read_history(alloc, &text, SOURCE, 10_000)?;
+    assert_eq!(rt; history.entries().len(), 65);
+    let crossed = history.entries()[64].crossed();
+    assert_eq!(rt; (crossed.edges(), crossed.count()), (10_000, 2));
+    assert!(rt; crossed.edges() == 10_000 && crossed.has(64) && crossed.has(9_999));
+    let more = numbered(alloc, 65, 10_000)?;
+    let answer = read_history(alloc, &more, SOURCE, 10_001).err();
+    assert!(rt; answer == Some(HistoryError::Malformed(3, 3)));
     Ok(())
 }

@@ -44,14 +44,14 @@ fn every_line_has_a_rule(rt: HostRuntime) -> Result<(), Fail> {
     for (number, bytes, line, rule) in [
         // the version
         (1, "", 1, 1),
-        (1, "Dejavu history 1\n", 1, 1),
+        (1, "Dejavu history 3\n", 1, 1),
         (1, "dejavu history\n", 1, 1),
-        (1, "dejavu history 01\n", 1, 1),
-        (1, "dejavu history 1 \n", 1, 1),
-        (1, "dejavu history 1\r\n", 1, 1),
-        (1, "dejavu history  1\n", 1, 1),
+        (1, "dejavu history 03\n", 1, 1),
+        (1, "dejavu history 3 \n", 1, 1),
+        (1, "dejavu history 3\r\n", 1, 1),
+        (1, "dejavu history  3\n", 1, 1),
         (1, "dejavu history 1000000000\n", 1, 1),
-        (1, "dejavu history -1\n", 1, 1),
+        (1, "dejavu history -3\n", 1, 1),
         // the source
         (2, "source f3e7\n", 2, 2),
         (2, "source -\n", 2, 2),
@@ -115,25 +115,33 @@ fn every_line_has_a_rule(rt: HostRuntime) -> Result<(), Fail> {
         (9, "turns 101\n", 9, 10),
         (9, "turns 09\n", 9, 10),
         (16, "turns -\n", 16, 10),
-        // crossed edges
-        (11, "crossed 0 1 1\n", 11, 12),
-        (11, "crossed 1 0\n", 11, 12),
-        (11, "crossed 0 9\n", 11, 12),
-        (11, "crossed 9\n", 11, 12),
-        (11, "crossed 4294967296\n", 11, 12),
-        (11, "crossed 00\n", 11, 12),
-        (11, "crossed\n", 11, 12),
+        // crossed edges: the count of bytes, the bits that stand for no edge, the digits
+        (11, "crossed 5f\n", 11, 12),
+        (11, "crossed 5f0100\n", 11, 12),
         (11, "crossed \n", 11, 12),
-        (11, "crossed 0 \n", 11, 12),
-        (11, "crossed 0  1\n", 11, 12),
-        (11, "crossed - 1\n", 11, 12),
-        (11, "crossed 0 -\n", 11, 12),
-        (18, "crossed --\n", 18, 12),
+        (11, "crossed -\n", 11, 12),
+        (11, "crossed --\n", 11, 12),
+        (11, "crossed 5F01\n", 11, 12),
+        (11, "crossed 5f0\n", 11, 12),
+        (11, "crossed 5g01\n", 11, 12),
+        (11, "crossed 5f03\n", 11, 12),
+        (11, "crossed 5f81\n", 11, 12),
+        (11, "crossed 0 1 2 3\n", 11, 12),
+        (11, "crossed 5f 01\n", 11, 12),
+        (11, "crossed 5f01 \n", 11, 12),
+        (11, "crossed 0x5f01\n", 11, 12),
+        (11, "crossed\n", 11, 12),
+        (18, "crossed -\n", 18, 12),
+        // another number of edges has another count of bytes, or leaves bits that stand for none
+        (3, "edges 0\n", 11, 12),
+        (3, "edges 8\n", 11, 12),
+        (3, "edges 17\n", 11, 12),
+        (3, "edges 10000\n", 11, 12),
         // the end
-        (19, "end 5cb9\n", 19, 13),
+        (19, "end eac5\n", 19, 13),
         (
             19,
-            "end 5Cb9b77e6c420835933248acd351ce3e93dd9341ba7193721ccc8db1e7950bc8\n",
+            "end Eac55876d49f0d1fe32a649b9e1751d299b9e79be91b030c71dd123e5014b43c\n",
             19,
             13,
         ),
@@ -171,7 +179,7 @@ fn a_line_that_is_missing_or_has_no_newline_breaks_its_rule(rt: HostRuntime) -> 
 #[test]
 fn what_is_within_the_limits_is_no_fault(rt: HostRuntime) -> Result<(), Fail> {
     for (number, bytes) in [
-        (3, "edges 10000\n"),
+        (3, "edges 16\n"),
         (5, "test _9.a-B\n"),
         (6, "budget 9\n"),
         (6, "budget 10000000\n"),
@@ -183,14 +191,30 @@ fn what_is_within_the_limits_is_no_fault(rt: HostRuntime) -> Result<(), Fail> {
         (9, "turns 0\n"),
         (9, "turns 100\n"),
         (10, "output -\n"),
-        (11, "crossed -\n"),
-        (11, "crossed 8\n"),
-        (11, "crossed 0 1 2 3 4 5 6 7 8\n"),
+        (11, "crossed 0000\n"),
+        (11, "crossed 0001\n"),
+        (11, "crossed ff01\n"),
     ] {
         // the sum alone is wrong
         let text = with_line(rt.alloc(), TWO_TESTS, number, bytes)?;
         let answer = refusal(rt.alloc(), &text);
         assert!(rt; matches!(answer, Some(HistoryError::Sum(_, _))), "{bytes}");
+    }
+    Ok(())
+}
+
+#[test]
+fn without_edges_a_row_is_a_dash(rt: HostRuntime) -> Result<(), Fail> {
+    let alloc = rt.alloc();
+    let mut text = with_line(alloc, TWO_TESTS, 3, "edges 0\n")?;
+    for (line, want) in [(11, Some(HistoryError::Malformed(18, 12))), (18, None)] {
+        text = with_line(alloc, &text, line, "crossed -\n")?;
+        let answer = refusal(alloc, &text);
+        match want {
+            Some(error) => assert!(rt; answer == Some(error), "{line}"),
+            // the sum alone is wrong
+            None => assert!(rt; matches!(answer, Some(HistoryError::Sum(_, _))), "{line}"),
+        }
     }
     Ok(())
 }

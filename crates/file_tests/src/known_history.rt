@@ -1,7 +1,7 @@
 //! A known history, and what is said of changed ones. The digests and sums were taken by `sha256sum`.
 use line_text::cut_line;
 use std::alloc::{AllocError, Global};
-use test_history::{HistoryError, read_history};
+use test_history::{HistoryError, read_history, read_history_2};
 
 /// A source of 9 edges, and one of 8.
 pub const SOURCE: &[u8] =
@@ -14,7 +14,28 @@ pub const OTHER: &[u8] =
 pub const DIGEST: &[u8] = b"f3e7b98b7d4d95f021635d364627ee64e4acd311669841db52966ba816eaeb96";
 
 /// A history of `SOURCE` of 19 lines: of each entry the lines are 5 to 11 and 12 to 18.
-pub const TWO_TESTS: &[u8] = b"dejavu history 1\n\
+pub const TWO_TESTS: &[u8] = b"dejavu history 3\n\
+    source f3e7b98b7d4d95f021635d364627ee64e4acd311669841db52966ba816eaeb96\n\
+    edges 9\n\
+    tests 2\n\
+    test A\n\
+    budget 100\n\
+    input 41\n\
+    status exit 0\n\
+    turns 9\n\
+    output 42\n\
+    crossed 5f01\n\
+    test B\n\
+    budget 100\n\
+    input 42\n\
+    status exit 0\n\
+    turns 9\n\
+    output 43\n\
+    crossed af01\n\
+    end eac55876d49f0d1fe32a649b9e1751d299b9e79be91b030c71dd123e5014b43c\n";
+
+/// The same history in version 2.
+pub const TWO_TESTS_2: &[u8] = b"dejavu history 2\n\
     source f3e7b98b7d4d95f021635d364627ee64e4acd311669841db52966ba816eaeb96\n\
     edges 9\n\
     tests 2\n\
@@ -32,7 +53,7 @@ pub const TWO_TESTS: &[u8] = b"dejavu history 1\n\
     turns 9\n\
     output 43\n\
     crossed 0 1 2 3 5 7 8\n\
-    end 5cb9b77e6c420835933248acd351ce3e93dd9341ba7193721ccc8db1e7950bc8\n";
+    end 9174ede2403bebc220bab3f30412b8655668d061f0330d0457b2082fb2652a96\n";
 
 /// The text with another in place of its line `number`, newline and all.
 pub fn with_line(
@@ -72,4 +93,9 @@ pub fn with_bytes(
 /// Why a text is refused as a history of `SOURCE`.
 pub fn refusal(alloc: Global, text: &[u8]) -> Option<HistoryError> {
     read_history(alloc, text, SOURCE, 9).err()
+}
+
+/// Why a text is refused as a history of `SOURCE` in version 2.
+pub fn refusal_2(alloc: Global, text: &[u8]) -> Option<HistoryError> {
+    read_history_2(alloc, text, SOURCE, 9).err()
 }

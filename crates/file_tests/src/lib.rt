@@ -12,6 +12,8 @@ mod history_limits;
 #[cfg(test)]
 mod history_lines;
 #[cfg(test)]
+mod history_version_2;
+#[cfg(test)]
 mod known_history;
 #[cfg(test)]
 mod numbers;

@@ -2,6 +2,7 @@
 use Rattle.std.proofs.Common.{◌≡◌, ◌<◌, ◌≤◌, ◌+◌, ◌*◌, ◌⊎◌, ℕ, List, [], ◌∷◌, get_or, codes, refl, sym, ap, subst, ◌∙◌, inl, inr, arith}
 use Rattle.std.specs.Fmt.{decimal}
 use Rattle.std.proofs.lemmas.Fmt.{decimal_injective}
+use Rattle.test_history.specs.declared.version.Version.{Version}
 use Rattle.test_history.specs.Rules.{Rule, h1, h2, h3, h4, h5, h6, h7, h8, h9, h10, h11, h12, h13, h14, number_of, IsAsked, IsOfEntry, Keeps, SaysEdges, SaysTests}
 use Rattle.test_history.proofs.ValueLemmas.{one_value}
 
@@ -29,8 +30,8 @@ rule_of-number h14 = refl
 pub same_rule : (a b : Rule) → number_of a ≡ number_of b → a ≡ b
 same_rule a b is = sym (rule_of-number a) ∙ ap rule_of is ∙ rule_of-number b
 
-pub keeps_same : (text : List ℕ) (n : ℕ) (rule other : Rule) → number_of other ≡ number_of rule → Keeps text rule n → Keeps text other n
-keeps_same text n rule other is keeps = subst (λ r. Keeps text r n) (same_rule rule other (sym is)) keeps
+pub keeps_same : (version : Version) (text : List ℕ) (n : ℕ) (rule other : Rule) → number_of other ≡ number_of rule → Keeps version text rule n → Keeps version text other n
+keeps_same version text n rule other is keeps = subst (λ r. Keeps version text r n) (same_rule rule other (sym is)) keeps
 
 -- line 3 and line 4 say one number
 pub edges_same : (text : List ℕ) (a b : ℕ) → SaysEdges text a → SaysEdges text b → a ≡ b

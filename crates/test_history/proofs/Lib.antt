@@ -1,6 +1,6 @@
 mod AskedLemmas
+mod BitsLemmas
 mod CauseLemmas
-mod CrossedLemmas
 mod EntryLemmas
 mod LengthLemmas
 mod NamesLemmas

@@ -1,5 +1,5 @@
 -- Numbers that are read word by word.
-use Rattle.std.proofs.Common.{◌≡◌, ◌≢◌, eqb, ℕ, suc, ◌+◌, ◌<◌, ◌≤◌, ◌^◌, Bool, true, false, List, [], ◌∷◌, ◌++◌, length, map, set, replicate, codes, Option, Some, None, MatchOption, refl, sym, ap, subst, ◌∙◌, arith, append_assoc}
+use Rattle.std.proofs.Common.{◌≡◌, ◌≢◌, eqb, ℕ, suc, ◌+◌, ◌<◌, ◌≤◌, ◌^◌, Bool, true, false, List, [], ◌∷◌, ◌++◌, length, map, set, replicate, codes, Option, Some, None, MatchOption, sym, ap, subst, ◌∙◌, arith, append_assoc}
 use Rattle.std.specs.Fmt.{decimal}
 use Rattle.std.specs.List.{All}
 use Rattle.std.proofs.lemmas.Fmt.{decimal_injective, decimal_nonempty}
@@ -11,8 +11,7 @@ use Rattle.line_text.proofs.Laws.{line_of_words-pieces, pieces-line_of_words, Is
 use Rattle.edge_trace.specs.Rows.{has}
 use Rattle.edge_trace.proofs.Laws.{has-set_other, has-replicate}
 use Rattle.test_history.specs.HistoryTexts.{crossed_numbers, words_or_dash}
-use Rattle.test_history.specs.Rules.{AreRising}
-use Rattle.test_history.proofs.RowLemmas.{crossed_numbers-set, crossed_numbers-empty}
+use Rattle.test_history.proofs.RowLemmas.{AreRising, crossed_numbers-set, crossed_numbers-empty}
 
 -- the words that are left are of rising numbers, none below the least
 abbrev pub AreLeft : ℕ → ℕ → List (List ℕ) → Type 0
@@ -108,15 +107,6 @@ pub clear_first : (row : List Bool) → row ≡ replicate (length row) false →
 clear_first row empty = λ k past. ap (λ r. has r k) empty ∙ has-replicate (length row) k
 
 -- ---- the words of a row
-
-words_nonempty : (numbers : List ℕ) → words_or_dash numbers ≢ []
-words_nonempty [] is = cc is
-words_nonempty (n ∷ more) is = cc is
-
--- the line of a word and numbers
-pub numbers_line : (word : List ℕ) (numbers : List ℕ) → line_of_words (word ∷ words_or_dash numbers) ≡ word ++ 32 ∷ line_of_words (words_or_dash numbers)
-numbers_line word [] = refl
-numbers_line word (n ∷ more) = refl
 
 some_piece : (line : List ℕ) → pieces line ≢ []
 some_piece line none = omega (arith, length-slice_split (λ b. eqb b 32) line, ap length none)

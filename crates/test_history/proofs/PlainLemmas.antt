@@ -1,5 +1,5 @@
 -- No line of a history has a newline in it.
-use Rattle.std.proofs.Common.{◌≡◌, ◌≢◌, ◌<◌, ◌^◌, ℕ, Bool, true, not, ◌&&◌, eqb, List, [], ◌∷◌, map, codes, refl, arith}
+use Rattle.std.proofs.Common.{◌≡◌, ◌≢◌, ◌<◌, ◌^◌, ℕ, Bool, true, not, ◌&&◌, eqb, List, [], ◌∷◌, length, map, codes, refl, arith}
 use Rattle.std.specs.Fmt.{decimal}
 use Rattle.std.specs.List.{All}
 use Rattle.std.proofs.lemmas.Bool.{and_parts}
@@ -13,9 +13,11 @@ use Rattle.line_text.specs.Bytes.{bytes_or_dash}
 use Rattle.line_text.specs.Words.{line_of_words}
 use Rattle.line_text.proofs.Laws.{IsWord-decimal, IsWord-bytes_or_dash}
 use Rattle.test_suite.specs.Tests.{IsTestName, goes_in_name}
+use Rattle.test_history.specs.declared.version.Version.{Version}
+use Rattle.test_history.specs.declared.version.Version.TheVariants.{Second, Third}
 use Rattle.test_history.specs.Histories.{IsDigest, IsByteStatus}
-use Rattle.test_history.specs.HistoryTexts.{value_line, status_words, trap_name, words_or_dash}
-use Rattle.test_history.specs.Rules.{AreRising}
+use Rattle.test_history.specs.HistoryTexts.{value_line, version_line, version_number, crossed_line, crossed_numbers, row_bytes, status_words, trap_name, words_or_dash}
+use Rattle.test_history.proofs.RowLemmas.{AreRising, AreRising-crossed_numbers}
 
 -- no newline in a line
 abbrev pub IsPlain : List ℕ → Type 0
@@ -78,9 +80,21 @@ plain_join (word ∷ next ∷ more) h =
     All-append (λ byte. byte ≢ 10) word (32 ∷ line_of_words (next ∷ more)) (All-head Plain word (next ∷ more) h)
     (All-cons (λ byte. byte ≢ 10) 32 (line_of_words (next ∷ more)) (λ is. omega arith) (plain_join (next ∷ more) (All-tail Plain word (next ∷ more) h)))
 
-pub plain_numbers : (bound : ℕ) (numbers : List ℕ) → bound < 2 ^ 32 → AreRising bound numbers → IsPlain (line_of_words (codes "crossed" ∷ words_or_dash numbers))
-plain_numbers bound [] small h = plain_word (codes "crossed -") refl
+plain_numbers : (bound : ℕ) (numbers : List ℕ) → bound < 2 ^ 32 → AreRising bound numbers → IsPlain (line_of_words (words_or_dash numbers))
+plain_numbers bound [] small h = plain_word (codes "-") refl
 plain_numbers bound (n ∷ more) small h =
-    plain_value (codes "crossed") (line_of_words (map decimal (n ∷ more))) refl
-    (plain_join (map decimal (n ∷ more)) (All-map (λ word. All (λ byte. byte ≢ 10) word) decimal (n ∷ more)
-    (All-weaker (λ number. number < bound) (λ number. All (λ byte. byte ≢ 10) (decimal number)) (λ number under. plain_decimal number (omega arith)) (n ∷ more) h.below)))
+    plain_join (map decimal (n ∷ more)) (All-map (λ word. All (λ byte. byte ≢ 10) word) decimal (n ∷ more)
+    (All-weaker (λ number. number < bound) (λ number. All (λ byte. byte ≢ 10) (decimal number)) (λ number under. plain_decimal number (omega arith)) (n ∷ more) h.below))
+
+pub plain_crossed : (version : Version) (row : List Bool) → length row < 2 ^ 32 → IsPlain (crossed_line version row)
+plain_crossed Second row small =
+    plain_value (codes "crossed") (line_of_words (words_or_dash (crossed_numbers row))) refl (plain_numbers (length row) (crossed_numbers row) small (AreRising-crossed_numbers row))
+plain_crossed Third row small = plain_value (codes "crossed") (bytes_or_dash (row_bytes row)) refl (plain_bytes (row_bytes row))
+
+-- the number of a version has one digit
+pub small_version : (version : Version) → version_number version < 10
+small_version Second = omega arith
+small_version Third = omega arith
+
+pub plain_version : (version : Version) → IsPlain (version_line version)
+plain_version version = plain_value (codes "dejavu history") (decimal (version_number version)) refl (plain_decimal (version_number version) (omega (arith, small_version version)))

@@ -7,7 +7,11 @@ use Rattle.std.proofs.lemmas.List.Kept.{AllPairs-cons}
 use Rattle.edge_trace.specs.Rows.{has}
 use Rattle.edge_trace.proofs.Laws.{has-replicate}
 use Rattle.test_history.specs.HistoryTexts.{crossed_numbers}
-use Rattle.test_history.specs.Rules.{AreRising}
+
+-- each number is less than every later one, and less than the bound
+pub record AreRising (bound : ℕ) (numbers : List ℕ) : Type 0 where
+  pub rising : AllPairs (λ number later. number < later) numbers
+  pub below : All (λ number. number < bound) numbers
 
 -- the places of a row that are in it, counted from one on
 abbrev pub places : ℕ → List Bool → List ℕ
@@ -81,6 +85,9 @@ AreRising-crossed_numbers row =
       rising = places-rising 0 row;
       below = All-weaker (λ n. (0 ≤ n) × (n < 0 + length row)) (λ n. n < length row) (λ n h. omega (arith, h.1)) (places 0 row) (places-bounds 0 row);
     })
+
+pub row_rising : (row : List Bool) (bound : ℕ) → length row ≡ bound → AreRising bound (crossed_numbers row)
+row_rising row bound size = subst (λ n. AreRising n (crossed_numbers row)) size (AreRising-crossed_numbers row)
 
 -- two rows of one bound with the same numbers are one
 places-same : (off : ℕ) (a b : List Bool) → length a ≡ length b → places off a ≡ places off b → a ≡ b

@@ -16,13 +16,15 @@ use Rattle.line_text.specs.Words.{line_of_words}
 use Rattle.line_text.proofs.Laws.{lines_of-text_of_lines, bytes_or_dash-injective}
 use Rattle.line_text.proofs.LawsOfNumbers.{decimal-all_digits}
 use Rattle.test_suite.specs.Tests.{TestParts}
+use Rattle.test_history.specs.declared.version.Version.{Version}
+use Rattle.test_history.specs.declared.version.Version.TheVariants.{Second, Third}
 use Rattle.test_history.specs.Faults.{IsGoodEntry}
 use Rattle.test_history.specs.Histories.{EntryParts, HistoryParts, IsDigest, IsByteStatus, IsReadable}
-use Rattle.test_history.specs.HistoryTexts.{value_line, status_words, trap_name, words_or_dash, crossed_numbers, entry_lines, first_lines, text_with_sum}
-use Rattle.test_history.specs.Rules.{AreRising}
-use Rattle.test_history.proofs.NumbersLemmas.{numbers_line, pieces_are}
-use Rattle.test_history.proofs.PlainLemmas.{IsPlain, plain_word, plain_value, plain_decimal, plain_bytes, plain_digest, plain_name, plain_status, plain_numbers}
-use Rattle.test_history.proofs.RowLemmas.{AreRising-crossed_numbers, crossed_numbers-injective}
+use Rattle.test_history.specs.HistoryTexts.{value_line, version_line, crossed_line, status_words, trap_name, words_or_dash, crossed_numbers, row_bytes, entry_lines, first_lines, text_with_sum}
+use Rattle.test_history.proofs.BitsLemmas.{row_bytes-injective, IsBytes-row_bytes}
+use Rattle.test_history.proofs.NumbersLemmas.{pieces_are}
+use Rattle.test_history.proofs.PlainLemmas.{IsPlain, plain_value, plain_decimal, plain_bytes, plain_digest, plain_name, plain_status, plain_crossed, plain_version}
+use Rattle.test_history.proofs.RowLemmas.{AreRising, AreRising-crossed_numbers, crossed_numbers-injective}
 use Rattle.test_history.proofs.TextLemmas.{lines_append}
 use Rattle.test_history.proofs.ValueLemmas.{status_line}
 
@@ -134,13 +136,12 @@ numbers_same bound (n ∷ a) (m ∷ b) small ha hb is =
     let two = pieces_are bound (line_of_words (words_or_dash (n ∷ a))) (m ∷ b) small hb (not_dash bound n a small ha) is in
     decimals_same bound (n ∷ a) (m ∷ b) small ha.below hb.below (sym one ∙ two)
 
-pub row_same : (bound : ℕ) (a b : List Bool) → bound < 2 ^ 32 → length a ≡ bound → length b ≡ bound
-    → line_of_words (codes "crossed" ∷ words_or_dash (crossed_numbers a)) ≡ line_of_words (codes "crossed" ∷ words_or_dash (crossed_numbers b)) → a ≡ b
-row_same bound a b small ha hb is =
-    crossed_numbers-injective a b (ha ∙ sym hb)
-    (numbers_same bound (crossed_numbers a) (crossed_numbers b) small
-    (subst (λ n. AreRising n (crossed_numbers a)) ha (AreRising-crossed_numbers a)) (subst (λ n. AreRising n (crossed_numbers b)) hb (AreRising-crossed_numbers b))
-    (value_same (codes "crossed") (line_of_words (words_or_dash (crossed_numbers a))) (line_of_words (words_or_dash (crossed_numbers b))) (sym (numbers_line (codes "crossed") (crossed_numbers a)) ∙ is ∙ numbers_line (codes "crossed") (crossed_numbers b))))
+pub row_same : (version : Version) (a b : List Bool) → length a < 2 ^ 32 → length a ≡ length b → crossed_line version a ≡ crossed_line version b → a ≡ b
+row_same Second a b small size is =
+    crossed_numbers-injective a b size
+    (numbers_same (length a) (crossed_numbers a) (crossed_numbers b) small (AreRising-crossed_numbers a) (subst (λ n. AreRising n (crossed_numbers b)) (sym size) (AreRising-crossed_numbers b))
+    (value_same (codes "crossed") (line_of_words (words_or_dash (crossed_numbers a))) (line_of_words (words_or_dash (crossed_numbers b))) is))
+row_same Third a b small size is = row_bytes-injective a b size (bytes_same (codes "crossed") (row_bytes a) (row_bytes b) (IsBytes-row_bytes a) (IsBytes-row_bytes b) is)
 
 -- ---- entries
 
@@ -162,12 +163,12 @@ entry_parts x y tests statuses turns outputs rows =
     ∙ ap (λ output. entry_with y.test y.status y.turns output x.crossed) outputs
     ∙ ap (λ row. entry_with y.test y.status y.turns y.output row) rows
 
-entry_same : (edges : ℕ) (x y : EntryParts) → edges < 2 ^ 32 → IsGoodEntry edges x → IsGoodEntry edges y → value_line (codes "test") x.test.name ≡ value_line (codes "test") y.test.name
+entry_same : (version : Version) (edges : ℕ) (x y : EntryParts) → edges < 2 ^ 32 → IsGoodEntry edges x → IsGoodEntry edges y → value_line (codes "test") x.test.name ≡ value_line (codes "test") y.test.name
     → value_line (codes "budget") (decimal x.test.budget) ≡ value_line (codes "budget") (decimal y.test.budget) → value_line (codes "input") (bytes_or_dash x.test.input) ≡ value_line (codes "input") (bytes_or_dash y.test.input)
     → line_of_words (codes "status" ∷ status_words x.status) ≡ line_of_words (codes "status" ∷ status_words y.status) → value_line (codes "turns") (decimal x.turns) ≡ value_line (codes "turns") (decimal y.turns)
     → value_line (codes "output") (bytes_or_dash x.output) ≡ value_line (codes "output") (bytes_or_dash y.output)
-    → line_of_words (codes "crossed" ∷ words_or_dash (crossed_numbers x.crossed)) ≡ line_of_words (codes "crossed" ∷ words_or_dash (crossed_numbers y.crossed)) → x ≡ y
-entry_same edges x y small hx hy l1 l2 l3 l4 l5 l6 l7 =
+    → crossed_line version x.crossed ≡ crossed_line version y.crossed → x ≡ y
+entry_same version edges x y small hx hy l1 l2 l3 l4 l5 l6 l7 =
     entry_parts x y
     (test_parts x.test y.test (value_same (codes "test") x.test.name y.test.name l1)
     (number_same (codes "budget") x.test.budget y.test.budget (omega (arith, hx.within.test.budget)) (omega (arith, hy.within.test.budget)) l2)
@@ -175,7 +176,7 @@ entry_same edges x y small hx hy l1 l2 l3 l4 l5 l6 l7 =
     (status_same x.status y.status hx.bytes.status hy.bytes.status l4)
     (number_same (codes "turns") x.turns y.turns (omega (arith, hx.within.turns, hx.within.test.budget)) (omega (arith, hy.within.turns, hy.within.test.budget)) l5)
     (bytes_same (codes "output") x.output y.output hx.bytes.output hy.bytes.output l6)
-    (row_same edges x.crossed y.crossed small hx.row hy.row l7)
+    (row_same version x.crossed y.crossed (omega (arith, hx.row)) (hx.row ∙ sym hy.row) l7)
 
 -- seven lines before others
 seven_same : (a b c d e f g a' b' c' d' e' f' g' : List ℕ) (more more' : List (List ℕ)) → (a ∷ b ∷ c ∷ d ∷ e ∷ f ∷ g ∷ more) ≡ (a' ∷ b' ∷ c' ∷ d' ∷ e' ∷ f' ∷ g' ∷ more')
@@ -185,15 +186,15 @@ seven_same a b c d e f g a' b' c' d' e' f' g' more more' is = (cc is, cc is, cc 
 one_or_more : (last a b c : List ℕ) (more : List (List ℕ)) → last ∷ [] ≢ a ∷ b ∷ c ∷ more
 one_or_more last a b c more is = let none : ◌≡◌ {A = List (List ℕ)} [] (b ∷ c ∷ more) = cc is in cc none
 
-pub entries_same : (edges : ℕ) (a b : List EntryParts) (last last' : List ℕ) → edges < 2 ^ 32 → All (IsGoodEntry edges) a → All (IsGoodEntry edges) b
-    → flat_map entry_lines a ++ last ∷ [] ≡ flat_map entry_lines b ++ last' ∷ [] → (a ≡ b) × (last ≡ last')
-entries_same edges [] [] last last' small ha hb is = (refl, cc is)
-entries_same edges [] (y ∷ b) last last' small ha hb is = absurd (one_or_more last _ _ _ _ is)
-entries_same edges (x ∷ a) [] last last' small ha hb is = absurd (one_or_more last' _ _ _ _ (sym is))
-entries_same edges (x ∷ a) (y ∷ b) last last' small ha hb is =
-    let seven = seven_same _ _ _ _ _ _ _ _ _ _ _ _ _ _ (flat_map entry_lines a ++ last ∷ []) (flat_map entry_lines b ++ last' ∷ []) is in
-    let first : x ≡ y = entry_same edges x y small (All-head (IsGoodEntry edges) x a ha) (All-head (IsGoodEntry edges) y b hb) seven.0 seven.1 seven.2 seven.3 seven.4 seven.5 seven.6 in
-    let rest = entries_same edges a b last last' small (All-tail (IsGoodEntry edges) x a ha) (All-tail (IsGoodEntry edges) y b hb) seven.7 in
+pub entries_same : (version : Version) (edges : ℕ) (a b : List EntryParts) (last last' : List ℕ) → edges < 2 ^ 32 → All (IsGoodEntry edges) a → All (IsGoodEntry edges) b
+    → flat_map (entry_lines version) a ++ last ∷ [] ≡ flat_map (entry_lines version) b ++ last' ∷ [] → (a ≡ b) × (last ≡ last')
+entries_same version edges [] [] last last' small ha hb is = (refl, cc is)
+entries_same version edges [] (y ∷ b) last last' small ha hb is = absurd (one_or_more last _ _ _ _ is)
+entries_same version edges (x ∷ a) [] last last' small ha hb is = absurd (one_or_more last' _ _ _ _ (sym is))
+entries_same version edges (x ∷ a) (y ∷ b) last last' small ha hb is =
+    let seven = seven_same _ _ _ _ _ _ _ _ _ _ _ _ _ _ (flat_map (entry_lines version) a ++ last ∷ []) (flat_map (entry_lines version) b ++ last' ∷ []) is in
+    let first : x ≡ y = entry_same version edges x y small (All-head (IsGoodEntry edges) x a ha) (All-head (IsGoodEntry edges) y b hb) seven.0 seven.1 seven.2 seven.3 seven.4 seven.5 seven.6 in
+    let rest = entries_same version edges a b last last' small (All-tail (IsGoodEntry edges) x a ha) (All-tail (IsGoodEntry edges) y b hb) seven.7 in
     (cc (first, rest.0), rest.1)
 
 -- ---- whole texts
@@ -202,8 +203,8 @@ abbrev sum_line : List ℕ → List ℕ
 sum_line sum = value_line (codes "end") (encode_lower sum)
 
 -- all lines of a text
-abbrev all_lines : HistoryParts → List ℕ → List (List ℕ)
-all_lines history sum = first_lines history ++ (flat_map entry_lines history.entries ++ sum_line sum ∷ [])
+abbrev all_lines : Version → HistoryParts → List ℕ → List (List ℕ)
+all_lines version history sum = first_lines version history ++ (flat_map (entry_lines version) history.entries ++ sum_line sum ∷ [])
 
 pub good_entries : (history : HistoryParts) → IsReadable history → All (IsGoodEntry history.edges) history.entries
 good_entries history h = λ k d within. record { within = h.within.entries k d within; row = h.within.rows k d within; bytes = h.bytes k d within }
@@ -214,41 +215,41 @@ four_plain a b c d more ha hb hc hd h = All-cons IsPlain a (b ∷ c ∷ d ∷ mo
 three_plain : (a b c : List ℕ) → IsPlain a → IsPlain b → IsPlain c → All IsPlain (a ∷ b ∷ c ∷ [])
 three_plain a b c ha hb hc = All-cons IsPlain a (b ∷ c ∷ []) ha (All-cons IsPlain b (c ∷ []) hb (All-cons IsPlain c [] hc (All-nil IsPlain)))
 
-plain_entry : (edges : ℕ) (entry : EntryParts) → edges < 2 ^ 32 → IsGoodEntry edges entry → All IsPlain (entry_lines entry)
-plain_entry edges entry small h =
+plain_entry : (version : Version) (edges : ℕ) (entry : EntryParts) → edges < 2 ^ 32 → IsGoodEntry edges entry → All IsPlain (entry_lines version entry)
+plain_entry version edges entry small h =
     four_plain (value_line (codes "test") entry.test.name) (value_line (codes "budget") (decimal entry.test.budget)) (value_line (codes "input") (bytes_or_dash entry.test.input)) (line_of_words (codes "status" ∷ status_words entry.status))
-    (drop 4 (entry_lines entry))
+    (drop 4 (entry_lines version entry))
     (plain_value (codes "test") entry.test.name refl (plain_name entry.test.name h.within.test.name))
     (plain_value (codes "budget") (decimal entry.test.budget) refl (plain_decimal entry.test.budget (omega (arith, h.within.test.budget))))
     (plain_value (codes "input") (bytes_or_dash entry.test.input) refl (plain_bytes entry.test.input))
     (plain_status entry.status h.bytes.status)
-    (three_plain (value_line (codes "turns") (decimal entry.turns)) (value_line (codes "output") (bytes_or_dash entry.output)) (line_of_words (codes "crossed" ∷ words_or_dash (crossed_numbers entry.crossed)))
+    (three_plain (value_line (codes "turns") (decimal entry.turns)) (value_line (codes "output") (bytes_or_dash entry.output)) (crossed_line version entry.crossed)
     (plain_value (codes "turns") (decimal entry.turns) refl (plain_decimal entry.turns (omega (arith, h.within.turns, h.within.test.budget))))
     (plain_value (codes "output") (bytes_or_dash entry.output) refl (plain_bytes entry.output))
-    (plain_numbers edges (crossed_numbers entry.crossed) small (subst (λ n. AreRising n (crossed_numbers entry.crossed)) h.row (AreRising-crossed_numbers entry.crossed))))
+    (plain_crossed version entry.crossed (omega (arith, h.row))))
 
-plain_entries : (edges : ℕ) (entries : List EntryParts) → edges < 2 ^ 32 → All (IsGoodEntry edges) entries → All IsPlain (flat_map entry_lines entries)
-plain_entries edges [] small h = All-nil IsPlain
-plain_entries edges (entry ∷ more) small h =
-    All-append IsPlain (entry_lines entry) (flat_map entry_lines more) (plain_entry edges entry small (All-head (IsGoodEntry edges) entry more h)) (plain_entries edges more small (All-tail (IsGoodEntry edges) entry more h))
+plain_entries : (version : Version) (edges : ℕ) (entries : List EntryParts) → edges < 2 ^ 32 → All (IsGoodEntry edges) entries → All IsPlain (flat_map (entry_lines version) entries)
+plain_entries version edges [] small h = All-nil IsPlain
+plain_entries version edges (entry ∷ more) small h =
+    All-append IsPlain (entry_lines version entry) (flat_map (entry_lines version) more) (plain_entry version edges entry small (All-head (IsGoodEntry edges) entry more h)) (plain_entries version edges more small (All-tail (IsGoodEntry edges) entry more h))
 
-plain_lines : (history : HistoryParts) (sum : List ℕ) → IsReadable history → IsDigest sum → All IsPlain (all_lines history sum)
-plain_lines history sum h good =
-    four_plain (codes "dejavu history 1") (value_line (codes "source") (encode_lower history.digest)) (value_line (codes "edges") (decimal history.edges)) (value_line (codes "tests") (decimal (length history.entries)))
-    (flat_map entry_lines history.entries ++ sum_line sum ∷ [])
-    (plain_word (codes "dejavu history 1") refl)
+plain_lines : (version : Version) (history : HistoryParts) (sum : List ℕ) → IsReadable history → IsDigest sum → All IsPlain (all_lines version history sum)
+plain_lines version history sum h good =
+    four_plain (version_line version) (value_line (codes "source") (encode_lower history.digest)) (value_line (codes "edges") (decimal history.edges)) (value_line (codes "tests") (decimal (length history.entries)))
+    (flat_map (entry_lines version) history.entries ++ sum_line sum ∷ [])
+    (plain_version version)
     (plain_value (codes "source") (encode_lower history.digest) refl (plain_digest history.digest h.digest))
     (plain_value (codes "edges") (decimal history.edges) refl (plain_decimal history.edges (omega (arith, h.within.edges))))
     (plain_value (codes "tests") (decimal (length history.entries)) refl (plain_decimal (length history.entries) (omega (arith, h.within.few))))
-    (All-append IsPlain (flat_map entry_lines history.entries) (sum_line sum ∷ []) (plain_entries history.edges history.entries (omega (arith, h.within.edges)) (good_entries history h))
+    (All-append IsPlain (flat_map (entry_lines version) history.entries) (sum_line sum ∷ []) (plain_entries version history.edges history.entries (omega (arith, h.within.edges)) (good_entries history h))
     (All-cons IsPlain (sum_line sum) [] (plain_value (codes "end") (encode_lower sum) refl (plain_digest sum good)) (All-nil IsPlain)))
 
-text_lines : (history : HistoryParts) (sum : List ℕ) → text_with_sum history sum ≡ text_of_lines (all_lines history sum) ++ []
-text_lines history sum =
-    append_assoc (text_of_lines (first_lines history)) (text_of_lines (flat_map entry_lines history.entries)) (text_of_lines (sum_line sum ∷ []))
-    ∙ ap (λ rest. text_of_lines (first_lines history) ++ rest)
-    (ap (λ last. text_of_lines (flat_map entry_lines history.entries) ++ last) (sym (append-nil (text_of_lines (sum_line sum ∷ [])))) ∙ sym (lines_append (flat_map entry_lines history.entries) (sum_line sum ∷ []) []))
-    ∙ sym (lines_append (first_lines history) (flat_map entry_lines history.entries ++ sum_line sum ∷ []) [])
+text_lines : (version : Version) (history : HistoryParts) (sum : List ℕ) → text_with_sum version history sum ≡ text_of_lines (all_lines version history sum) ++ []
+text_lines version history sum =
+    append_assoc (text_of_lines (first_lines version history)) (text_of_lines (flat_map (entry_lines version) history.entries)) (text_of_lines (sum_line sum ∷ []))
+    ∙ ap (λ rest. text_of_lines (first_lines version history) ++ rest)
+    (ap (λ last. text_of_lines (flat_map (entry_lines version) history.entries) ++ last) (sym (append-nil (text_of_lines (sum_line sum ∷ [])))) ∙ sym (lines_append (flat_map (entry_lines version) history.entries) (sum_line sum ∷ []) []))
+    ∙ sym (lines_append (first_lines version history) (flat_map (entry_lines version) history.entries ++ sum_line sum ∷ []) [])
 
 ended_same : (a b : List (List ℕ)) → map (λ line. line_with line true) a ≡ map (λ line. line_with line true) b → a ≡ b
 ended_same a b is = sym (back a) ∙ ap (map bytes_in) is ∙ back b
@@ -260,12 +261,12 @@ ended_same a b is = sym (back a) ∙ ap (map bytes_in) is ∙ back b
     back [] = refl
     back (line ∷ more) = ap (λ rest. line ∷ rest) (back more)
 
-lines_same : (a b : HistoryParts) (s t : List ℕ) → IsReadable a → IsReadable b → IsDigest s → IsDigest t → text_with_sum a s ≡ text_with_sum b t → all_lines a s ≡ all_lines b t
-lines_same a b s t ha hb hs ht is =
-    ended_same (all_lines a s) (all_lines b t)
-    (sym (append-nil _) ∙ sym (lines_of-text_of_lines (all_lines a s) [] (plain_lines a s ha hs))
-    ∙ ap lines_of (sym (text_lines a s) ∙ is ∙ text_lines b t)
-    ∙ lines_of-text_of_lines (all_lines b t) [] (plain_lines b t hb ht) ∙ append-nil _)
+lines_same : (version : Version) (a b : HistoryParts) (s t : List ℕ) → IsReadable a → IsReadable b → IsDigest s → IsDigest t → text_with_sum version a s ≡ text_with_sum version b t → all_lines version a s ≡ all_lines version b t
+lines_same version a b s t ha hb hs ht is =
+    ended_same (all_lines version a s) (all_lines version b t)
+    (sym (append-nil _) ∙ sym (lines_of-text_of_lines (all_lines version a s) [] (plain_lines version a s ha hs))
+    ∙ ap lines_of (sym (text_lines version a s) ∙ is ∙ text_lines version b t)
+    ∙ lines_of-text_of_lines (all_lines version b t) [] (plain_lines version b t hb ht) ∙ append-nil _)
 
 four_same : (a b c d a' b' c' d' : List ℕ) (more more' : List (List ℕ)) → (a ∷ b ∷ c ∷ d ∷ more) ≡ (a' ∷ b' ∷ c' ∷ d' ∷ more') → (b ≡ b') × (c ≡ c') × (more ≡ more')
 four_same a b c d a' b' c' d' more more' is = (cc is, cc is, cc is)
@@ -277,10 +278,10 @@ history_parts : (a b : HistoryParts) → a.digest ≡ b.digest → a.edges ≡ b
 history_parts a b digests edges entries =
     ap (λ digest. history_with digest a.edges a.entries) digests ∙ ap (λ n. history_with b.digest n a.entries) edges ∙ ap (λ es. history_with b.digest b.edges es) entries
 
-pub histories_same : (a b : HistoryParts) (s t : List ℕ) → IsReadable a → IsReadable b → IsDigest s → IsDigest t → text_with_sum a s ≡ text_with_sum b t → (a ≡ b) × (s ≡ t)
-histories_same a b s t ha hb hs ht is =
-    let four = four_same _ _ _ _ _ _ _ _ _ _ (lines_same a b s t ha hb hs ht is) in
+pub histories_same : (version : Version) (a b : HistoryParts) (s t : List ℕ) → IsReadable a → IsReadable b → IsDigest s → IsDigest t → text_with_sum version a s ≡ text_with_sum version b t → (a ≡ b) × (s ≡ t)
+histories_same version a b s t ha hb hs ht is =
+    let four = four_same _ _ _ _ _ _ _ _ _ _ (lines_same version a b s t ha hb hs ht is) in
     let digests : a.digest ≡ b.digest = digest_same (codes "source") a.digest b.digest ha.digest hb.digest four.0 in
     let edges : a.edges ≡ b.edges = number_same (codes "edges") a.edges b.edges (omega (arith, ha.within.edges)) (omega (arith, hb.within.edges)) four.1 in
-    let both = entries_same b.edges a.entries b.entries (sum_line s) (sum_line t) (omega (arith, hb.within.edges)) (subst (λ n. All (IsGoodEntry n) a.entries) edges (good_entries a ha)) (good_entries b hb) four.2 in
+    let both = entries_same version b.edges a.entries b.entries (sum_line s) (sum_line t) (omega (arith, hb.within.edges)) (subst (λ n. All (IsGoodEntry n) a.entries) edges (good_entries a ha)) (good_entries b hb) four.2 in
     (history_parts a b digests edges both.0, digest_same (codes "end") s t hs ht both.1)

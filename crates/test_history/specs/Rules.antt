@@ -1,6 +1,6 @@
 -- The rules H1 to H14 of a history's lines, and the first line that breaks one.
-use Rattle.std.specs.Prelude.{◌≡◌, ◌≤◌, ◌<◌, ◌+◌, ◌-◌, ◌*◌, ℕ, List, ◌∷◌, length, codes, true}
-use Rattle.std.specs.Prelude.{Option, Some, None, slice_get, All, AllPairs}
+use Rattle.std.specs.Prelude.{◌≡◌, ◌≤◌, ◌<◌, ◌+◌, ◌-◌, ◌*◌, ℕ, Bool, List, ◌∷◌, length, codes, true}
+use Rattle.std.specs.Prelude.{Option, Some, None, slice_get}
 use Rattle.std.specs.Fmt.{decimal}
 use Rattle.hex.specs.Hex.{encode_lower, IsBytes}
 use Rattle.csub_semantics.specs.Memory.{most_output}
@@ -11,8 +11,9 @@ use Rattle.line_text.specs.Lines.{TextLine, lines_of, line_with}
 use Rattle.line_text.specs.Words.{line_of_words}
 use Rattle.test_suite.specs.Suites.{most_tests}
 use Rattle.test_suite.specs.Tests.{IsTestName, most_budget, most_input}
+use Rattle.test_history.specs.declared.version.Version.{Version}
 use Rattle.test_history.specs.Histories.{IsDigest, IsByteStatus}
-use Rattle.test_history.specs.HistoryTexts.{value_line, status_words, words_or_dash}
+use Rattle.test_history.specs.HistoryTexts.{value_line, version_line, crossed_line, status_words}
 
 -- the rules of a history's lines
 pub data Rule : Type 0 where
@@ -59,11 +60,6 @@ HasDigest text n word = (digest : List ℕ) × IsDigest digest × HasLine text n
 abbrev pub HasName : List ℕ → ℕ → List ℕ → Type 0
 HasName text n name = IsTestName name × HasLine text n (value_line (codes "test") name)
 
--- each number is less than every later one, and less than the bound
-pub record AreRising (bound : ℕ) (numbers : List ℕ) : Type 0 where
-  pub rising : AllPairs (λ number later. number < later) numbers
-  pub below : All (λ number. number < bound) numbers
-
 -- what line 3 says: so many edges
 abbrev pub SaysEdges : List ℕ → ℕ → Type 0
 SaysEdges text edges = HasNumber text 3 (codes "edges") most_edges edges
@@ -98,43 +94,43 @@ IsAsked text h12 n = IsOfEntry text 6 n
 IsAsked text h13 n = IsAfterEntries text 0 n
 IsAsked text h14 n = IsAfterEntries text 1 n
 
--- line n keeps the rule; a line that is missing or lacks its newline keeps none but H14
-abbrev pub Keeps : List ℕ → Rule → ℕ → Type 0
--- `dejavu history 1`
-Keeps text h1 n = HasLine text n (codes "dejavu history 1")
+-- line n keeps the rule of a version, where only H1 and H12 differ; a line that is missing or lacks its newline keeps none but H14
+abbrev pub Keeps : Version → List ℕ → Rule → ℕ → Type 0
+-- `dejavu history` and the number of the version
+Keeps version text h1 n = HasLine text n (version_line version)
 -- `source` and 64 digits
-Keeps text h2 n = HasDigest text n (codes "source")
+Keeps version text h2 n = HasDigest text n (codes "source")
 -- `edges` and a number up to 10,000
-Keeps text h3 n = (edges : ℕ) × HasNumber text n (codes "edges") most_edges edges
+Keeps version text h3 n = (edges : ℕ) × HasNumber text n (codes "edges") most_edges edges
 -- `tests` and a number up to 8,192
-Keeps text h4 n = (tests : ℕ) × HasNumber text n (codes "tests") most_tests tests
+Keeps version text h4 n = (tests : ℕ) × HasNumber text n (codes "tests") most_tests tests
 -- `test` and a name
-Keeps text h5 n = (name : List ℕ) × HasName text n name
+Keeps version text h5 n = (name : List ℕ) × HasName text n name
 -- that name stood in no earlier entry
-Keeps text h6 n = (name : List ℕ) → HasName text n name → (m : ℕ) → m < n → IsAsked text h5 m → ¬ HasName text m name
+Keeps version text h6 n = (name : List ℕ) → HasName text n name → (m : ℕ) → m < n → IsAsked text h5 m → ¬ HasName text m name
 -- `budget` and a number up to 10,000,000
-Keeps text h7 n = (budget : ℕ) × HasNumber text n (codes "budget") most_budget budget
+Keeps version text h7 n = (budget : ℕ) × HasNumber text n (codes "budget") most_budget budget
 -- `input` and at most 16,384 bytes
-Keeps text h8 n = HasBytes text n (codes "input") most_input
+Keeps version text h8 n = HasBytes text n (codes "input") most_input
 -- `status` and `exit N` with N up to 255, `trap` and a trap's name, or `turns`
-Keeps text h9 n = (status : Status) × IsByteStatus status × HasLine text n (line_of_words (codes "status" ∷ status_words status))
+Keeps version text h9 n = (status : Status) × IsByteStatus status × HasLine text n (line_of_words (codes "status" ∷ status_words status))
 -- `turns` and a number up to the budget, which stands three lines before
-Keeps text h10 n = (budget turns : ℕ) × HasNumber text (n - 3) (codes "budget") most_budget budget × HasNumber text n (codes "turns") budget turns
+Keeps version text h10 n = (budget turns : ℕ) × HasNumber text (n - 3) (codes "budget") most_budget budget × HasNumber text n (codes "turns") budget turns
 -- `output` and at most 16,384 bytes
-Keeps text h11 n = HasBytes text n (codes "output") most_output
--- `crossed` and rising numbers below the number of edges, or `-` for none
-Keeps text h12 n = (edges : ℕ) × (numbers : List ℕ) × SaysEdges text edges × AreRising edges numbers
-    × HasLine text n (line_of_words (codes "crossed" ∷ words_or_dash numbers))
+Keeps version text h11 n = HasBytes text n (codes "output") most_output
+-- `crossed` and what stands for some set of edges, of which there are as many as line 3 says
+Keeps version text h12 n = (edges : ℕ) × (row : List Bool) × SaysEdges text edges × (length row ≡ edges)
+    × HasLine text n (crossed_line version row)
 -- `end` and 64 digits
-Keeps text h13 n = HasDigest text n (codes "end")
+Keeps version text h13 n = HasDigest text n (codes "end")
 -- nothing follows: there is no such line
-Keeps text h14 n = line_at text n ≡ None
+Keeps version text h14 n = line_at text n ≡ None
 
--- line n is the first that breaks a rule of its place, and r is the number of the least such rule
-pub record IsFirstFault (text : List ℕ) (n r : ℕ) : Type 0 where
+-- in a version, line n is the first that breaks a rule of its place, and r is the number of the least such rule
+pub record IsFirstFault (version : Version) (text : List ℕ) (n r : ℕ) : Type 0 where
   pub rule : Rule
   pub number : r ≡ number_of rule
   pub asked : IsAsked text rule n
-  pub broken : ¬ Keeps text rule n
-  pub least : (other : Rule) → IsAsked text other n → number_of other < r → Keeps text other n
-  pub earlier : (m : ℕ) (other : Rule) → m < n → IsAsked text other m → Keeps text other m
+  pub broken : ¬ Keeps version text rule n
+  pub least : (other : Rule) → IsAsked text other n → number_of other < r → Keeps version text other n
+  pub earlier : (m : ℕ) (other : Rule) → m < n → IsAsked text other m → Keeps version text other m

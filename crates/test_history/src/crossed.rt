@@ -1,82 +1,48 @@
 // The line of the crossed edges.
-ghost use Rattle.std.specs.Prelude.{◌≡◌, ◌≢◌, ◌<◌, ◌^◌, ◌++◌, ◌∷◌, ℕ, List, length, map, codes, IfOk, MatchBool, MatchOption, replicate, false};
-ghost use Rattle.std.specs.Fmt.{decimal};
-ghost use Rattle.line_text.specs.Words.{line_of_words, pieces};
-ghost use Rattle.test_history.specs.HistoryTexts.{words_or_dash, crossed_numbers};
-ghost use Rattle.test_history.specs.Rules.{HasLine, AreRising};
+ghost use Rattle.std.specs.Prelude.{◌≡◌, ◌≢◌, ◌++◌, ◌∷◌, List, Bool, length, IfOk, MatchOption};
+ghost use Rattle.test_history.specs.HistoryTexts.{crossed_line, crossed_text};
+ghost use Rattle.test_history.specs.Rules.{HasLine};
 
+use crate::bits::row_of_bytes;
+use crate::numbers::row_of_numbers;
 use crate::values::cut_value;
+use crate::version::Version;
 use edge_trace::EdgeRow;
-use line_text::{cut_word, read_decimal};
 use std::alloc::{AllocError, Global};
 
-const MOST_NUMBER: u64 = 0xffff_ffff;
-
-/// Reads the line of the crossed edges, whose numbers rise and are below `edges`.
+/// Reads the line of the crossed edges, of which there are `edges`.
 pub fn read_crossed<'a>(
     alloc: Global,
+    version: Version,
     text: &'a [u8],
     edges: u32,
 ) -> Result<Option<(EdgeRow, &'a [u8])>, AllocError>
     ensures { IfOk result (λ found. MatchOption found
-        ((numbers : List ℕ) → AreRising edges numbers → ¬ HasLine text.now 1 (line_of_words (codes "crossed" ∷ words_or_dash numbers)))
-        (λ read. (length read.0 ≡ edges)
-        × (text.now ≡ line_of_words (codes "crossed" ∷ words_or_dash (crossed_numbers read.0)) ++ 10 ∷ read.1.now))) }
+        ((row : List Bool) → length row ≡ edges → ¬ HasLine text.now 1 (crossed_line version row))
+        (λ read. (length read.0 ≡ edges) × (text.now ≡ crossed_line version read.0 ++ 10 ∷ read.1.now))) }
 {
     let Some(value) = cut_value(text, b"crossed") else {
         return Ok(None);
     };
-    match row_of(alloc, value.bytes, edges)? {
+    match row_of(alloc, version, value.bytes, edges)? {
         Some(row) => Ok(Some((row, value.rest))),
         None => Ok(None),
     }
 }
 
-// The row of the numbers that the words say: rising ones, or none where there is a `-` alone.
-fn row_of(alloc: Global, words: &[u8], edges: u32) -> Result<Option<EdgeRow>, AllocError>
+// The row that the text stands for.
+fn row_of(
+    alloc: Global,
+    version: Version,
+    text: &[u8],
+    edges: u32,
+) -> Result<Option<EdgeRow>, AllocError>
     ensures { IfOk result (λ found. MatchOption found
-        ((numbers : List ℕ) → AreRising edges numbers → words.now ≢ line_of_words (words_or_dash numbers))
-        (λ row. (length row ≡ edges) × (words.now ≡ line_of_words (words_or_dash (crossed_numbers row))))) }
+        ((row : List Bool) → length row ≡ edges → text.now ≢ crossed_text version row)
+        (λ row. (length row ≡ edges) × (text.now ≡ crossed_text version row))) }
 {
-    let mut row = EdgeRow::new(alloc, edges)?;
-    if words == b"-".as_slice() {
-        return Ok(Some(row));
-    }
-    if set_numbers(&mut row, words) {
-        Ok(Some(row))
-    } else {
-        Ok(None)
-    }
-}
-
-// Adds the numbers of the words to an empty row. False where a word is no number, or not a greater one
-// than that before it, or not one below the row's bound.
-fn set_numbers(row: &mut EdgeRow, words: &[u8]) -> bool
-    requires empty { row.old ≡ replicate (length row.old) false }
-    requires bound { length row.old < 2 ^ 32 }
-    ensures edges { length row.new ≡ length row.old }
-    ensures numbers { MatchBool result
-        (pieces words.now ≡ map decimal (crossed_numbers row.new))
-        ((numbers : List ℕ) → AreRising (length row.old) numbers → pieces words.now ≢ map decimal numbers) }
-{
-    let mut rest = words;
-    let mut least = 0; // the next number must not be less
-    loop {
-        let Some(word) = cut_word(rest) else {
-            return false;
-        };
-        let Some(number) = read_decimal(word.bytes, MOST_NUMBER) else {
-            return false;
-        };
-        let number = number as u32;
-        if number < least || number >= row.edges() {
-            return false;
-        }
-        row.set(number);
-        match word.rest {
-            None => return true,
-            Some(more) => rest = more,
-        }
-        least = number + 1;
+    match version {
+        Version::Second => row_of_numbers(alloc, text, edges),
+        Version::Third => row_of_bytes(alloc, text, edges),
     }
 }

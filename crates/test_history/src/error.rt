@@ -31,7 +31,7 @@ pub enum HistoryError {
     /// The text has more than 134,217,728 bytes: so many.
     #[error("{0} bytes are too many")]
     TooLong(usize),
-    /// The text is of another version of the format than 1.
+    /// The text is of another version of the format than the one that is read.
     #[error("version {0} is another")]
     Version(u32),
     /// The first line that breaks a rule of its place, counted from 1, and the least such rule, 1 to 14.

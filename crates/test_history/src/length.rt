@@ -8,16 +8,17 @@ ghost use Rattle.line_text.specs.Lines.{text_of_lines};
 ghost use Rattle.line_text.specs.Words.{line_of_words};
 ghost use Rattle.test_suite.specs.Suites.{most_tests};
 ghost use Rattle.test_history.specs.Histories.{IsEntryWithin, IsHistoryWithin};
-ghost use Rattle.test_history.specs.HistoryTexts.{history_text, entry_lines, status_words, words_or_dash, crossed_numbers};
+ghost use Rattle.test_history.specs.HistoryTexts.{history_text, entry_lines, status_words, crossed_line};
 
 use crate::entry::Entry;
 use crate::history::History;
 use crate::lines::name_of_trap;
+use crate::version::Version;
 use csub_semantics::Status;
 use edge_trace::EdgeRow;
 use itoa::Buffer;
 
-// `dejavu history 1`, `source`, `edges`, `tests` and `end`, with what stands between words and lines.
+// `dejavu history 3`, `source`, `edges`, `tests` and `end`, with what stands between words and lines.
 const FRAME_BYTES: u64 = 17 + 8 + 7 + 7 + 5;
 
 // The digits of the sum.
@@ -44,8 +45,8 @@ fn entries_length(entries: &[Entry]) -> u64
     requires few { length entries.now ≤ most_tests }
     requires within { All IsEntryWithin entries.now }
     requires rows { All (λ entry. length entry.crossed ≤ most_edges) entries.now }
-    ensures exact { result ≡ length (text_of_lines (flat_map entry_lines entries.now)) }
-    ensures small { result ≤ 4000000000 }
+    ensures exact { result ≡ length (text_of_lines (flat_map (entry_lines Version.Third) entries.now)) }
+    ensures small { result ≤ 800000000 }
 {
     let mut length = 0;
     for entry in entries {
@@ -57,8 +58,8 @@ fn entries_length(entries: &[Entry]) -> u64
 fn entry_length(entry: &Entry) -> u64
     requires within { IsEntryWithin entry.now }
     requires edges { length entry.now.crossed ≤ most_edges }
-    ensures exact { result ≡ length (text_of_lines (entry_lines entry.now)) }
-    ensures small { result ≤ 400000 }
+    ensures exact { result ≡ length (text_of_lines (entry_lines Version.Third entry.now)) }
+    ensures small { result ≤ 80000 }
 {
     ENTRY_BYTES
         + entry.test().name().bytes().len() as u64
@@ -106,18 +107,11 @@ fn status_length(status: Status) -> u64
 // The line of the crossed edges.
 fn crossed_length(crossed: &EdgeRow) -> u64
     requires { length crossed.now ≤ most_edges }
-    ensures exact { result
-        ≡ length (line_of_words (codes "crossed" ∷ words_or_dash (crossed_numbers crossed.now))) }
-    ensures small { result ≤ 300000 }
+    ensures exact { result ≡ length (crossed_line Version.Third crossed.now) }
+    ensures small { result ≤ 3000 }
 {
-    if crossed.count() == 0 {
-        return 9;
+    match crossed.edges() {
+        0 => 9,
+        edges => 8 + 2 * u64::from(edges.div_ceil(8)),
     }
-    let mut length = 7;
-    for edge in 0..crossed.edges() {
-        if crossed.has(edge) {
-            length += 1 + decimal_length(u64::from(edge));
-        }
-    }
-    length
 }

@@ -4,10 +4,9 @@ ghost use Rattle.std.specs.Fmt.{decimal};
 ghost use Rattle.hex.specs.Hex.{encode_lower};
 ghost use Rattle.line_text.specs.Bytes.{bytes_or_dash};
 ghost use Rattle.line_text.specs.Words.{line_of_words};
-ghost use Rattle.test_history.specs.HistoryTexts.{trap_name, status_words, crossed_numbers, words_or_dash, value_line};
+ghost use Rattle.test_history.specs.HistoryTexts.{trap_name, status_words, value_line};
 
 use csub_semantics::{Status, Trap};
-use edge_trace::EdgeRow;
 use line_text::{push_bytes_or_dash, push_decimal, push_hex};
 use std::alloc::AllocError;
 
@@ -87,24 +86,4 @@ pub fn push_status_line(text: &mut Vec<u8>, status: Status) -> Result<(), AllocE
         Status::Trap(trap) => push_text_line(text, b"status trap", name_of_trap(trap)),
         Status::Turns => text.extend_from_slice(b"status turns\n"),
     }
-}
-
-/// Appends the line of the crossed edges: their numbers, rising, or `-` where there are none.
-pub fn push_crossed_line(text: &mut Vec<u8>, crossed: &EdgeRow) -> Result<(), AllocError>
-    ensures { OnOk result (text.new.items ≡ text.old.items
-        ++ line_of_words (codes "crossed" ∷ words_or_dash (crossed_numbers crossed.now)) ++ 10 ∷ []) }
-{
-    if crossed.count() == 0 {
-        text.extend_from_slice(b"crossed -\n")?;
-        return Ok(());
-    }
-    text.extend_from_slice(b"crossed")?;
-    for edge in 0..crossed.edges() {
-        if crossed.has(edge) {
-            text.push(b' ')?;
-            push_decimal(text, u64::from(edge))?;
-        }
-    }
-    text.push(b'\n')?;
-    Ok(())
 }

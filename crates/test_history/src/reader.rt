@@ -12,7 +12,7 @@ ghost use Rattle.test_suite.specs.Tests.{IsWithin};
 ghost use Rattle.test_history.specs.Causes.{HasHistoryCause, HasNoCause, IsOnlyCause, SaysHistory};
 ghost use Rattle.test_history.specs.Faults.{IsGoodEntry, IsHead, IsEntryFault, IsResultsFault, IsEndFault, IsRestRefusal, IsRefusalOf, refusal_after as refusal_after_lem};
 ghost use Rattle.test_history.specs.Histories.{HistoryParts, IsReadable, IsDigest, names_of};
-ghost use Rattle.test_history.specs.HistoryTexts.{history_text, text_before_end, value_line, entry_lines, most_history_bytes};
+ghost use Rattle.test_history.specs.HistoryTexts.{history_text, history_text_2, versioned_text, text_before_end, version_line, value_line, entry_lines, most_history_bytes};
 ghost use Rattle.test_history.specs.Rules.{SaysEdges, SaysTests};
 
 use crate::crossed::read_crossed;
@@ -22,6 +22,7 @@ use crate::error::HistoryError;
 use crate::fault::Fault;
 use crate::history::History;
 use crate::values::{read_bytes, read_digest_line, read_name, read_number, read_status};
+use crate::version::Version;
 use csub_text::Text;
 use indexmap::IndexSet;
 use std::alloc::{AllocError, Global};
@@ -41,9 +42,9 @@ const MOST_INPUT: usize = 16_384;
 
 const MOST_OUTPUT: usize = 16_384;
 
-/// Reads a history of the source `old`, whose program has `edges` edges: exactly the texts that
-/// `write_history` writes of one, as that history. Every other text is refused with the first cause that
-/// holds, in the order of `HistoryError`'s variants and by the rules H1 to H14 of `specs/Rules.antt`;
+/// Reads a history of the source `old`, whose program has `edges` edges, in version 3: exactly the texts
+/// that `write_history` writes of one, as that history. Every other text is refused with the first cause
+/// that holds, in the order of `HistoryError`'s variants and by the rules H1 to H14 of `specs/Rules.antt`;
 /// want of memory may come at any text. It goes over the text once, and once more to take its digest.
 pub fn read_history(
     alloc: Global,
@@ -55,18 +56,67 @@ pub fn read_history(
     ensures within { IfOk result IsReadable }
     ensures digest { IfOk result (λ history. history.digest ≡ sha256 old.now) }
     ensures edges { IfOk result (λ history. history.edges ≡ edges) }
-    ensures cause { IfErr result (HasHistoryCause bytes.now old.now edges) }
+    ensures cause { IfErr result (HasHistoryCause Version.Third bytes.now old.now edges) }
     // each refusal comes exactly where it has a cause
-    ensures exact { MatchResult result (λ history. HasNoCause bytes.now old.now edges) (IsOnlyCause bytes.now old.now edges) }
+    ensures exact { MatchResult result (λ history. HasNoCause Version.Third bytes.now old.now edges)
+        (IsOnlyCause Version.Third bytes.now old.now edges) }
     // what can be read is read back
     ensures back { (history : HistoryParts) → IsReadable history → bytes.now ≡ history_text history
+        → length bytes.now ≤ most_history_bytes → history.digest ≡ sha256 old.now → history.edges ≡ edges
+        → MatchResult result (λ found. found ≡ history) (λ error. error ≡ HistoryError.Memory) }
+{
+    read_text(alloc, Version::Third, bytes, old, edges)
+}
+
+/// Reads a history in version 2 of the format, as `read_history` does in version 3: exactly the texts that
+/// `history_text_2` of `specs/HistoryTexts.antt` gives, and with the same refusals by that version's rules.
+pub fn read_history_2(
+    alloc: Global,
+    bytes: &[u8],
+    old: &[u8],
+    edges: u32,
+) -> Result<History, HistoryError>
+    ensures history { IfOk result (λ history. bytes.now ≡ history_text_2 history) }
+    ensures within { IfOk result IsReadable }
+    ensures digest { IfOk result (λ history. history.digest ≡ sha256 old.now) }
+    ensures edges { IfOk result (λ history. history.edges ≡ edges) }
+    ensures cause { IfErr result (HasHistoryCause Version.Second bytes.now old.now edges) }
+    // each refusal comes exactly where it has a cause
+    ensures exact { MatchResult result (λ history. HasNoCause Version.Second bytes.now old.now edges)
+        (IsOnlyCause Version.Second bytes.now old.now edges) }
+    // what can be read is read back
+    ensures back { (history : HistoryParts) → IsReadable history → bytes.now ≡ history_text_2 history
+        → length bytes.now ≤ most_history_bytes → history.digest ≡ sha256 old.now → history.edges ≡ edges
+        → MatchResult result (λ found. found ≡ history) (λ error. error ≡ HistoryError.Memory) }
+{
+    read_text(alloc, Version::Second, bytes, old, edges)
+}
+
+// Reads a history in a version of the format.
+fn read_text(
+    alloc: Global,
+    version: Version,
+    bytes: &[u8],
+    old: &[u8],
+    edges: u32,
+) -> Result<History, HistoryError>
+    ensures history { IfOk result (λ history. bytes.now ≡ versioned_text version history) }
+    ensures within { IfOk result IsReadable }
+    ensures digest { IfOk result (λ history. history.digest ≡ sha256 old.now) }
+    ensures edges { IfOk result (λ history. history.edges ≡ edges) }
+    ensures cause { IfErr result (HasHistoryCause version bytes.now old.now edges) }
+    // each refusal comes exactly where it has a cause
+    ensures exact { MatchResult result (λ history. HasNoCause version bytes.now old.now edges)
+        (IsOnlyCause version bytes.now old.now edges) }
+    // what can be read is read back
+    ensures back { (history : HistoryParts) → IsReadable history → bytes.now ≡ versioned_text version history
         → length bytes.now ≤ most_history_bytes → history.digest ≡ sha256 old.now → history.edges ≡ edges
         → MatchResult result (λ found. found ≡ history) (λ error. error ≡ HistoryError.Memory) }
 {
     if bytes.len() > MOST_BYTES {
         return Err(HistoryError::TooLong(bytes.len()));
     }
-    let told = read_lines(alloc, bytes)?;
+    let told = read_lines(alloc, version, bytes)?;
     let sum = digest_of(told.before_end);
     if told.sum != sum {
         return Err(HistoryError::Sum(told.sum, sum));
@@ -91,13 +141,13 @@ struct Told<'a> {
 }
 
 // What the lines of a text say, if none breaks a rule.
-fn read_lines(alloc: Global, bytes: &[u8]) -> Result<Told<'_>, HistoryError>
-    ensures says { IfOk result (λ told. SaysHistory bytes.now told.history told.sum) }
-    ensures before { IfOk result (λ told. told.before_end.now ≡ text_before_end told.history) }
-    ensures refusal { IfErr result (IsRefusalOf bytes.now) }
+fn read_lines(alloc: Global, version: Version, bytes: &[u8]) -> Result<Told<'_>, HistoryError>
+    ensures says { IfOk result (λ told. SaysHistory version bytes.now told.history told.sum) }
+    ensures before { IfOk result (λ told. told.before_end.now ≡ text_before_end version told.history) }
+    ensures refusal { IfErr result (IsRefusalOf version bytes.now) }
 {
-    let head = read_head(bytes)?;
-    let (entries, rest) = read_entries(alloc, head.rest, head.edges, head.tests)?;
+    let head = read_head(version, bytes)?;
+    let (entries, rest) = read_entries(alloc, version, head.rest, head.edges, head.tests)?;
     match read_end(rest) {
         Ok(sum) => Ok(Told {
             history: History::new(head.digest, head.edges, entries),
@@ -117,11 +167,11 @@ struct Head<'a> {
     rest: &'a [u8],
 }
 
-fn read_head(bytes: &[u8]) -> Result<Head<'_>, HistoryError>
-    ensures head { IfOk result (λ head. IsHead bytes.now head.digest head.edges head.tests head.rest.now) }
-    ensures refusal { IfErr result (IsRefusalOf bytes.now) }
+fn read_head(version: Version, bytes: &[u8]) -> Result<Head<'_>, HistoryError>
+    ensures head { IfOk result (λ head. IsHead version bytes.now head.digest head.edges head.tests head.rest.now) }
+    ensures refusal { IfErr result (IsRefusalOf version bytes.now) }
 {
-    let rest = read_version(bytes)?;
+    let rest = read_version(version, bytes)?;
     let Some(source) = read_digest_line(rest, b"source") else {
         return Err(HistoryError::Malformed(2, 2));
     };
@@ -141,36 +191,40 @@ fn read_head(bytes: &[u8]) -> Result<Head<'_>, HistoryError>
 }
 
 // What follows line 1, which says the version.
-fn read_version(bytes: &[u8]) -> Result<&[u8], HistoryError>
-    ensures rest { IfOk result (λ rest. bytes.now ≡ codes "dejavu history 1" ++ 10 ∷ rest.now) }
-    ensures refusal { IfErr result (IsRefusalOf bytes.now) }
+fn read_version(version: Version, bytes: &[u8]) -> Result<&[u8], HistoryError>
+    ensures rest { IfOk result (λ rest. bytes.now ≡ version_line version ++ 10 ∷ rest.now) }
+    ensures refusal { IfErr result (IsRefusalOf version bytes.now) }
 {
-    match read_number(bytes, b"dejavu history", MOST_VERSION) {
-        Some((1, rest)) => Ok(rest),
-        Some((version, _)) => Err(HistoryError::Version(version as u32)),
-        None => Err(HistoryError::Malformed(1, 1)),
+    let Some((number, rest)) = read_number(bytes, b"dejavu history", MOST_VERSION) else {
+        return Err(HistoryError::Malformed(1, 1));
+    };
+    if number == version.number() {
+        Ok(rest)
+    } else {
+        Err(HistoryError::Version(number as u32))
     }
 }
 
 // The entries of so many tests, and what follows them.
 fn read_entries<'a>(
     alloc: Global,
+    version: Version,
     text: &'a [u8],
     edges: u32,
     tests: u32,
 ) -> Result<(Vec<Entry>, &'a [u8]), HistoryError>
     requires { tests ≤ most_tests }
-    ensures rest { IfOk result (λ read. text.now ≡ text_of_lines (flat_map entry_lines read.0.items) ++ read.1.now) }
+    ensures rest { IfOk result (λ read. text.now ≡ text_of_lines (flat_map (entry_lines version) read.0.items) ++ read.1.now) }
     ensures good { IfOk result (λ read. All (IsGoodEntry edges) read.0.items) }
     ensures apart { IfOk result (λ read. AllPairs (λ name other. name ≢ other) (names_of read.0.items)) }
     ensures count { IfOk result (λ read. length read.0.items ≡ tests) }
-    ensures refusal { IfErr result (IsRestRefusal text.now edges tests) }
+    ensures refusal { IfErr result (IsRestRefusal version text.now edges tests) }
 {
     let mut rest = text;
     let mut names: IndexSet<&[u8]> = IndexSet::new(alloc);
     let mut entries = Vec::new(alloc);
     for place in 0..tests {
-        match read_entry(alloc, rest, edges, &mut names) {
+        match read_entry(alloc, version, rest, edges, &mut names) {
             Ok((entry, left)) => {
                 let Ok(()) = entries.push(entry) else {
                     return Err(HistoryError::Memory);
@@ -197,16 +251,17 @@ fn refusal_after(lines: u32, fault: Fault) -> HistoryError
 // The entry that a text begins with, and what follows it. Its name is added to those of earlier entries.
 fn read_entry<'a>(
     alloc: Global,
+    version: Version,
     text: &'a [u8],
     edges: u32,
     names: &mut IndexSet<&'a [u8]>,
 ) -> Result<(Entry, &'a [u8]), Fault>
-    ensures rest { IfOk result (λ read. text.now ≡ text_of_lines (entry_lines read.0) ++ read.1.now) }
+    ensures rest { IfOk result (λ read. text.now ≡ text_of_lines (entry_lines version read.0) ++ read.1.now) }
     ensures good { IfOk result (λ read. IsGoodEntry edges read.0) }
     ensures new { IfOk result (λ read. ¬ Contains (map (λ name. name.now) names.old.keys) read.0.test.name) }
     ensures names { IfOk result (λ read.
         map (λ name. name.now) names.new.keys ≡ map (λ name. name.now) names.old.keys ++ read.0.test.name ∷ []) }
-    ensures fault { IfErr result (IsEntryFault text.now edges (map (λ name. name.now) names.old.keys)) }
+    ensures fault { IfErr result (IsEntryFault version text.now edges (map (λ name. name.now) names.old.keys)) }
 {
     let Some(name) = read_name(text) else {
         return Err(Fault::Broken(1, 5));
@@ -221,7 +276,7 @@ fn read_entry<'a>(
         return Err(Fault::Broken(3, 8));
     };
     let test = Test::new(Text::new(alloc, name.bytes)?, budget as u32, input);
-    read_results(alloc, test, rest, edges)
+    read_results(alloc, version, test, rest, edges)
 }
 
 // Adds a name. False where it was there.
@@ -238,16 +293,17 @@ fn is_new<'a>(names: &mut IndexSet<&'a [u8]>, name: &'a [u8]) -> Result<bool, Al
 // The entry of a test, of which the text has the results.
 fn read_results<'a>(
     alloc: Global,
+    version: Version,
     test: Test,
     text: &'a [u8],
     edges: u32,
 ) -> Result<(Entry, &'a [u8]), Fault>
     requires within { IsWithin test }
     requires bytes { IsBytes test.input }
-    ensures rest { IfOk result (λ read. text.now ≡ text_of_lines (drop 3 (entry_lines read.0)) ++ read.1.now) }
+    ensures rest { IfOk result (λ read. text.now ≡ text_of_lines (drop 3 (entry_lines version read.0)) ++ read.1.now) }
     ensures good { IfOk result (λ read. IsGoodEntry edges read.0) }
     ensures test { IfOk result (λ read. read.0.test ≡ test) }
-    ensures fault { IfErr result (IsResultsFault text.now edges test.budget) }
+    ensures fault { IfErr result (IsResultsFault version text.now edges test.budget) }
 {
     let Some((status, rest)) = read_status(text) else {
         return Err(Fault::Broken(4, 9));
@@ -258,7 +314,7 @@ fn read_results<'a>(
     let Some((output, rest)) = read_bytes(alloc, rest, b"output", MOST_OUTPUT)? else {
         return Err(Fault::Broken(6, 11));
     };
-    let Some((crossed, rest)) = read_crossed(alloc, rest, edges)? else {
+    let Some((crossed, rest)) = read_crossed(alloc, version, rest, edges)? else {
         return Err(Fault::Broken(7, 12));
     };
     let entry = Entry::new(test, status, turns as u32, output, crossed);

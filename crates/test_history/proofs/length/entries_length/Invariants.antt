@@ -1,11 +1,12 @@
 use Rattle.std.proofs.Common.{◌≡◌, ◌+◌, ◌*◌, ◌≤◌, length, drop}
 use Rattle.std.specs.List.{flat_map}
 use Rattle.line_text.specs.Lines.{text_of_lines}
+use Rattle.test_history.specs.declared.version.Version.TheVariants.{Third}
 use Rattle.test_history.specs.HistoryTexts.{entry_lines}
 use Rattle.test_history.proofs.length.entries_length.Given as goal
 
 abbrev pub invariant-loop-entry : goal.invariant-loop-entry
 invariant-loop-entry l = record {
-  exact : l.length + length (text_of_lines (flat_map entry_lines (drop l.entry-index l.entries))) ≡ length (text_of_lines (flat_map entry_lines l.entries));
-  small : l.length ≤ 400000 * l.entry-index;
+  exact : l.length + length (text_of_lines (flat_map (entry_lines Third) (drop l.entry-index l.entries))) ≡ length (text_of_lines (flat_map (entry_lines Third) l.entries));
+  small : l.length ≤ 80000 * l.entry-index;
 }

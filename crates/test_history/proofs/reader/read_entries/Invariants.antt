@@ -9,7 +9,7 @@ use Rattle.test_history.proofs.reader.read_entries.Given as goal
 abbrev pub invariant-loop-place : goal.invariant-loop-place
 invariant-loop-place l = record {
   count : length l.entries.items ≡ l.place;
-  rest : l.text ≡ text_of_lines (flat_map entry_lines l.entries.items) ++ l.rest;
+  rest : l.text ≡ text_of_lines (flat_map (entry_lines l.version) l.entries.items) ++ l.rest;
   good : All (IsGoodEntry l.edges) l.entries.items;
   names : map (λ name. name.now) l.names.keys ≡ names_of l.entries.items;
   apart : AllPairs (λ name other. name ≢ other) (names_of l.entries.items);

@@ -1,13 +1,14 @@
+use Rattle.std.proofs.Common.{◌∙◌, sym}
 use Rattle.test_history.proofs.WholeLemmas.{this_version, other_version, version_fault}
 use Rattle.test_history.proofs.reader.read_version.Goals as goal
 
-pub returns-in-None-clause-refusal : goal.returns-in-None-clause-refusal
-returns-in-None-clause-refusal c = version_fault c.args.bytes.now c.in-None.ensures
+pub returns-in_default-clause-refusal : goal.returns-in_default-clause-refusal
+returns-in_default-clause-refusal c = version_fault c.args.version c.args.bytes.now c.in_default.ensures
 
-pub returns-in-Some-eq1-default-clause-rest : goal.returns-in-Some-eq1-default-clause-rest
-returns-in-Some-eq1-default-clause-rest c =
-    this_version c.args.bytes.now c.in-Some-eq1-default.rest.now c.in-Some-eq1-default.field-0-0 c.in-Some-eq1-default.ensures.1 c.in-Some-eq1-default.field-0-0-test
+pub returns-then-number-clause-rest : goal.returns-then-number-clause-rest
+returns-then-number-clause-rest c =
+    this_version c.args.version c.args.bytes.now c.in-Some.rest.now c.in-Some.number c.in-Some.ensures.1 (c.if-number.true ∙ c.number.ensures)
 
-pub returns-in-Some-clause-refusal : goal.returns-in-Some-clause-refusal
-returns-in-Some-clause-refusal c =
-    other_version c.args.bytes.now c.in-Some.field-0-1.now c.in-Some.version c.in-Some.ensures.1 c.in-Some.ensures.0 c.in-Some.version-test.1
+pub returns-else-number-clause-refusal : goal.returns-else-number-clause-refusal
+returns-else-number-clause-refusal c =
+    other_version c.args.version c.args.bytes.now c.in-Some.rest.now c.in-Some.number c.in-Some.ensures.1 c.in-Some.ensures.0 (λ same. c.if-number.false (same ∙ sym c.number.ensures))

@@ -1,7 +1,8 @@
 use Rattle.std.proofs.Common.{◌*◌, arith}
 use Rattle.std.proofs.lemmas.List.{get_or_read}
 use Rattle.edge_trace.proofs.BitLemmas.{in_words}
-use Rattle.edge_trace.proofs.ByteLemmas.{byte_of_cut, bit_tells}
+use Rattle.edge_trace.proofs.ByteLemmas.{byte_of_cut}
+use Rattle.edge_trace.proofs.LawsOfBytes.{bit_tells}
 use Rattle.edge_trace.proofs.row.EdgeRow.byte.Goals as goal
 
 pub index-word-requires : goal.index-word-requires

@@ -1,10 +1,11 @@
-use Rattle.std.proofs.Common.{◌≡◌, ◌≢◌, ◌∙◌, true, false, codes, length, replicate, ap, sym, subst, rules}
+use Rattle.std.proofs.Common.{◌≡◌, ◌≢◌, ◌∙◌, true, false, codes, length, replicate, ap, sym, rules}
 use Rattle.std.specs.Str.{bytes_eq}
 use Rattle.std.proofs.lemmas.List.{length-replicate}
 use Rattle.std.proofs.lemmas.Slice.Eq.{bytes_eq-Decides}
-use Rattle.test_history.specs.Rules.{AreRising}
+use Rattle.test_history.specs.HistoryTexts.{crossed_numbers}
+use Rattle.test_history.proofs.RowLemmas.{row_rising}
 use Rattle.test_history.proofs.NumbersLemmas.{dash_line, words_are, pieces_are}
-use Rattle.test_history.proofs.crossed.row_of.Goals as goal
+use Rattle.test_history.proofs.numbers.row_of_numbers.Goals as goal
 
 pub returns-then-eq : goal.returns-then-eq
 returns-then-eq c =
@@ -20,9 +21,9 @@ returns-then-set_numbers c =
     (c.if-set_numbers.ensures.edges ∙ size, words_are c.args.words.now _ c.if-set_numbers.ensures.numbers)
 
 pub returns-else-set_numbers : goal.returns-else-set_numbers
-returns-else-set_numbers c = λ numbers rising is.
+returns-else-set_numbers c = λ row bound is.
     let unlike : bytes_eq c.args.words.now c.as_slice.result.now ≡ false = search rules in
     let other : c.args.words.now ≢ codes "-" = λ dash. cc ((bytes_eq-Decides c.args.words.now c.as_slice.result.now).1 (dash ∙ sym c.as_slice.ensures), unlike) in
     let size : length c.in_ok-row.row ≡ c.args.edges = ap length c.in_ok-row.ensures ∙ length-replicate c.args.edges false in
-    c.if-set_numbers.ensures.numbers numbers (subst (λ bound. AreRising bound numbers) (sym size) rising)
-    (pieces_are c.args.edges c.args.words.now numbers c.ranges.edges.fits rising other is)
+    c.if-set_numbers.ensures.numbers row (bound ∙ sym size)
+    (pieces_are c.args.edges c.args.words.now (crossed_numbers row) c.ranges.edges.fits (row_rising row c.args.edges bound) other is)

@@ -2,9 +2,9 @@ use Rattle.std.proofs.Common.{◌≡◌, ◌++◌, ℕ, List, length, map}
 use Rattle.std.specs.Fmt.{decimal}
 use Rattle.line_text.specs.Words.{pieces}
 use Rattle.test_history.specs.HistoryTexts.{crossed_numbers}
-use Rattle.test_history.specs.Rules.{AreRising}
+use Rattle.test_history.proofs.RowLemmas.{AreRising}
 use Rattle.test_history.proofs.NumbersLemmas.{AreLeft, IsClear}
-use Rattle.test_history.proofs.crossed.set_numbers.Given as goal
+use Rattle.test_history.proofs.numbers.set_numbers.Given as goal
 
 abbrev pub invariant-loop-word : goal.invariant-loop-word
 invariant-loop-word l = record {
