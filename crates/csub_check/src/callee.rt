@@ -3,7 +3,7 @@ ghost use Rattle.std.specs.Prelude.{◌≡◌};
 ghost use Rattle.csub_scopes.specs.Meanings.{scope_of};
 ghost use Rattle.csub_scopes.specs.Scopes.{find};
 ghost use Rattle.csub_rules.specs.Callees.{callee_of, callee_of_declared, takes};
-ghost use Rattle.csub_rules.specs.ExprSorts.{given_by, sort_of_declared, sort_of_name};
+ghost use Rattle.csub_rules.specs.ExprSorts.{given_by, is_value_declared, is_value_name, sort_of_declared, sort_of_name};
 ghost use Rattle.csub_objects.specs.Meaning.{type_tree};
 ghost use Rattle.csub_check.specs.Seen.{the_callee, the_sort};
 
@@ -26,32 +26,48 @@ pub(crate) enum Callee<'t> {
     Exit,
 }
 
-/// What a name is that is none of the library's.
-fn declared_sort<'t>(scope: &'t Scope, name: &[u8]) -> Sort<'t>
-    ensures { the_sort result ≡ sort_of_declared (find name.now scope.now.names) }
-{
-    match scope.names.find(name) {
-        None => Sort::Unknown,
-        Some(declared) => match &declared.meaning {
-            Meaning::Global(ctype) => Sort::Place(ctype),
-            Meaning::Local(_, ctype) => Sort::Place(ctype),
-            Meaning::Constant(_) => Sort::Value(IntKind::Int),
-            Meaning::Function(_) => Sort::Unknown,
-        },
-    }
+/// What a name is in an expression (C11 6.5.1p2).
+#[derive(Clone, Copy)]
+pub(crate) struct NameSort<'t> {
+    /// Its sort.
+    pub(crate) sort: Sort<'t>,
+    /// Whether it is an object, a parameter or an enum constant.
+    pub(crate) is_value: bool,
 }
 
-/// What a name is in an expression (C11 6.5.1p2).
-pub(crate) fn sort_of_name<'t>(scope: &'t Scope, name: &[u8]) -> Sort<'t>
-    ensures { the_sort result ≡ sort_of_name (scope_of scope.now) name.now }
+/// What a name is that is none of the library's.
+fn declared_name<'t>(scope: &'t Scope, name: &[u8]) -> NameSort<'t>
+    ensures sort { the_sort result.sort ≡ sort_of_declared (find name.now scope.now.names) }
+    ensures is_value { result.is_value ≡ is_value_declared (find name.now scope.now.names) }
+{
+    let (sort, is_value) = match scope.names.find(name) {
+        None => (Sort::Unknown, false),
+        Some(declared) => match &declared.meaning {
+            Meaning::Global(ctype) => (Sort::Place(ctype), true),
+            Meaning::Local(_, ctype) => (Sort::Place(ctype), true),
+            Meaning::Constant(_) => (Sort::Value(IntKind::Int), true),
+            Meaning::Function(_) => (Sort::Unknown, false),
+            Meaning::Untyped => (Sort::Unknown, true),
+        },
+    };
+    NameSort { sort, is_value }
+}
+
+/// What a name is in an expression.
+pub(crate) fn named<'t>(scope: &'t Scope, name: &[u8]) -> NameSort<'t>
+    ensures sort { the_sort result.sort ≡ sort_of_name (scope_of scope.now) name.now }
+    ensures is_value { result.is_value ≡ is_value_name (scope_of scope.now) name.now }
 {
     match library_name(name) {
-        None => declared_sort(scope, name),
-        Some(LibraryName::Getchar) => Sort::Unknown,
-        Some(LibraryName::Putchar) => Sort::Unknown,
-        Some(LibraryName::Printf) => Sort::Unknown,
-        Some(LibraryName::Exit) => Sort::Unknown,
-        Some(LibraryName::Eof) => Sort::Value(IntKind::Int),
+        None => declared_name(scope, name),
+        Some(LibraryName::Eof) => NameSort {
+            sort: Sort::Value(IntKind::Int),
+            is_value: true,
+        },
+        Some(_) => NameSort {
+            sort: Sort::Unknown,
+            is_value: false,
+        },
     }
 }
 
@@ -66,6 +82,7 @@ fn declared_callee<'t>(scope: &'t Scope, name: &[u8]) -> Callee<'t>
             Meaning::Local(_, _) => Callee::Unknown,
             Meaning::Constant(_) => Callee::Unknown,
             Meaning::Function(signature) => Callee::User(signature),
+            Meaning::Untyped => Callee::Unknown,
         },
     }
 }

@@ -29,6 +29,7 @@ fn declared_constant(scope: &Scope, name: &[u8]) -> Option<i64>
             Meaning::Local(_, _) => None,
             Meaning::Constant(value) => Some(*value),
             Meaning::Function(_) => None,
+            Meaning::Untyped => None,
         },
     }
 }

@@ -24,6 +24,7 @@ pub mod uses;
 pub use checked::Checked;
 pub use constants::{constant, is_constant};
 pub use expression::check;
+pub use library::is_reserved;
 pub use sort::Sort;
 pub use standing::Standing;
 pub use uses::{Use, check_constant, check_enum_constant, check_use, enum_value};

@@ -1,6 +1,7 @@
 //! The names that `<stdio.h>` and `<stdlib.h>` declare here.
 ghost use Rattle.std.specs.Prelude.{◌≡◌, option_map};
 ghost use Rattle.csub_rules.specs.Library.{library_name};
+ghost use Rattle.csub_rules.specs.Here.{is_reserved};
 ghost use Rattle.csub_check.specs.Seen.{the_library_name};
 
 /// A name of the library.
@@ -30,4 +31,11 @@ pub(crate) fn library_name(name: &[u8]) -> Option<LibraryName>
     } else {
         None
     }
+}
+
+/// Whether a name is one of the library's, which no source declares (C11 7.1.3).
+pub fn is_reserved(name: &[u8]) -> bool
+    ensures { result ≡ is_reserved name.now }
+{
+    library_name(name).is_some()
 }

@@ -11,11 +11,11 @@ ghost use Rattle.csub_check.specs.Arguments.{formats, own_fault};
 ghost use Rattle.csub_check.specs.Seen.{the_callee, the_sort, the_standing};
 
 use crate::arguments::{formats, own_fault};
-use crate::callee::{Callee, given_by, sort_of_name};
+use crate::callee::{Callee, given_by, named};
 use crate::checked::{Checked, array_fault, index_fault, member_fault, number_fault, place_fault};
 use crate::kind::{binary_kind, named_kind, number_literal_kind, operation_kind, unary_kind};
 use crate::sort::{
-    Sort, element_of, is_number, is_number_place, is_sorted, member_of, sort_if, the_kind, value_if,
+    Sort, element_of, is_number, is_number_place, member_of, sort_if, the_kind, value_if,
 };
 use crate::standing::Standing;
 use csub_rules::{Fault, earlier, fault_if};
@@ -80,10 +80,10 @@ pub(crate) fn name<'t>(scope: &'t Scope, x: &Name, span: Span) -> Checked<'t>
     ensures fault { result.fault ≡ fault_if (is_unknown (scope_of scope.now) x.now.text) 1 x.now.span }
     ensures span { result.span ≡ span }
 {
-    let sort = sort_of_name(scope, x.text.bytes());
+    let named = named(scope, x.text.bytes());
     Checked {
-        sort,
-        fault: fault_if(!is_sorted(sort), 1, x.span),
+        sort: named.sort,
+        fault: fault_if(!named.is_value, 1, x.span),
         span,
     }
 }

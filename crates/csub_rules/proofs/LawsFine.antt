@@ -1,13 +1,14 @@
 -- An expression without a fault can be resolved, and has a sort where it is an operand.
-use Rattle.std.proofs.Common.{◌≡◌, None, refl, IsTrue, not, ◌&&◌, if◌then◌else◌}
+use Rattle.std.proofs.Common.{◌≡◌, Option, None, Some, refl, IsTrue, not, ◌&&◌, if◌then◌else◌}
 use Rattle.csub_tree.specs.Expressions.{Expr, Exprs, Node, Number, Char, Text, Named, Paren, Unary, Cast, Step, Binary, And, Or}
 use Rattle.csub_tree.specs.Expressions.{Choose, Assign, Call, Index, Member, NoExprs, MoreExprs}
-use Rattle.csub_scopes.specs.Scopes.{Scope}
+use Rattle.csub_scopes.specs.Scopes.{Scope, Declared, Meaning, global_object, local_object, enum_constant, a_function, untyped, find, is_typed, finds_type, HasTypes}
 use Rattle.csub_rules.specs.Faults.{fault_if, ◌or_earlier◌}
 use Rattle.csub_rules.specs.Sorts.{is_sorted, is_number, is_number_place, is_array, has_member, element_of}
+use Rattle.csub_rules.specs.Library.{LibraryName, getchar, putchar, printf, exit, eof, library_name}
 use Rattle.csub_rules.specs.Callees.{callee_of, is_printf, are_numbers}
 use Rattle.csub_rules.specs.Formats.{is_literal}
-use Rattle.csub_rules.specs.ExprSorts.{sort_of, sorts_of, sort_of_name}
+use Rattle.csub_rules.specs.ExprSorts.{sort_of, sorts_of, sort_of_meaning, sort_by, is_value, is_value_by, is_value_name}
 use Rattle.csub_rules.specs.ExprFaults.{Standing, later_operand, below, is_whole}
 use Rattle.csub_rules.specs.ExprFaults.{lacks_number, lacks_array, lacks_member, number_fault, place_fault}
 use Rattle.csub_rules.specs.ExprFaults.{fault, args_fault, numbers_fault, printf_fault, call_fault}
@@ -15,14 +16,31 @@ use Rattle.csub_rules.proofs.LawsEarlier.{neither, three_none, four_none, six_no
 use Rattle.csub_rules.proofs.LawsServed.{both, has, holds, valued, sorted, chosen}
 use Rattle.csub_rules.proofs.LawsCalls.{Found, AllFound, NumbersFound, RestFound, is_part, number, place, call_found}
 
-module _ (scope : Scope) where
+-- what is an object or a constant and has a type has a sort
+value_sorted : (l : Option LibraryName) (d : Option Declared) → IsTrue (finds_type d) → IsTrue (is_value_by l d) → IsTrue (is_sorted (sort_by l d))
+value_sorted None None t h = absurd (cc)
+value_sorted None (Some d) t h = by d.means t h
+  where
+    by : (m : Meaning) → IsTrue (is_typed m) → IsTrue (is_value m) → IsTrue (is_sorted (sort_of_meaning m))
+    by (global_object u) t h = refl
+    by (local_object k u) t h = refl
+    by (enum_constant v) t h = refl
+    by (a_function params result) t h = absurd (cc)
+    by untyped t h = absurd (cc)
+value_sorted (Some getchar) d t h = absurd (cc)
+value_sorted (Some putchar) d t h = absurd (cc)
+value_sorted (Some printf) d t h = absurd (cc)
+value_sorted (Some exit) d t h = absurd (cc)
+value_sorted (Some eof) d t h = refl
+
+module _ (scope : Scope) (types : HasTypes scope) where
   mutual
     pub found : (h : Standing) (e : Expr) → fault scope h e ≡ None → Found scope (is_whole h) e
     found h (Node (Number n u) s) p = record { fine = tt; has_sort = λ n. refl }
     found h (Node (Char b) s) p = record { fine = tt; has_sort = λ n. refl }
     found h (Node (Text t) s) p = absurd (cc)
     found h (Node (Named x) s) p =
-        let q = holds (is_sorted (sort_of_name scope x.text)) 1 x.span p in
+        let q = value_sorted (library_name x.text) (find x.text scope.names) (types x.text) (holds (is_value_name scope x.text) 1 x.span p) in
         record { fine = q; has_sort = λ n. q }
     found h (Node (Paren a) s) p = let x = found h a p in record { fine = x.fine; has_sort = x.has_sort }
     found h (Node (Unary o a) s) p =

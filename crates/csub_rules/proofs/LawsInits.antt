@@ -4,7 +4,7 @@ use Rattle.csub_text.specs.declared.span.Span.{Span}
 use Rattle.csub_tree.specs.Expressions.{Expr, span_of}
 use Rattle.csub_tree.specs.Declarations.{Init, Inits, One, Listed, NoInits, MoreInits}
 use Rattle.csub_objects.specs.Types.{TypeTree}
-use Rattle.csub_scopes.specs.Scopes.{Scope}
+use Rattle.csub_scopes.specs.Scopes.{Scope, HasTypes}
 use Rattle.csub_rules.specs.declared.fault.Fault.{Fault}
 use Rattle.csub_rules.specs.Faults.{fault_if, Covers, IsFirst}
 use Rattle.csub_rules.specs.Sorts.{Sort, a_place, a_value, a_void, no_sort, is_sorted, is_number, kind_of_type}
@@ -32,12 +32,12 @@ record UsedNumber (scope : Scope) (file : Bool) (e : Expr) : Type 0 where
   constant : IsTrue (not (lacks_constant scope (use_at file) e))
   has_sort : IsTrue (is_sorted (sort_of scope e))
 
-number_used : (scope : Scope) (file : Bool) (e : Expr) → use_fault scope (use_at file) e ≡ None → UsedNumber scope file e
-number_used scope true e h =
-    let f = fine_use scope as_constant e h in
+number_used : (scope : Scope) → HasTypes scope → (file : Bool) (e : Expr) → use_fault scope (use_at file) e ≡ None → UsedNumber scope file e
+number_used scope types true e h =
+    let f = fine_use scope types as_constant e h in
     record { fine = f.0; number = f.1; constant = f.2; has_sort = number_sorted (sort_of scope e) f.1 }
-number_used scope false e h =
-    let f = fine_use scope as_number e h in
+number_used scope types false e h =
+    let f = fine_use scope types as_number e h in
     record { fine = f.0; number = f.1; constant = f.2; has_sort = number_sorted (sort_of scope e) f.1 }
 
 module _ (scope : Scope) (file : Bool) where
@@ -81,7 +81,7 @@ module _ (scope : Scope) (file : Bool) where
   }
 
   -- nothing is said of what has no part
-  no_part : (x : Init) → init_fault scope file None x ≡ None
+  pub no_part : (x : Init) → init_fault scope file None x ≡ None
   no_part (One e) = refl
   no_part (Listed xs s) = refl
 
@@ -108,10 +108,10 @@ module _ (scope : Scope) (file : Bool) where
         (sound_entries t xs s (i + 1) rest (λ n z a. step n z (next_entry i n z y rest a)))
 
   -- fits
-  fine_value : (t : TypeTree) (e : Expr) → init_fault scope file (Some t) (One e) ≡ None → FineValue scope file (Some t) e
-  fine_value t e h =
+  fine_value : HasTypes scope → (t : TypeTree) (e : Expr) → init_fault scope file (Some t) (One e) ≡ None → FineValue scope file (Some t) e
+  fine_value types t e h =
       let q = neither (use_fault scope (use_at file) e) (fault_if (lacks_list scope t e) 11 (span_of e)) h in
-      let x = number_used scope file e q.0 in
+      let x = number_used scope types file e q.0 in
       (x.fine, x.number, x.constant, has (sort_of scope e) (is_some (kind_of_type t)) 11 (span_of e) x.has_sort q.1)
 
   fine_part : (o : Option TypeTree) (y : Init) → IsTrue (is_some o) → init_fault scope file o y ≡ None
@@ -120,17 +120,17 @@ module _ (scope : Scope) (file : Bool) where
   fine_part (Some u) y p h q = q u h
 
   mutual
-    pub fine_init : (t : TypeTree) (x : Init) → init_fault scope file (Some t) x ≡ None → FineInit scope file (Some t) x
-    fine_init t (One e) h = fine_value t e h
-    fine_init t (Listed xs s) h =
+    pub fine_init : HasTypes scope → (t : TypeTree) (x : Init) → init_fault scope file (Some t) x ≡ None → FineInit scope file (Some t) x
+    fine_init types t (One e) h = fine_value types t e h
+    fine_init types t (Listed xs s) h =
         let q = neither (fault_if (list_misfits t xs) 11 s) (entries_fault scope file t 0 xs) h in
         let p = both_parts (has_parts t) (fills t 0 xs) (no_not (has_parts t && fills t 0 xs) (no_test (list_misfits t xs) 11 s q.0)) in
-        fine_entries t 0 xs p.1 q.1
+        fine_entries types t 0 xs p.1 q.1
 
-    fine_entries : (t : TypeTree) (i : ℕ) (xs : Inits) → IsTrue (fills t i xs) → entries_fault scope file t i xs ≡ None
+    fine_entries : HasTypes scope → (t : TypeTree) (i : ℕ) (xs : Inits) → IsTrue (fills t i xs) → entries_fault scope file t i xs ≡ None
         → FineEntries scope file t i xs
-    fine_entries t i NoInits p h = tt
-    fine_entries t i (MoreInits y rest) p h =
+    fine_entries types t i NoInits p h = tt
+    fine_entries types t i (MoreInits y rest) p h =
         let q = neither (init_fault scope file (part_type t i) y) (entries_fault scope file t (i + 1) rest) h in
         let r = both_parts (is_some (part_type t i)) (fills t (i + 1) rest) p in
-        (r.0, fine_part (part_type t i) y r.0 q.0 (λ u g. fine_init u y g), fine_entries t (i + 1) rest r.1 q.1)
+        (r.0, fine_part (part_type t i) y r.0 q.0 (λ u g. fine_init types u y g), fine_entries types t (i + 1) rest r.1 q.1)

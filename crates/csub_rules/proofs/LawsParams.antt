@@ -63,19 +63,20 @@ module _ (scope : Scope) where
   complete_param p g h b = let c : Covers (param_fault scope p) g = covered_param p g b in rw h at c
 
   -- the type is known
-  fine_by : (array : Bool) (b : TypeName) (l : Option Expr) (p : Param) → param_base_fault scope array b ≡ None → (b ≡ names.Void → ⊥)
+  fine_by : (array : Bool) (b : TypeName) (l : Option Expr) (p : Param) → param_base_fault scope array b ≡ None
       → IsTrue (is_some (param_type scope (record p { base = b; array = array; length = l })))
-  fine_by array names.Void l p h v = absurd (v refl)
-  fine_by true names.Char l p h v = refl
-  fine_by false names.Char l p h v = refl
-  fine_by true names.Int l p h v = refl
-  fine_by false names.Int l p h v = refl
-  fine_by true names.Unsigned l p h v = refl
-  fine_by false names.Unsigned l p h v = refl
-  fine_by true (names.Struct tag) l p h v =
+  fine_by true names.Void l p h = refl
+  fine_by false names.Void l p h = refl
+  fine_by true names.Char l p h = refl
+  fine_by false names.Char l p h = refl
+  fine_by true names.Int l p h = refl
+  fine_by false names.Int l p h = refl
+  fine_by true names.Unsigned l p h = refl
+  fine_by false names.Unsigned l p h = refl
+  fine_by true (names.Struct tag) l p h =
       mapped loose_type (base_type scope (names.Struct tag)) (no_not (is_some (base_type scope (names.Struct tag)))
       (no_test (lacks_struct scope tag) 4 tag.span h))
-  fine_by false (names.Struct tag) l p h v = absurd (cc)
+  fine_by false (names.Struct tag) l p h = absurd (cc)
 
-  pub fine_param : (p : Param) → param_fault scope p ≡ None → (p.base ≡ names.Void → ⊥) → IsTrue (is_some (param_type scope p))
-  fine_param p h v = let q = neither (param_base_fault scope p.array p.base) (length_fault scope p.length) h in fine_by p.array p.base p.length p q.0 v
+  pub fine_param : (p : Param) → param_fault scope p ≡ None → IsTrue (is_some (param_type scope p))
+  fine_param p h = let q = neither (param_base_fault scope p.array p.base) (length_fault scope p.length) h in fine_by p.array p.base p.length p q.0

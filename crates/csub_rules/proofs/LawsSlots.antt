@@ -21,7 +21,7 @@ use Rattle.csub_rules.proofs.LawsEarlier.{on_left, on_right, tested, neither, no
 use Rattle.csub_rules.proofs.LawsServed.{neither_holds, no_not}
 use Rattle.csub_rules.proofs.LawsSizes.{is_sized-Decides, less, is_less}
 use Rattle.csub_rules.proofs.LawsSound.{Gives, nothing, join, tells}
-use Rattle.csub_rules.proofs.LawsUses.{sound_use, covered_use, fine_use}
+use Rattle.csub_rules.proofs.LawsUses.{sound_use, covered_use, is_constant_use}
 
 -- what there is not, and what there is
 pub none : {A : Type 0} (o : Option A) → IsTrue (not (is_some o)) → o ≡ None
@@ -94,7 +94,7 @@ module _ (scope : Scope) where
   sound_base (names.Struct tag) =
       tells {P = BrokenBase scope (names.Struct tag)} (lacks_struct scope tag) 4 tag.span (λ p. m4 tag (none (base_type scope (names.Struct tag)) p))
 
-  covered_base : (base : TypeName) (g : Fault) → BrokenBase scope base g → Covers (base_fault scope base) g
+  pub covered_base : (base : TypeName) (g : Fault) → BrokenBase scope base g → Covers (base_fault scope base) g
   covered_base base g (m4 tag p) = tested (lacks_struct scope tag) 4 tag.span (not_some (base_type scope (names.Struct tag)) p)
 
   pub least_base : (base : TypeName) (f g : Fault) → base_fault scope base ≡ Some f → BrokenBase scope base g → IsFirst f g
@@ -103,12 +103,12 @@ module _ (scope : Scope) where
   pub complete_base : (base : TypeName) (g : Fault) → base_fault scope base ≡ None → BrokenBase scope base g → ⊥
   complete_base base g h b = let c : Covers (base_fault scope base) g = covered_base base g b in rw h at c
 
-  pub fine_base : (base : TypeName) → base_fault scope base ≡ None → (base ≡ names.Void → ⊥) → IsTrue (is_some (base_type scope base))
-  fine_base names.Void h p = absurd (p refl)
-  fine_base names.Char h p = refl
-  fine_base names.Int h p = refl
-  fine_base names.Unsigned h p = refl
-  fine_base (names.Struct tag) h p = no_not (is_some (base_type scope (names.Struct tag))) (no_test (lacks_struct scope tag) 4 tag.span h)
+  pub fine_base : (base : TypeName) → base_fault scope base ≡ None → IsTrue (is_some (base_type scope base))
+  fine_base names.Void h = refl
+  fine_base names.Char h = refl
+  fine_base names.Int h = refl
+  fine_base names.Unsigned h = refl
+  fine_base (names.Struct tag) h = no_not (is_some (base_type scope (names.Struct tag))) (no_test (lacks_struct scope tag) 4 tag.span h)
 
   module _ (base : Option TypeTree) (at : Span) where
     -- sound
@@ -158,7 +158,7 @@ module _ (scope : Scope) where
     limited : (dims : List Expr) → IsTrue (breaks_limits scope base dims) → Covers (slot_fault scope base at dims) (record { rule = 10; span = at })
     limited dims p = search (on_left, tested)
 
-    covered_slot : (dims : List Expr) (g : Fault) → BrokenSlot scope base at dims g → Covers (slot_fault scope base at dims) g
+    pub covered_slot : (dims : List Expr) (g : Fault) → BrokenSlot scope base at dims g → Covers (slot_fault scope base at dims) g
     covered_slot dims g (in_length d f i b) = search (on_right, among dims d g i b)
     covered_slot dims g (m10_length d i p) =
         limited dims (in_first (list_any (λ d. is_bad_length (constant scope d)) dims) _ (is_bad dims d i p))
@@ -181,7 +181,7 @@ module _ (scope : Scope) where
   typed base (d ∷ dims) p h =
       let q = neither (use_fault scope as_constant d) (dims_fault scope dims) h in
       let r = neither_holds (is_bad_length (constant scope d)) (list_any (λ d. is_bad_length (constant scope d)) dims) p in
-      let n = of_length (constant scope d) ((fine_use scope as_constant d q.0).2) r.0 in
+      let n = of_length (constant scope d) (is_constant_use scope d q.0) r.0 in
       let t = typed base dims r.1 q.1 in
       record {
         it = array_type t.it n.it;

@@ -2,7 +2,7 @@
 use Rattle.std.proofs.Common.{◌≡◌, ℤ, Bool, true, false, Option, Some, None, refl, IsTrue, is_some, not}
 use Rattle.csub_text.specs.declared.span.Span.{Span}
 use Rattle.csub_tree.specs.Expressions.{Expr, span_of}
-use Rattle.csub_scopes.specs.Scopes.{Scope}
+use Rattle.csub_scopes.specs.Scopes.{Scope, HasTypes}
 use Rattle.csub_rules.specs.declared.fault.Fault.{Fault}
 use Rattle.csub_rules.specs.Faults.{fault_if, Covers, IsFirst}
 use Rattle.csub_rules.specs.Sorts.{Sort, a_place, a_value, a_void, no_sort, lacks}
@@ -37,6 +37,13 @@ effective (a_value k) h = refl
 effective a_void h = refl
 effective no_sort h = refl
 
+-- where no fault is told, a constant is one
+pub is_constant_use : (scope : Scope) (e : Expr) → use_fault scope as_constant e ≡ None → IsTrue (not (lacks_constant scope as_constant e))
+is_constant_use scope e h =
+    let q = three_none (fault scope (standing_of as_constant) e) (fault_if (lacks_use scope as_constant e) 7 (span_of e))
+    (fault_if (lacks_constant scope as_constant e) 9 (span_of e)) h in
+    is_false (lacks_constant scope as_constant e) (no_test (lacks_constant scope as_constant e) 9 (span_of e) q.2)
+
 module _ (scope : Scope) where
   pub sound_use : (u : Use) (e : Expr) → Gives (use_fault scope u e) (BrokenUse scope u e)
   sound_use u e =
@@ -55,18 +62,18 @@ module _ (scope : Scope) where
   pub complete_use : (u : Use) (e : Expr) (g : Fault) → use_fault scope u e ≡ None → BrokenUse scope u e g → ⊥
   complete_use u e g h b = let c : Covers (use_fault scope u e) g = covered_use u e g b in rw h at c
 
-  serving : (u : Use) (e : Expr) → fault scope (standing_of u) e ≡ None → lacks_use scope u e ≡ false → IsTrue (serves u (sort_of scope e))
-  serving as_statement e h p = effective (sort_of scope e) p
-  serving as_part e h p = effective (sort_of scope e) p
-  serving as_number e h p = served (sort_of scope e) (serves as_number (sort_of scope e)) ((found scope _ e h).has_sort refl) p
-  serving as_constant e h p = served (sort_of scope e) (serves as_constant (sort_of scope e)) ((found scope _ e h).has_sort refl) p
+  serving : HasTypes scope → (u : Use) (e : Expr) → fault scope (standing_of u) e ≡ None → lacks_use scope u e ≡ false → IsTrue (serves u (sort_of scope e))
+  serving t as_statement e h p = effective (sort_of scope e) p
+  serving t as_part e h p = effective (sort_of scope e) p
+  serving t as_number e h p = served (sort_of scope e) (serves as_number (sort_of scope e)) ((found scope t _ e h).has_sort refl) p
+  serving t as_constant e h p = served (sort_of scope e) (serves as_constant (sort_of scope e)) ((found scope t _ e h).has_sort refl) p
 
-  pub fine_use : (u : Use) (e : Expr) → use_fault scope u e ≡ None → FineUse scope u e
-  fine_use u e h =
+  pub fine_use : HasTypes scope → (u : Use) (e : Expr) → use_fault scope u e ≡ None → FineUse scope u e
+  fine_use t u e h =
       let q = three_none (fault scope (standing_of u) e) (fault_if (lacks_use scope u e) 7 (span_of e))
       (fault_if (lacks_constant scope u e) 9 (span_of e)) h in
-      let x = found scope (standing_of u) e q.0 in
-      let p = serving u e q.0 (no_test (lacks_use scope u e) 7 (span_of e) q.1) in
+      let x = found scope t (standing_of u) e q.0 in
+      let p = serving t u e q.0 (no_test (lacks_use scope u e) 7 (span_of e) q.1) in
       (x.fine, p, is_false (lacks_constant scope u e) (no_test (lacks_constant scope u e) 9 (span_of e) q.2))
 
   pub sound_enum : (next : ℤ) (at : Span) (v : Option Expr) → Gives (enum_fault scope next at v) (BrokenEnum scope next at v)
@@ -91,8 +98,8 @@ module _ (scope : Scope) where
   pub complete_enum : (next : ℤ) (at : Span) (v : Option Expr) (g : Fault) → enum_fault scope next at v ≡ None → BrokenEnum scope next at v g → ⊥
   complete_enum next at v g h b = let c : Covers (enum_fault scope next at v) g = covered_enum next at v g b in rw h at c
 
-  pub fine_enum : (next : ℤ) (at : Span) (v : Option Expr) → enum_fault scope next at v ≡ None → FineEnum scope next v
-  fine_enum next at None h = no_not (is_some (enum_value scope next None)) (no_test (lacks_value scope next None) 9 at h)
-  fine_enum next at (Some e) h =
+  pub fine_enum : HasTypes scope → (next : ℤ) (at : Span) (v : Option Expr) → enum_fault scope next at v ≡ None → FineEnum scope next v
+  fine_enum t next at None h = no_not (is_some (enum_value scope next None)) (no_test (lacks_value scope next None) 9 at h)
+  fine_enum t next at (Some e) h =
       let q = neither (use_fault scope as_number e) (fault_if (lacks_value scope next (Some e)) 9 (span_of e)) h in
-      (fine_use as_number e q.0, no_not (is_some (enum_value scope next (Some e))) (no_test (lacks_value scope next (Some e)) 9 (span_of e) q.1))
+      (fine_use t as_number e q.0, no_not (is_some (enum_value scope next (Some e))) (no_test (lacks_value scope next (Some e)) 9 (span_of e) q.1))

@@ -9,6 +9,11 @@ pub mod LawsUses
 pub mod LawsSlots
 pub mod LawsInits
 pub mod LawsParams
+pub mod LawsLocals
+pub mod LawsCases
+pub mod LawsStmts
+pub mod LawsFineStmts
+pub mod LawsBodies
 mod RowTerms
 mod Rows
 mod RowFaults

@@ -4,7 +4,7 @@ use Rattle.csub_text.specs.declared.span.Span.{Span}
 use Rattle.csub_tree.specs.Expressions.{Expr, span_of}
 use Rattle.csub_tree.specs.Declarations.{Init, Inits, One, Listed, NoInits, MoreInits}
 use Rattle.csub_objects.specs.Types.{TypeTree}
-use Rattle.csub_scopes.specs.Scopes.{Scope}
+use Rattle.csub_scopes.specs.Scopes.{Scope, HasTypes}
 use Rattle.csub_rules.specs.declared.fault.Fault.{Fault}
 use Rattle.csub_rules.specs.Faults.{IsFirst}
 use Rattle.csub_rules.specs.Sorts.{kind_of_type, is_number}
@@ -72,4 +72,4 @@ NoInitFaultNothingBroken =
 
 abbrev pub NoInitFaultIsFine : Type 0
 NoInitFaultIsFine =
-    (scope : Scope) (file : Bool) (t : TypeTree) (x : Init) → init_fault scope file (Some t) x ≡ None → FineInit scope file (Some t) x
+    (scope : Scope) (file : Bool) (t : TypeTree) (x : Init) → HasTypes scope → init_fault scope file (Some t) x ≡ None → FineInit scope file (Some t) x

@@ -3,7 +3,7 @@ use Rattle.std.specs.Prelude.{◌≡◌, ◌<◌, List, ◌∷◌, length, Optio
 use Rattle.csub_text.specs.declared.span.Span.{Span}
 use Rattle.csub_tree.specs.declared.name.Name.{Name}
 use Rattle.csub_tree.specs.declared.name.TypeName.{TypeName}
-use Rattle.csub_tree.specs.declared.name.TypeName.TheVariants.{Void, Struct}
+use Rattle.csub_tree.specs.declared.name.TypeName.TheVariants.{Struct}
 use Rattle.csub_tree.specs.Expressions.{Expr}
 use Rattle.csub_objects.specs.Types.{TypeTree, IsSized}
 use Rattle.csub_scopes.specs.Scopes.{Scope}
@@ -52,10 +52,10 @@ BaseFaultsAreLeast =
 abbrev pub NoBaseFaultNothingBroken : Type 0
 NoBaseFaultNothingBroken = (scope : Scope) (base : TypeName) (g : Fault) → base_fault scope base ≡ None → BrokenBase scope base g → ⊥
 
--- and the type is known, if it isn't `void`
+-- and the type is known
 abbrev pub NoBaseFaultIsFine : Type 0
 NoBaseFaultIsFine =
-    (scope : Scope) (base : TypeName) → base_fault scope base ≡ None → (base ≡ Void → ⊥) → IsTrue (is_some (base_type scope base))
+    (scope : Scope) (base : TypeName) → base_fault scope base ≡ None → IsTrue (is_some (base_type scope base))
 
 abbrev pub SlotFaultsAreBroken : Type 0
 SlotFaultsAreBroken =

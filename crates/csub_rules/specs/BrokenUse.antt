@@ -2,7 +2,7 @@
 use Rattle.std.specs.Prelude.{◌≡◌, ℤ, Option, Some, None, IsTrue, is_some, not}
 use Rattle.csub_text.specs.declared.span.Span.{Span}
 use Rattle.csub_tree.specs.Expressions.{Expr, span_of}
-use Rattle.csub_scopes.specs.Scopes.{Scope}
+use Rattle.csub_scopes.specs.Scopes.{Scope, HasTypes}
 use Rattle.csub_rules.specs.declared.fault.Fault.{Fault}
 use Rattle.csub_rules.specs.Faults.{IsFirst}
 use Rattle.csub_rules.specs.ExprSorts.{sort_of}
@@ -48,7 +48,7 @@ abbrev pub NoUseFaultNothingBroken : Type 0
 NoUseFaultNothingBroken = (scope : Scope) (u : Use) (e : Expr) (g : Fault) → use_fault scope u e ≡ None → BrokenUse scope u e g → ⊥
 
 abbrev pub NoUseFaultIsFine : Type 0
-NoUseFaultIsFine = (scope : Scope) (u : Use) (e : Expr) → use_fault scope u e ≡ None → FineUse scope u e
+NoUseFaultIsFine = (scope : Scope) (u : Use) (e : Expr) → HasTypes scope → use_fault scope u e ≡ None → FineUse scope u e
 
 abbrev pub EnumFaultsAreBroken : Type 0
 EnumFaultsAreBroken =
@@ -64,4 +64,5 @@ NoEnumFaultNothingBroken =
     (scope : Scope) (next : ℤ) (at : Span) (v : Option Expr) (g : Fault) → enum_fault scope next at v ≡ None → BrokenEnum scope next at v g → ⊥
 
 abbrev pub NoEnumFaultIsFine : Type 0
-NoEnumFaultIsFine = (scope : Scope) (next : ℤ) (at : Span) (v : Option Expr) → enum_fault scope next at v ≡ None → FineEnum scope next v
+NoEnumFaultIsFine =
+    (scope : Scope) (next : ℤ) (at : Span) (v : Option Expr) → HasTypes scope → enum_fault scope next at v ≡ None → FineEnum scope next v

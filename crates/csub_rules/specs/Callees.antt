@@ -4,7 +4,7 @@ use Rattle.std.specs.Option.{unwrap_or}
 use Rattle.csub_types.specs.declared.kind.IntKind.{IntKind}
 use Rattle.csub_types.specs.declared.kind.IntKind.TheVariants.{Int}
 use Rattle.csub_objects.specs.Types.{Name, TypeTree, number_type, array_type, struct_type, loose_type}
-use Rattle.csub_scopes.specs.Scopes.{Scope, Declared, Meaning, global_object, local_object, enum_constant, a_function, find}
+use Rattle.csub_scopes.specs.Scopes.{Scope, Declared, Meaning, global_object, local_object, enum_constant, a_function, untyped, find}
 use Rattle.csub_rules.specs.Library.{LibraryName, getchar, putchar, printf, exit, eof, library_name}
 use Rattle.csub_rules.specs.Sorts.{Sort, a_value, a_void, lacks, is_number, has_elements}
 
@@ -22,6 +22,7 @@ callee_of_meaning (global_object t) = no_function
 callee_of_meaning (local_object k t) = no_function
 callee_of_meaning (enum_constant v) = no_function
 callee_of_meaning (a_function params result) = user_function params result
+callee_of_meaning untyped = no_function
 
 abbrev pub callee_of_declared : Option Declared → Callee
 callee_of_declared None = no_function

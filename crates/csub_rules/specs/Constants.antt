@@ -13,7 +13,7 @@ use Rattle.csub_types.specs.Settled.{truth, fits_int}
 use Rattle.csub_tree.specs.Expressions.{Expr, Kind, Node, Number, Char, Text, Named, Paren, Unary, Cast, Step, Binary, And, Or}
 use Rattle.csub_tree.specs.Expressions.{Choose, Assign, Call, Index, Member}
 use Rattle.csub_objects.specs.Types.{Name}
-use Rattle.csub_scopes.specs.Scopes.{Scope, Declared, Meaning, global_object, local_object, enum_constant, a_function, find}
+use Rattle.csub_scopes.specs.Scopes.{Scope, Declared, Meaning, global_object, local_object, enum_constant, a_function, untyped, find}
 use Rattle.csub_rules.specs.Library.{LibraryName, getchar, putchar, printf, exit, eof, library_name}
 use Rattle.csub_rules.specs.Sorts.{the_kind}
 use Rattle.csub_rules.specs.ExprSorts.{sort_of, named_kind, operation_kind}
@@ -24,6 +24,7 @@ constant_of_meaning (global_object t) = None
 constant_of_meaning (local_object k t) = None
 constant_of_meaning (enum_constant v) = Some v
 constant_of_meaning (a_function params result) = None
+constant_of_meaning untyped = None
 
 abbrev pub constant_of_declared : Option Declared → Option ℤ
 constant_of_declared None = None

@@ -4,6 +4,7 @@ use Rattle.std.specs.Prelude.{ℕ, ℤ, pos, List, [], ◌∷◌, length, Bool, 
 use Rattle.std.specs.Int.RustNames.{int_le}
 use Rattle.std.specs.List.{list_any}
 use Rattle.csub_text.specs.declared.span.Span.{Span}
+use Rattle.csub_types.specs.declared.kind.IntKind.TheVariants.{Int}
 use Rattle.csub_tree.specs.declared.name.Name.{Name as NameAt}
 use Rattle.csub_tree.specs.declared.name.TypeName.{TypeName}
 use Rattle.csub_tree.specs.declared.name.TypeName.TheVariants as names
@@ -22,11 +23,12 @@ abbrev pub struct_of : Name → Option Tagged → Option TypeTree
 struct_of tag None = None
 struct_of tag (Some d) = option_map (struct_type tag) d.members
 
--- the type of a number
+-- the type of a number, `int` for `void`, with which no declaration and no parameter of a source begins
 abbrev pub number_base : TypeName → Option TypeTree
+number_base names.Void = Some (number_type Int)
 number_base base = option_map number_type (number_of base)
 
--- the type that a declaration begins with; none is declared with `void`
+-- the type that a declaration begins with
 abbrev pub base_type : Scope → TypeName → Option TypeTree
 base_type scope (names.Struct tag) = struct_of tag.text (find_tag tag.text scope.tags)
 base_type scope base = number_base base
@@ -75,6 +77,14 @@ is_too_large (Some t) = not (is_sized t)
 abbrev pub breaks_limits : Scope → Option TypeTree → List Expr → Bool
 breaks_limits scope base dims =
     list_any (λ d. is_bad_length (constant scope d)) dims || (nat_lt 3 (length dims) || is_too_large (declared_type scope base dims))
+
+-- the type of a declared object, and none where its declaration breaks a rule on types
+abbrev pub if_sized : Option TypeTree → Option TypeTree
+if_sized None = None
+if_sized (Some t) = if is_sized t then Some t else None
+
+abbrev pub object_type : Scope → Option TypeTree → List Expr → Option TypeTree
+object_type scope base dims = if_sized (declared_type scope base dims)
 
 -- the earliest fault of lengths, each a constant
 abbrev pub dims_fault : Scope → List Expr → Option Fault

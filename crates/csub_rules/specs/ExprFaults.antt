@@ -7,11 +7,11 @@ use Rattle.csub_objects.specs.Types.{Name}
 use Rattle.csub_scopes.specs.Scopes.{Scope}
 use Rattle.csub_rules.specs.declared.fault.Fault.{Fault}
 use Rattle.csub_rules.specs.Faults.{fault_if, ◌or_earlier◌}
-use Rattle.csub_rules.specs.Sorts.{Sort, lacks, is_sorted, is_number, is_number_place, is_array, has_member}
+use Rattle.csub_rules.specs.Sorts.{Sort, lacks, is_number, is_number_place, is_array, has_member}
 use Rattle.csub_rules.specs.Callees.{Callee, no_function, user_function, getchar_function, putchar_function, printf_function, exit_function}
 use Rattle.csub_rules.specs.Callees.{callee_of, is_printf, fixed_params, misfits}
 use Rattle.csub_rules.specs.Formats.{Literal, literal_of, is_literal, asks_for}
-use Rattle.csub_rules.specs.ExprSorts.{sort_of, sorts_of, sort_of_name}
+use Rattle.csub_rules.specs.ExprSorts.{sort_of, sorts_of, is_value_name}
 
 -- how an expression stands: as a whole expression statement, as an operand, or within the right operand of `&&` or `||` or a
 -- later operand of `?:`
@@ -38,7 +38,7 @@ is_later later_operand = true
 
 -- M1: a name is no object, parameter or enum constant (C11 6.5.1p2)
 abbrev pub is_unknown : Scope → Name → Bool
-is_unknown scope x = not (is_sorted (sort_of_name scope x))
+is_unknown scope x = not (is_value_name scope x)
 
 -- M5: no struct place stands before the `.`, or the struct has no such member (C11 6.5.2.3p1)
 abbrev pub lacks_member : Name → Sort → Bool

@@ -1,7 +1,7 @@
 -- The laws of faults of expressions.
 use Rattle.std.specs.Prelude.{◌≡◌, Some, None}
 use Rattle.csub_tree.specs.Expressions.{Expr}
-use Rattle.csub_scopes.specs.Scopes.{Scope}
+use Rattle.csub_scopes.specs.Scopes.{Scope, HasTypes}
 use Rattle.csub_rules.specs.declared.fault.Fault.{Fault}
 use Rattle.csub_rules.specs.Faults.{IsFirst}
 use Rattle.csub_rules.specs.ExprFaults.{Standing, is_whole, fault}
@@ -21,6 +21,6 @@ FaultsAreLeast =
 abbrev pub NoFaultNothingBroken : Type 0
 NoFaultNothingBroken = (scope : Scope) (h : Standing) (e : Expr) (g : Fault) → fault scope h e ≡ None → Broken scope h e g → ⊥
 
--- and the expression can be resolved
+-- and the expression can be resolved, where each object in scope has a type
 abbrev pub NoFaultIsFine : Type 0
-NoFaultIsFine = (scope : Scope) (h : Standing) (e : Expr) → fault scope h e ≡ None → Fine scope (is_whole h) e
+NoFaultIsFine = (scope : Scope) (h : Standing) (e : Expr) → HasTypes scope → fault scope h e ≡ None → Fine scope (is_whole h) e

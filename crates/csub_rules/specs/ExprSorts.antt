@@ -1,5 +1,5 @@
 -- The sort of each expression (C11 6.5).
-use Rattle.std.specs.Prelude.{ℕ, List, [], ◌∷◌, Bool, false, Option, Some, None, ◌&&◌, ◌||◌, nat_lt, if◌then◌else◌}
+use Rattle.std.specs.Prelude.{ℕ, List, [], ◌∷◌, Bool, true, false, Option, Some, None, ◌&&◌, ◌||◌, nat_lt, if◌then◌else◌}
 use Rattle.csub_text.specs.declared.operator.UnaryOp.{UnaryOp}
 use Rattle.csub_text.specs.declared.operator.BinOp.{BinOp}
 use Rattle.csub_text.specs.declared.operator.BinOp.TheVariants.{Shl, Shr}
@@ -12,7 +12,7 @@ use Rattle.csub_tree.specs.declared.name.TypeName.TheVariants as names
 use Rattle.csub_tree.specs.Expressions.{Expr, Kind, Exprs, Node, Number, Char, Text, Named, Paren, Unary, Cast, Step, Binary, And, Or}
 use Rattle.csub_tree.specs.Expressions.{Choose, Assign, Call, Index, Member, NoExprs, MoreExprs}
 use Rattle.csub_objects.specs.Types.{Name}
-use Rattle.csub_scopes.specs.Scopes.{Scope, Declared, Meaning, global_object, local_object, enum_constant, a_function, find}
+use Rattle.csub_scopes.specs.Scopes.{Scope, Declared, Meaning, global_object, local_object, enum_constant, a_function, untyped, find}
 use Rattle.csub_rules.specs.Library.{LibraryName, getchar, putchar, printf, exit, eof, library_name}
 use Rattle.csub_rules.specs.Sorts.{Sort, a_place, a_value, no_sort, is_number, is_number_place, kind_or_int, the_kind, value_if, sort_if, element_of, member_of}
 use Rattle.csub_rules.specs.Callees.{Callee, no_function, user_function, getchar_function, putchar_function, printf_function, exit_function}
@@ -23,12 +23,14 @@ use Rattle.csub_rules.specs.Formats.{literal_of, is_format}
 abbrev pub number_literal_kind : ℕ → Bool → IntKind
 number_literal_kind n suffix = if suffix || nat_lt 2147483647 n then kinds.Unsigned else kinds.Int
 
--- An object is a place, and an enum constant an `int` (C11 6.4.4.3p2). A function may only be called.
+-- An object is a place, and an enum constant an `int` (C11 6.4.4.3p2). A function may only be called, and the rules on types
+-- say nothing of an object without a type.
 abbrev pub sort_of_meaning : Meaning → Sort
 sort_of_meaning (global_object t) = a_place t
 sort_of_meaning (local_object k t) = a_place t
 sort_of_meaning (enum_constant v) = a_value kinds.Int
 sort_of_meaning (a_function params result) = no_sort
+sort_of_meaning untyped = no_sort
 
 abbrev pub sort_of_declared : Option Declared → Sort
 sort_of_declared None = no_sort
@@ -45,6 +47,29 @@ sort_by (Some eof) d = a_value kinds.Int
 -- what a name is in an expression (C11 6.5.1p2)
 abbrev pub sort_of_name : Scope → Name → Sort
 sort_of_name scope name = sort_by (library_name name) (find name scope.names)
+
+-- whether a name is an object, a parameter or an enum constant, as a name in an expression is (C11 6.5.1p2)
+abbrev pub is_value : Meaning → Bool
+is_value (global_object t) = true
+is_value (local_object k t) = true
+is_value (enum_constant v) = true
+is_value (a_function params result) = false
+is_value untyped = true
+
+abbrev pub is_value_declared : Option Declared → Bool
+is_value_declared None = false
+is_value_declared (Some d) = is_value d.means
+
+abbrev pub is_value_by : Option LibraryName → Option Declared → Bool
+is_value_by None d = is_value_declared d
+is_value_by (Some getchar) d = false
+is_value_by (Some putchar) d = false
+is_value_by (Some printf) d = false
+is_value_by (Some exit) d = false
+is_value_by (Some eof) d = true
+
+abbrev pub is_value_name : Scope → Name → Bool
+is_value_name scope name = is_value_by (library_name name) (find name scope.names)
 
 -- the kind of a number's type (C11 6.7.2p2)
 abbrev pub number_of : TypeName → Option IntKind

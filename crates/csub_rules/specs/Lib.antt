@@ -18,3 +18,15 @@ pub mod BrokenSlot
 pub mod Initialisers
 pub mod BrokenInit
 pub mod Params
+pub mod Here
+pub mod Locals
+pub mod Past
+pub mod CaseLabels
+pub mod StmtFaults
+pub mod BrokenLocal
+pub mod BrokenLabel
+pub mod BrokenStmt
+pub mod FineStmt
+pub mod StmtLaws
+pub mod Labels
+pub mod Bodies

@@ -52,7 +52,7 @@ ParamFaultsAreLeast = (scope : Scope) (p : Param) (f g : Fault) → param_fault 
 abbrev pub NoParamFaultNothingBroken : Type 0
 NoParamFaultNothingBroken = (scope : Scope) (p : Param) (g : Fault) → param_fault scope p ≡ None → BrokenParam scope p g → ⊥
 
--- no parameter begins with `void`
+-- and the type is known
 abbrev pub NoParamFaultIsFine : Type 0
 NoParamFaultIsFine =
-    (scope : Scope) (p : Param) → param_fault scope p ≡ None → (p.base ≡ names.Void → ⊥) → IsTrue (is_some (param_type scope p))
+    (scope : Scope) (p : Param) → param_fault scope p ≡ None → IsTrue (is_some (param_type scope p))

@@ -7,6 +7,9 @@ ghost use Rattle.csub_rules.specs.BrokenSlot.{BaseFaultsAreBroken, BaseFaultsAre
 ghost use Rattle.csub_rules.specs.BrokenSlot.{SlotFaultsAreBroken, SlotFaultsAreLeast, NoSlotFaultNothingBroken, NoSlotFaultIsFine};
 ghost use Rattle.csub_rules.specs.Params.{ParamFaultsAreBroken, ParamFaultsAreLeast, NoParamFaultNothingBroken, NoParamFaultIsFine};
 ghost use Rattle.csub_rules.specs.BrokenInit.{InitFaultsAreBroken, InitFaultsAreLeast, NoInitFaultNothingBroken, NoInitFaultIsFine};
+ghost use Rattle.csub_rules.specs.StmtLaws.{StmtFaultsAreBroken, StmtFaultsAreLeast, NoStmtFaultNothingBroken, NoStmtFaultIsFine};
+ghost use Rattle.csub_rules.specs.StmtLaws.{LineFaultsAreBroken, LineFaultsAreLeast, NoLineFaultNothingBroken, NoLineFaultIsFine};
+ghost use Rattle.csub_rules.specs.Bodies.{BodyFaultsAreBroken, BodyFaultsAreLeast, NoBodyFaultNothingBroken, NoBodyFaultIsFine};
 
 /// The fault of an expression is a rule that is broken there, and no rule is broken before it. Where there is no fault, no
 /// rule is broken, and the expression can be resolved.
@@ -69,4 +72,28 @@ pub fn initialisers()
     ensures least { InitFaultsAreLeast }
     ensures complete { NoInitFaultNothingBroken }
     ensures fine { NoInitFaultIsFine }
+{}
+
+/// The same of a statement; without a fault it can be resolved, where each object that it sees has a type.
+pub fn statements()
+    ensures sound { StmtFaultsAreBroken }
+    ensures least { StmtFaultsAreLeast }
+    ensures complete { NoStmtFaultNothingBroken }
+    ensures fine { NoStmtFaultIsFine }
+{}
+
+/// The same of lines one after the other, as they stand in a block.
+pub fn lines()
+    ensures sound { LineFaultsAreBroken }
+    ensures least { LineFaultsAreLeast }
+    ensures complete { NoLineFaultNothingBroken }
+    ensures fine { NoLineFaultIsFine }
+{}
+
+/// The same of the body of a function, in which the labels differ too.
+pub fn bodies()
+    ensures sound { BodyFaultsAreBroken }
+    ensures least { BodyFaultsAreLeast }
+    ensures complete { NoBodyFaultNothingBroken }
+    ensures fine { NoBodyFaultIsFine }
 {}

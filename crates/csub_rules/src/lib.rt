@@ -1,12 +1,13 @@
-//! The rules of the language on expressions, constants, declared names, parameters and initialisers, as definitions over
-//! the trees of `csub_tree`, and their laws.
+//! The rules of the language on expressions, constants, declared names, parameters, initialisers, statements and bodies of
+//! functions, as definitions over the trees of `csub_tree`, and their laws.
 //!
 //! For each of these `specs/` says twice which rule is broken: `Broken*` has a constructor for each rule and for each place,
-//! and `*Faults`, `Uses`, `Declarators`, `Params` and `Initialisers` compute the fault that is told, which is the one that
-//! stands first in the source, and of those at one place the one of the least rule. What is promised, in the contracts of
-//! [`laws`]: a fault is a broken rule, no rule is broken before it, and where there is no fault, no rule is broken and what
-//! was looked at can be resolved (`Fine*`). `ExprSorts` says what an expression is (a place of a type, a value of a kind), and
-//! `Constants` what a constant expression gives.
+//! and `*Faults`, `Uses`, `Declarators`, `Params`, `Initialisers`, `Locals`, `CaseLabels`, `Labels` and `Bodies` compute the
+//! fault that is told, which is the one that stands first in the source, and of those at one place the one of the least
+//! rule. What is promised, in the contracts of [`laws`]: a fault is a broken rule, no rule is broken before it, and where
+//! there is no fault, no rule is broken and what was looked at can be resolved (`Fine*`). `ExprSorts` says what an expression
+//! is (a place of a type, a value of a kind), and `Constants` what a constant expression gives; `Here` is what a statement
+//! sees, and `Past` what is declared behind one.
 #![tactic(auto)]
 
 pub mod fault;

@@ -1,3 +1,4 @@
 mod Finds
 mod Keys
 mod Stack
+mod Counting

@@ -1,12 +1,12 @@
 -- Declarations as lists of numbers, which lets their list be the value of a struct. No definition of what names mean needs
 -- this file.
-use Rattle.std.specs.Prelude.{ℕ, ℤ, ◌≡◌, ◌⊎◌, List, [], Option, refl}
+use Rattle.std.specs.Prelude.{ℕ, ℤ, ◌≡◌, ◌⊎◌, List, [], Option, Some, None, refl}
 use Rattle.std.proofs.Common.{inl, inr}
 use Rattle.std.specs.Coded.{Coded, code_by, coded_list, coded_option, coded×, coded⊎, coded_ℕ, coded_ℤ}
 use Rattle.csub_types.specs.declared.kind.IntKind.{IntKind}
 use Rattle.csub_objects.specs.Types.{Name, TypeTree, number_type, array_type, struct_type, loose_type, number_kind, MemberTrees, no_member}
 use Rattle.csub_objects.specs.Codes.{type_code}
-use Rattle.csub_scopes.specs.Scopes.{Meaning, global_object, local_object, enum_constant, a_function, Declared, Tagged}
+use Rattle.csub_scopes.specs.Scopes.{Meaning, global_object, local_object, enum_constant, a_function, untyped, Declared, Tagged}
 
 -- a kind is told by its type
 abbrev kind_code : Coded IntKind
@@ -25,27 +25,31 @@ members_code = code_by TypeTree type_code (struct_type []) struct_members (λ _.
 abbrev Parts : Type 0
 Parts = TypeTree ⊎ ((ℕ × TypeTree) ⊎ (ℤ ⊎ (List TypeTree × Option IntKind)))
 
-abbrev parts : Meaning → Parts
-parts (global_object t) = inl t
-parts (local_object k t) = inr (inl (k, t))
-parts (enum_constant v) = inr (inr (inl v))
-parts (a_function params result) = inr (inr (inr (params, result)))
+abbrev parts : Meaning → Option Parts
+parts (global_object t) = Some (inl t)
+parts (local_object k t) = Some (inr (inl (k, t)))
+parts (enum_constant v) = Some (inr (inr (inl v)))
+parts (a_function params result) = Some (inr (inr (inr (params, result))))
+parts untyped = None
 
-abbrev whole : Parts → Meaning
-whole (inl t) = global_object t
-whole (inr (inl p)) = local_object p.0 p.1
-whole (inr (inr (inl v))) = enum_constant v
-whole (inr (inr (inr p))) = a_function p.0 p.1
+abbrev whole : Option Parts → Meaning
+whole None = untyped
+whole (Some (inl t)) = global_object t
+whole (Some (inr (inl p))) = local_object p.0 p.1
+whole (Some (inr (inr (inl v)))) = enum_constant v
+whole (Some (inr (inr (inr p)))) = a_function p.0 p.1
 
 pub whole_parts : (m : Meaning) → whole (parts m) ≡ m
 whole_parts (global_object t) = refl
 whole_parts (local_object k t) = refl
 whole_parts (enum_constant v) = refl
 whole_parts (a_function params result) = refl
+whole_parts untyped = refl
 
 abbrev meaning_code : Coded Meaning
 meaning_code =
-    code_by Parts (coded⊎ type_code (coded⊎ (coded× coded_ℕ type_code) (coded⊎ coded_ℤ (coded× (coded_list type_code) (coded_option kind_code)))))
+    code_by (Option Parts)
+    (coded_option (coded⊎ type_code (coded⊎ (coded× coded_ℕ type_code) (coded⊎ coded_ℤ (coded× (coded_list type_code) (coded_option kind_code))))))
     parts whole whole_parts
 
 abbrev pub names_code : Coded (List Declared)

@@ -23,6 +23,8 @@ pub enum Meaning {
     Constant(i64),
     /// A function.
     Function(Signature),
+    /// An object whose declaration has a type that breaks a rule, so that it has none.
+    Untyped,
 }
 
 /// A declaration of a name.

@@ -11,4 +11,4 @@ pub returns-clause-complete : goal.returns-clause-complete
 returns-clause-complete c = complete_enum
 
 pub returns-clause-fine : goal.returns-clause-fine
-returns-clause-fine c = fine_enum
+returns-clause-fine c = λ scope next at v types h. fine_enum scope types next at v h

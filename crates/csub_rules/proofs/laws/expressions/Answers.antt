@@ -13,4 +13,4 @@ pub returns-clause-complete : goal.returns-clause-complete
 returns-clause-complete c = complete
 
 pub returns-clause-fine : goal.returns-clause-fine
-returns-clause-fine c = λ scope h e p. (found scope h e p).fine
+returns-clause-fine c = λ scope h e types p. (found scope types h e p).fine

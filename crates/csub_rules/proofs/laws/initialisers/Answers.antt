@@ -11,4 +11,4 @@ pub returns-clause-complete : goal.returns-clause-complete
 returns-clause-complete c = complete_init
 
 pub returns-clause-fine : goal.returns-clause-fine
-returns-clause-fine c = fine_init
+returns-clause-fine c = λ scope file t x types h. fine_init scope file types t x h

@@ -11,4 +11,4 @@ pub returns-clause-complete : goal.returns-clause-complete
 returns-clause-complete c = complete_use
 
 pub returns-clause-fine : goal.returns-clause-fine
-returns-clause-fine c = fine_use
+returns-clause-fine c = λ scope u e types h. fine_use scope types u e h

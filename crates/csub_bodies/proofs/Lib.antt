@@ -1,0 +1,6 @@
+mod Counted
+mod Grows
+mod Loops
+mod Switching
+mod Trees
+mod Collecting

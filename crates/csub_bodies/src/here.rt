@@ -1,0 +1,75 @@
+//! Where a statement stands.
+ghost use Rattle.std.specs.Prelude.{◌≡◌, OnOk, option_map};
+ghost use Rattle.csub_objects.specs.Meaning.{type_tree};
+ghost use Rattle.csub_rules.specs.Here.{declaring, entering, is_declared, local_meaning};
+ghost use Rattle.csub_scopes.specs.Meanings.{meaning_of};
+ghost use Rattle.csub_bodies.specs.Views.{closed, here_of};
+
+use csub_objects::CType;
+use csub_scopes::{Counts, Meaning, Scope};
+use csub_text::Text;
+use std::alloc::AllocError;
+
+/// What a statement sees, and the objects that are declared before it in its function.
+#[derive(Drop)]
+pub struct Here {
+    /// The names and tags that it sees.
+    pub scope: Scope,
+    /// How many blocks stand round it; 1 for the parameters and the lines of a function's body.
+    pub depth: u32,
+    /// The names of the function's objects so far.
+    pub before: Counts,
+}
+
+/// Whether a name is declared in this block already.
+pub(crate) fn is_declared(here: &Here, name: &[u8]) -> bool
+    ensures { result ≡ is_declared (here_of here.now) name.now }
+{
+    match here.scope.names.find(name) {
+        None => false,
+        Some(declared) => declared.depth == here.depth,
+    }
+}
+
+/// What a declared object of the function means.
+fn local_meaning(number: u32, ctype: Option<CType>) -> Meaning
+    ensures { meaning_of result ≡ local_meaning number (option_map type_tree ctype) }
+{
+    match ctype {
+        None => Meaning::Untyped,
+        Some(ctype) => Meaning::Local(number, ctype),
+    }
+}
+
+/// Declares an object of the function.
+pub(crate) fn declare(here: &mut Here, name: &Text, ctype: Option<CType>) -> Result<(), AllocError>
+    ensures { OnOk result (here_of here.new ≡ declaring (here_of here.old) name.now (option_map type_tree ctype)) }
+{
+    let count = here.before.count(name.bytes());
+    if count >= 4_294_967_295 {
+        return Err(AllocError);
+    }
+    let meaning = local_meaning(count + 1, ctype);
+    here.before.add(name)?;
+    here.scope.names.declare(name, here.depth, meaning)?;
+    Ok(())
+}
+
+/// Enters a block.
+pub(crate) fn enter(here: &mut Here) -> Result<(), AllocError>
+    ensures { OnOk result (here_of here.new ≡ entering (here_of here.old)) }
+{
+    if here.depth >= 4_294_967_295 {
+        return Err(AllocError);
+    }
+    here.depth += 1;
+    Ok(())
+}
+
+/// Leaves a block, which was entered at this depth and with so many names in scope.
+pub(crate) fn leave(here: &mut Here, depth: u32, mark: usize)
+    ensures scope { here_of here.new ≡ closed (here_of here.old) depth mark }
+{
+    here.scope.names.close(mark);
+    here.depth = depth;
+}

@@ -1,0 +1,21 @@
+//! The first pass over declarations in blocks, statements and bodies of functions: the first rule that they break.
+//!
+//! What is promised: [`check_statement`] gives the earliest fault of a statement and what is declared behind it, exactly as
+//! `stmt_fault` and `past` of the definitions of rules (`csub_rules`) say; [`check_declaration`] the same of a declaration in
+//! a block, and [`check_body`] of the lines of a function's body, as `body_fault` says. Each takes time in proportion to what
+//! it looks at, save for a hash of each name and each case value. An `Err` is want of memory, or a full count.
+#![tactic(auto)]
+
+pub mod body;
+pub mod here;
+mod labels;
+pub mod local;
+pub mod statement;
+pub mod surroundings;
+mod switch;
+
+pub use body::check_body;
+pub use here::Here;
+pub use local::check_declaration;
+pub use statement::check_statement;
+pub use surroundings::Surroundings;
