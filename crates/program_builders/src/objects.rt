@@ -1,4 +1,5 @@
-//! Objects of number types: their declarations, and what expressions do to them.
+//! Objects of number types: their declarations, and what expressions do to them. Elements and members of other objects are
+//! places in boxes, so that one which waits for its index or its name is dropped by one call.
 use crate::expressions::boxed;
 use csub_core::{
     BinOp, CType, GlobalVar, IntKind, Label, LocalVar, Member, Owner, Place, RExpr, RInit, StepOp,
@@ -64,6 +65,21 @@ pub fn declared(
 /// The object as a place of its declared type.
 pub fn place(alloc: Global, object: Object<'_>) -> Result<Place, AllocError> {
     Ok(Place::Var(owner(alloc, object)?, CType::Num(object.kind)))
+}
+
+/// An element of an array place, by its index.
+pub fn element(
+    alloc: Global,
+    array: Box<Place>,
+    index: Box<RExpr>,
+) -> Result<Box<Place>, AllocError> {
+    Ok(Box::new(alloc, Place::Index(array, index))?)
+}
+
+/// A member of a struct place, by its name.
+pub fn member(alloc: Global, whole: Box<Place>, name: &[u8]) -> Result<Box<Place>, AllocError> {
+    let name = Text::new(alloc, name)?;
+    Ok(Box::new(alloc, Place::Member(whole, name))?)
 }
 
 /// The number in the object.

@@ -11,6 +11,8 @@ mod labels;
 #[cfg(test)]
 mod parts;
 #[cfg(test)]
+mod places;
+#[cfg(test)]
 mod small_sources;
 #[cfg(test)]
 mod threads;

@@ -9,6 +9,8 @@ mod loops;
 #[cfg(test)]
 mod operators;
 #[cfg(test)]
+mod parts;
+#[cfg(test)]
 mod shown;
 #[cfg(test)]
 mod stored;
