@@ -1,10 +1,15 @@
--- What the elements of a vector of statements stand for, read as a row of a statement or as a list.
+-- What the elements of a vector of statements or expressions stand for, read as a row of a tree or as a list.
 use Rattle.std.proofs.Common.{◌≡◌, ℕ, map, refl, ap, rules}
 use Rattle.std.specs.declared.vec.Vec.{Vec}
 use Rattle.std.specs.declared.alloc.Global.{Global}
-use Rattle.csub_semantics.specs.declared.function.RStmt.{RStmt, Block, Row_of-RStmt, end_of-RStmt, more_of-RStmt, items-the_row-RStmt, the_lemmas}
+use Rattle.csub_semantics.specs.declared.function.RStmt.{RStmt, Block, Switch, Row_of-RStmt, end_of-RStmt, more_of-RStmt, items-the_row-RStmt, the_lemmas}
+use Rattle.csub_semantics.specs.declared.function.RPart.{RPart}
+use Rattle.csub_semantics.specs.declared.expression.Piece.{Piece}
+use Rattle.csub_semantics.specs.declared.expression.RExpr.{RExpr, Printf, Row_of-RExpr, end_of-RExpr, more_of-RExpr, items-the_row-RExpr}
+use Rattle.csub_semantics.specs.declared.expression.RExpr.{the_lemmas as the_expr_lemmas}
+use Rattle.csub_semantics.specs.Trees.{formatted, more_exprs, exprs_of, expr_tree, row_exprs}
 use Rattle.csub_semantics.proofs.function.RStmt.TheLaws.{the_size}
-use Rattle.csub_semantics.specs.Syntax.{block, more_stmts, stmt_tree, row_trees, stmts_of}
+use Rattle.csub_semantics.specs.Syntax.{block, switch_on, more_stmts, part_tree, stmt_tree, row_trees, stmts_of}
 
 -- how large a statement is: what a recursion over statements goes down by
 abbrev pub stmt_size : RStmt → ℕ
@@ -18,3 +23,16 @@ row_trees-list (more_of-RStmt s rest) = ap (λ t. more_stmts (stmt_tree s) t) (r
 -- what a block of these statements stands for
 pub stmt_tree-Block : (stmts : Vec RStmt Global) → stmt_tree (Block stmts) ≡ block (stmts_of (map stmt_tree stmts.items))
 stmt_tree-Block stmts = search (rules, row_trees-list, the_lemmas)
+
+-- what a `switch` of these lines stands for
+pub stmt_tree-Switch : (part : RPart) (stmts : Vec RStmt Global) → stmt_tree (Switch part stmts) ≡ switch_on (part_tree part) (stmts_of (map stmt_tree stmts.items))
+stmt_tree-Switch part stmts = search (rules, row_trees-list, the_lemmas)
+
+-- the same of expressions
+pub row_exprs-list : {m : _} (row : Row_of-RExpr m) → row_exprs row ≡ exprs_of (map expr_tree (items-the_row-RExpr m row))
+row_exprs-list end_of-RExpr = refl
+row_exprs-list (more_of-RExpr e rest) = ap (λ t. more_exprs (expr_tree e) t) (row_exprs-list rest)
+
+-- what a `printf` of these values stands for
+pub expr_tree-Printf : (pieces : Vec Piece Global) (values : Vec RExpr Global) → expr_tree (Printf pieces values) ≡ formatted pieces.items (exprs_of (map expr_tree values.items))
+expr_tree-Printf pieces values = search (rules, row_exprs-list, the_expr_lemmas)

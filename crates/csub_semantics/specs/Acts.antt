@@ -11,7 +11,8 @@ use Rattle.csub_semantics.specs.declared.status.Status.{Status}
 use Rattle.csub_semantics.specs.declared.status.Status.TheVariants.{Exit, Trap}
 use Rattle.csub_objects.specs.Types.{Name, TypeTree, number_kind, MemberTree}
 use Rattle.csub_semantics.specs.Trees.{NamedArg, value_argument, reading, assignment, variable, object, temporary, OwnerTree}
-use Rattle.csub_semantics.specs.Labels.{LabelTree, enters, exits, evaluates, initialises, branches, returns, calls, AnswerTree, CallTree, InitTree, one_value}
+use Rattle.csub_semantics.specs.Labels.{LabelTree, enters, exits, evaluates, initialises, branches, switches, returns, jumps, halts}
+use Rattle.csub_semantics.specs.Labels.{calls, AnswerTree, CallTree, InitTree, one_value}
 use Rattle.csub_semantics.specs.Points.{ExitTree, next, on_true, on_false}
 use Rattle.csub_semantics.specs.Memory.{State, Answer, value, trapped, then_do, low_byte}
 use Rattle.csub_semantics.specs.Evaluation.{eval}
@@ -91,5 +92,8 @@ act (evaluates e) n r s = after_value (eval (named (n - 1)) e s) (λ v t. leaves
 act (initialises owner t init) n r s = act_init owner t init n r s
 act (branches e) n r s =
     after_value (eval (named (n - 1)) e s) (λ v t. leaves (if int_eq v (pos 0) then on_false else on_true) r t)
+act (switches e) n r s = after_value (eval (named (n - 1)) e s) gives
 act (returns answer) n r s = act_return answer n r s
+act jumps n r s = leaves next r s
+act (halts e) n r s = after_value (eval (named (n - 1)) e s) (λ v t. ends (Exit (low_byte v)) t)
 act (calls c) n r s = act_call c n s

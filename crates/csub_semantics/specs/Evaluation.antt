@@ -1,5 +1,5 @@
 -- What places and expressions give, over any memory: operands from left to right, with side effects at once.
-use Rattle.std.specs.Prelude.{ℕ, ℤ, pos, negsuc, Bool, not, ◌&&◌, unsigned_abs, if◌then◌else◌}
+use Rattle.std.specs.Prelude.{ℕ, ℤ, pos, negsuc, Bool, not, ◌&&◌, unsigned_abs, if◌then◌else◌, List, [], ◌∷◌, length}
 use Rattle.std.specs.Int.RustNames.{int_lt, int_le}
 use Rattle.std.specs.Ordering.{int_eq}
 use Rattle.csub_text.specs.declared.operator.UnaryOp.{UnaryOp}
@@ -12,9 +12,12 @@ use Rattle.csub_types.specs.declared.trap.Trap.TheVariants.{Bounds}
 use Rattle.csub_types.specs.Kinds.{convert, promote}
 use Rattle.csub_types.specs.Arithmetic.{unary, binary}
 use Rattle.csub_types.specs.Settled.{truth}
-use Rattle.csub_semantics.specs.Trees.{PlaceTree, variable, element_place, member_place, ExprTree, constant, reading, unary_operation, conversion, stepping, operation}
-use Rattle.csub_semantics.specs.Trees.{conjunction, disjunction, choice, assignment, update, input_byte, output_byte}
-use Rattle.csub_semantics.specs.Memory.{State, Answer, value, trapped, then_do, given, found, Memory, get_byte, put_byte, low_byte}
+use Rattle.csub_semantics.specs.Trees.{PlaceTree, variable, element_place, member_place, ExprTree, constant, reading}
+use Rattle.csub_semantics.specs.Trees.{unary_operation, conversion, stepping, operation}
+use Rattle.csub_semantics.specs.Trees.{conjunction, disjunction, choice, assignment, update, input_byte, output_byte, formatted}
+use Rattle.csub_semantics.specs.Trees.{ExprTrees, no_expr, more_exprs}
+use Rattle.csub_semantics.specs.Formats.{text_of}
+use Rattle.csub_semantics.specs.Memory.{State, Answer, value, trapped, then_do, given, found, Memory, get_byte, put_byte, put_bytes, low_byte}
 
 -- a right operand in its kind; the count of a shift stays as it is (C11 6.5.7)
 abbrev pub right_operand : BinOp → IntKind → ℤ → ℤ
@@ -104,3 +107,11 @@ module _ {V I M L C : Type 0} (m : Memory V I M L C) where
         then_do (locate p s) (λ l t. then_do (fetch l t) (λ v u. then_do (eval e u) (λ w x. then_do (computed op k v w x) (store l))))
     eval input_byte s = get_byte s s.input
     eval (output_byte e) s = then_do (eval e s) (λ v t. then_do (put_byte (low_byte v) t) (λ x u. value (pos (low_byte v)) u))
+    -- `printf` evaluates all arguments before it writes, and gives how many bytes it wrote (C11 6.5.2.2p10 and 7.21.6.3p3)
+    eval (formatted pieces es) s =
+        then_do (eval_all es s) (λ vs t. then_do (put_bytes (text_of pieces vs) t) (λ x u. value (pos (length (text_of pieces vs))) u))
+
+    -- the values of expressions, from left to right
+    pub eval_all : ExprTrees V I M → State C → Answer (List ℤ) (State C)
+    eval_all no_expr s = value [] s
+    eval_all (more_exprs e rest) s = then_do (eval e s) (λ v t. then_do (eval_all rest t) (λ vs u. value (v ∷ vs) u))

@@ -11,7 +11,7 @@ use Rattle.csub_semantics.specs.Labels.{enters, exits, PointLabel}
 use Rattle.csub_semantics.specs.Globals.{global_of, named_globals}
 use Rattle.csub_semantics.specs.Syntax.{FunctionTree, ProgramTree}
 use Rattle.csub_semantics.specs.Points.{PointTree, entry, exit, at, point_eq, ExitTree, next, exit_eq, on_default}
-use Rattle.csub_semantics.specs.Successors.{Way, Node, Around, way, enter_list, nodes_list}
+use Rattle.csub_semantics.specs.Successors.{Way, Node, Around, way, enter_list, marks_list, target, nodes_list}
 
 -- `#start`, which calls `main`, and `main`
 abbrev pub start_name : Name
@@ -30,15 +30,19 @@ abbrev pub end_rule : Name → Option IntKind → EndRule
 end_rule name result = if name_eq name start_name then Start else if name_eq name main_name then Main else result_rule result
 
 -- past the end of a body, and at a return, control goes to the function's exit; no `break` and no `continue` stands
--- outside a loop
+-- outside a loop or `switch`
 abbrev pub to_exit : Around PointTree
 to_exit = record { leave = exit; returned = exit; broken = exit; continued = exit }
+
+-- where a `goto` of a function leads
+abbrev pub goto_of : FunctionTree → Name → PointTree
+goto_of f a = target (marks_list f.body 0 at to_exit) exit a
 
 -- the points of a function: its entry, those of its body in the order of the text, and its exit
 abbrev pub function_nodes : FunctionTree → List (Node PointTree)
 function_nodes f =
     (record { point = entry; label = enters; span = f.span; ways = way next (enter_list f.body 0 at to_exit) ∷ [] }
-    ∷ nodes_list f.body 0 at to_exit)
+    ∷ nodes_list f.body 0 at (goto_of f) to_exit)
     ++ record { point = exit; label = exits (end_rule f.name f.result); span = f.span; ways = [] } ∷ []
 
 -- a point with its function

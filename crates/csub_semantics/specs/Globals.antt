@@ -7,11 +7,13 @@ use Rattle.std.specs.Cmp.Lexicographic.{slice_cmp}
 use Rattle.std.specs.BTreeSet.{insert_key}
 use Rattle.csub_objects.specs.Types.{Name}
 use Rattle.csub_semantics.specs.Types.{name_eq, GlobalTree}
-use Rattle.csub_semantics.specs.Trees.{OwnerTree, global_owner, local_owner, Variable, object, temporary, NamedPlace, variable, element_place, member_place, NamedExpr}
+use Rattle.csub_semantics.specs.Trees.{OwnerTree, global_owner, local_owner, Variable, object, temporary}
+use Rattle.csub_semantics.specs.Trees.{NamedPlace, variable, element_place, member_place, NamedExpr}
 use Rattle.csub_semantics.specs.Trees.{constant}
 use Rattle.csub_semantics.specs.Trees.{reading, unary_operation, conversion, stepping, operation, conjunction, disjunction, choice, assignment}
-use Rattle.csub_semantics.specs.Trees.{update, input_byte, output_byte, NamedArg, value_argument}
-use Rattle.csub_semantics.specs.Labels.{LabelTree, enters, exits, evaluates, initialises, branches, returns, calls, AnswerTree, InitTree, one_value}
+use Rattle.csub_semantics.specs.Trees.{update, input_byte, output_byte, formatted, NamedExprs, no_expr, more_exprs, NamedArg, value_argument}
+use Rattle.csub_semantics.specs.Labels.{LabelTree, enters, exits, evaluates, initialises, branches, switches, returns}
+use Rattle.csub_semantics.specs.Labels.{jumps, halts, calls, AnswerTree, InitTree, one_value}
 
 -- the names of the globals in a tree, from left to right
 abbrev pub owner_names : OwnerTree → List Name
@@ -42,6 +44,11 @@ abbrev mutual
   expr_names (update p op k e) = place_names p ++ expr_names e
   expr_names input_byte = []
   expr_names (output_byte e) = expr_names e
+  expr_names (formatted pieces es) = exprs_names es
+
+  pub exprs_names : NamedExprs → List Name
+  exprs_names no_expr = []
+  exprs_names (more_exprs e rest) = expr_names e ++ exprs_names rest
 
 abbrev pub arg_names : NamedArg → List Name
 arg_names (value_argument e) = expr_names e
@@ -59,7 +66,10 @@ label_names (exits rule) = []
 label_names (evaluates e) = expr_names e
 label_names (initialises owner t init) = owner_names owner ++ init_names init
 label_names (branches e) = expr_names e
+label_names (switches e) = expr_names e
 label_names (returns answer) = answer_names answer
+label_names jumps = []
+label_names (halts e) = expr_names e
 label_names (calls c) = flat_map arg_names c.args
 
 -- names in the order of their bytes, each once, when more of them are put to some that stand so

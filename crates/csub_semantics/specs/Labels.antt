@@ -12,7 +12,7 @@ use Rattle.csub_semantics.specs.declared.label.CallLabel.{CallLabel}
 use Rattle.csub_semantics.specs.declared.label.RInit.{RInit}
 use Rattle.csub_semantics.specs.declared.label.RInit.TheVariants.{One}
 use Rattle.csub_semantics.specs.declared.label.Label.{Label}
-use Rattle.csub_semantics.specs.declared.label.Label.TheVariants.{Entry, Exit, Eval, Init, Branch, Return, Call}
+use Rattle.csub_semantics.specs.declared.label.Label.TheVariants.{Entry, Exit, Eval, Init, Branch, Switch, Return, Goto, Halt, Call}
 
 -- a returned value with the function's result type, to which it is converted (C11 6.8.6.4)
 pub record AnswerTree : Type 0 where
@@ -38,7 +38,10 @@ pub data LabelTree : Type 0 where
   evaluates : NamedExpr → LabelTree
   initialises : OwnerTree → TypeTree → InitTree → LabelTree
   branches : NamedExpr → LabelTree
+  switches : NamedExpr → LabelTree
   returns : Option AnswerTree → LabelTree
+  jumps : LabelTree
+  halts : NamedExpr → LabelTree
   calls : CallTree → LabelTree
 
 -- the call that a label makes
@@ -72,5 +75,8 @@ label_tree (Exit rule) = exits rule
 label_tree (Eval e) = evaluates (expr_tree e)
 label_tree (Init owner ctype init) = initialises (owner_tree owner) (type_tree ctype) (init_tree init)
 label_tree (Branch e) = branches (expr_tree e)
+label_tree (Switch e) = switches (expr_tree e)
 label_tree (Return answer) = returns (option_map answer_tree answer)
+label_tree Goto = jumps
+label_tree (Halt e) = halts (expr_tree e)
 label_tree (Call call) = calls (call_tree call)

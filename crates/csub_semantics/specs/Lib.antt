@@ -8,6 +8,7 @@ pub mod Successors
 pub mod Flows
 pub mod Numbers
 pub mod Memory
+pub mod Formats
 pub mod Evaluation
 pub mod Cells
 pub mod Acts

@@ -57,6 +57,11 @@ abbrev pub put_byte : {C : Type 0} → ℕ → State C → Answer (Unit {0}) (St
 put_byte b s =
     if nat_lt (length s.output) most_output then value tt (record s { output = s.output ++ b ∷ [] }) else trapped Flood s
 
+-- bytes of output, one after the other
+abbrev pub put_bytes : {C : Type 0} → List ℕ → State C → Answer (Unit {0}) (State C)
+put_bytes [] s = value tt s
+put_bytes (b ∷ bs) s = then_do (put_byte b s) (λ x t. put_bytes bs t)
+
 -- the low 8 bits of a number, as an unsigned byte
 abbrev pub low_byte : ℤ → ℕ
 low_byte v = unsigned_abs (int_rem_euclid v (pos 256))

@@ -1,5 +1,5 @@
 -- Programs as values: functions with their statements, each statement with its parts.
-use Rattle.std.specs.Prelude.{ℕ, List, [], ◌∷◌, ◌++◌, map, Option, Some, None}
+use Rattle.std.specs.Prelude.{ℕ, ℤ, List, [], ◌∷◌, ◌++◌, map, Option, Some, None}
 use Rattle.std.specs.Option.{option_map}
 use Rattle.csub_text.specs.declared.span.Span.{Span}
 use Rattle.csub_types.specs.declared.kind.IntKind.{IntKind}
@@ -9,7 +9,8 @@ use Rattle.csub_semantics.specs.Types.{GlobalTree, global_tree}
 use Rattle.csub_semantics.specs.Labels.{LabelTree, calls, label_tree, call_tree}
 use Rattle.csub_semantics.specs.declared.function.RCall.{RCall}
 use Rattle.csub_semantics.specs.declared.function.RPart.{RPart}
-use Rattle.csub_semantics.specs.declared.function.RStmt.{RStmt, Parts, Block', If', While', Do', For', Break, Continue, Row_of-RStmt, end_of-RStmt}
+use Rattle.csub_semantics.specs.declared.function.RStmt.{RStmt, Parts, Block', If', While', Do', For', Switch', Case}
+use Rattle.csub_semantics.specs.declared.function.RStmt.{Default, Break, Continue, Goto, Mark', Row_of-RStmt, end_of-RStmt}
 use Rattle.csub_semantics.specs.declared.function.RStmt.{more_of-RStmt, Held-RStmt-If-2, None', Some'}
 use Rattle.csub_semantics.specs.declared.function.LocalVar.{LocalVar}
 use Rattle.csub_semantics.specs.declared.function.Function.{Function}
@@ -33,8 +34,13 @@ mutual
     while_loop : PartTree → StmtTree → StmtTree
     do_loop : StmtTree → PartTree → StmtTree
     for_loop : List PartTree → PartTree → List PartTree → StmtTree → StmtTree
+    switch_on : PartTree → StmtTrees → StmtTree
+    case_label : ℤ → StmtTree
+    default_label : StmtTree
     breaks : StmtTree
     continues : StmtTree
+    goes_to : Name → PartTree → StmtTree
+    marked : Name → StmtTree → StmtTree
 
   pub data StmtTrees : Type 0 where
     no_stmt : StmtTrees
@@ -88,8 +94,13 @@ abbrev mutual
   stmt_tree (While' part p s) = while_loop (part_tree part) (stmt_tree s)
   stmt_tree (Do' p s part) = do_loop (stmt_tree s) (part_tree part)
   stmt_tree (For' first part third p s) = for_loop (map part_tree first.items) (part_tree part) (map part_tree third.items) (stmt_tree s)
+  stmt_tree (Switch' part shape row) = switch_on (part_tree part) (row_trees row)
+  stmt_tree (Case v) = case_label v
+  stmt_tree Default = default_label
   stmt_tree Break = breaks
   stmt_tree Continue = continues
+  stmt_tree (Goto name part) = goes_to name (part_tree part)
+  stmt_tree (Mark' name p s) = marked name (stmt_tree s)
 
   pub else_tree : Held-RStmt-If-2 → ElseTree
   else_tree None' = no_else

@@ -1,7 +1,7 @@
 -- Resolved expressions as values: trees are equal exactly where the expressions are, node by node.
 -- What stands at a variable, at an index and at a member is a parameter, so that one definition of evaluation serves
 -- cells by names and cells by numbers.
-use Rattle.std.specs.Prelude.{ℕ, ℤ}
+use Rattle.std.specs.Prelude.{ℕ, ℤ, ◌+◌, List, [], ◌∷◌}
 use Rattle.csub_text.specs.declared.operator.BinOp.{BinOp}
 use Rattle.csub_text.specs.declared.operator.UnaryOp.{UnaryOp}
 use Rattle.csub_text.specs.declared.operator.StepOp.{StepOp}
@@ -10,11 +10,12 @@ use Rattle.csub_objects.specs.Types.{Name, TypeTree}
 use Rattle.csub_objects.specs.Meaning.{type_tree}
 use Rattle.csub_semantics.specs.declared.expression.Owner.{Owner}
 use Rattle.csub_semantics.specs.declared.expression.Owner.TheVariants.{Global, Local}
+use Rattle.csub_semantics.specs.declared.expression.Piece.{Piece}
 use Rattle.csub_semantics.specs.declared.expression.Place.{Place, Var, Index', Member'}
 use Rattle.csub_semantics.specs.declared.expression.RArg.{RArg}
 use Rattle.csub_semantics.specs.declared.expression.RArg.TheVariants.{Value}
 use Rattle.csub_semantics.specs.declared.expression.RExpr.{RExpr, Const, Read, Temp, Unary', Cast', Step, Binary', And', Or', Choose', Assign'}
-use Rattle.csub_semantics.specs.declared.expression.RExpr.{Update', Getchar, Putchar'}
+use Rattle.csub_semantics.specs.declared.expression.RExpr.{Update', Getchar, Putchar', Printf', Row_of-RExpr, end_of-RExpr, more_of-RExpr}
 
 mutual
   -- a place (an lvalue, C11 6.3.2.1): an object, an element of an array place by its index (6.5.2.1), or a member of a
@@ -38,6 +39,21 @@ mutual
     update : PlaceTree V I M → BinOp → IntKind → ExprTree V I M → ExprTree V I M
     input_byte : ExprTree V I M
     output_byte : ExprTree V I M → ExprTree V I M
+    formatted : List Piece → ExprTrees V I M → ExprTree V I M
+
+  pub data ExprTrees (V I M : Type 0) : Type 0 where
+    no_expr : ExprTrees V I M
+    more_exprs : ExprTree V I M → ExprTrees V I M → ExprTrees V I M
+
+module _ {V I M : Type 0} where
+  abbrev pub exprs_of : List (ExprTree V I M) → ExprTrees V I M
+  exprs_of [] = no_expr
+  exprs_of (e ∷ es) = more_exprs e (exprs_of es)
+
+  -- how many expressions a row has
+  abbrev pub expr_count : ExprTrees V I M → ℕ
+  expr_count no_expr = 0
+  expr_count (more_exprs e rest) = expr_count rest + 1
 
 -- an argument of a call
 pub data ArgTree (V I M : Type 0) : Type 0 where
@@ -59,6 +75,9 @@ NamedPlace = PlaceTree Variable (Unit {0}) Name
 
 abbrev pub NamedExpr : Type 0
 NamedExpr = ExprTree Variable (Unit {0}) Name
+
+abbrev pub NamedExprs : Type 0
+NamedExprs = ExprTrees Variable (Unit {0}) Name
 
 abbrev pub NamedArg : Type 0
 NamedArg = ArgTree Variable (Unit {0}) Name
@@ -88,6 +107,11 @@ abbrev mutual
   expr_tree (Update' p op k q e) = update (place_tree p) op k (expr_tree e)
   expr_tree Getchar = input_byte
   expr_tree (Putchar' p e) = output_byte (expr_tree e)
+  expr_tree (Printf' pieces shape row) = formatted pieces.items (row_exprs row)
+
+  pub row_exprs : {m : _} → Row_of-RExpr m → NamedExprs
+  row_exprs end_of-RExpr = no_expr
+  row_exprs (more_of-RExpr e rest) = more_exprs (expr_tree e) (row_exprs rest)
 
 abbrev pub arg_tree : RArg → NamedArg
 arg_tree (Value e) = value_argument (expr_tree e)

@@ -5,7 +5,7 @@ ghost use Rattle.csub_semantics.specs.Types.{global_tree};
 ghost use Rattle.csub_semantics.specs.Trees.{owner_tree, place_tree, expr_tree, arg_tree};
 ghost use Rattle.csub_semantics.specs.Labels.{answer_tree, call_tree, init_tree, label_tree};
 
-use crate::expression::{Owner, Place, RArg, RExpr};
+use crate::expression::{Owner, Piece, Place, RArg, RExpr};
 use crate::label::{Answer, CallLabel, Label, RInit};
 use crate::types::GlobalVar;
 use csub_objects::{Member, copy_type};
@@ -25,6 +25,9 @@ pub fn copy_label(alloc: Global, label: &Label) -> Result<Label, AllocError>
             Ok(Label::Init(object, declared, copy_init(alloc, init)?))
         }
         Label::Branch(expr) => Ok(Label::Branch(copy_expr(alloc, expr)?)),
+        Label::Switch(expr) => Ok(Label::Switch(copy_expr(alloc, expr)?)),
+        Label::Goto => Ok(Label::Goto),
+        Label::Halt(expr) => Ok(Label::Halt(copy_expr(alloc, expr)?)),
         Label::Return(None) => Ok(Label::Return(None)),
         Label::Return(Some(answer)) => Ok(Label::Return(Some(copy_answer(alloc, answer)?))),
         Label::Call(call) => Ok(Label::Call(copy_call(alloc, call)?)),
@@ -123,6 +126,10 @@ pub fn copy_expr(alloc: Global, expr: &RExpr) -> Result<RExpr, AllocError>
         RExpr::Const(kind, value) => Ok(RExpr::Const(*kind, *value)),
         RExpr::Getchar => Ok(RExpr::Getchar),
         RExpr::Putchar(byte) => Ok(RExpr::Putchar(copy_boxed(alloc, byte)?)),
+        RExpr::Printf(pieces, values) => {
+            let format = copy_pieces(alloc, pieces)?;
+            Ok(RExpr::Printf(format, copy_exprs(alloc, values)?))
+        }
         RExpr::Read(place) => Ok(RExpr::Read(copy_place(alloc, place)?)),
         RExpr::Temp(number, kind) => Ok(RExpr::Temp(*number, *kind)),
         RExpr::Step(op, place) => Ok(RExpr::Step(*op, copy_place(alloc, place)?)),
@@ -159,11 +166,30 @@ pub fn copy_expr(alloc: Global, expr: &RExpr) -> Result<RExpr, AllocError>
 }
 
 #[cycle(copying)]
+fn copy_exprs(alloc: Global, exprs: &[RExpr]) -> Result<Vec<RExpr>, AllocError>
+    ensures { IfOk result (λ made. map expr_tree made.items ≡ map expr_tree exprs.now) }
+{
+    let mut made = Vec::new(alloc);
+    for expr in exprs {
+        made.push(copy_expr(alloc, expr)?)?;
+    }
+    Ok(made)
+}
+
+#[cycle(copying)]
 fn copy_boxed(alloc: Global, expr: &RExpr) -> Result<Box<RExpr>, AllocError>
     ensures { IfOk result (λ made. expr_tree made.value ≡ expr_tree expr.now) }
 {
     let made = copy_expr(alloc, expr)?;
     Ok(Box::new(alloc, made)?)
+}
+
+fn copy_pieces(alloc: Global, pieces: &[Piece]) -> Result<Vec<Piece>, AllocError>
+    ensures { IfOk result (λ made. made.items ≡ pieces.now) }
+{
+    let mut made = Vec::new(alloc);
+    made.extend_from_slice(pieces)?;
+    Ok(made)
 }
 
 fn copy_args(alloc: Global, args: &[RArg]) -> Result<Vec<RArg>, AllocError>

@@ -69,6 +69,8 @@ pub enum RExpr {
     Getchar,
     /// `putchar(e)`, an `int`.
     Putchar(Box<RExpr>),
+    /// `printf` of a format and the values of its conversions, an `int` (C11 7.21.6.3).
+    Printf(Vec<Piece>, Vec<RExpr>),
 }
 
 /// An argument of a user call.

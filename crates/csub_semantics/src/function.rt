@@ -40,10 +40,20 @@ pub enum RStmt {
     /// A `for` (C11 6.8.5.3): the parts of its first expression or declaration, the test, the parts of its third
     /// expression, and the body.
     For(Vec<RPart>, RPart, Vec<RPart>, Box<RStmt>),
+    /// A `switch` (C11 6.8.4.2): its expression, and its lines.
+    Switch(RPart, Vec<RStmt>),
+    /// A line `case v:` of a `switch`.
+    Case(i64),
+    /// A line `default:` of a `switch`.
+    Default,
     /// A `break`.
     Break,
     /// A `continue`.
     Continue,
+    /// A `goto` (C11 6.8.6.1): the label's name, and the part of its point.
+    Goto(Text, RPart),
+    /// A labelled statement (C11 6.8.1): the label's name, and the statement.
+    Mark(Text, Box<RStmt>),
 }
 
 /// A local object that is no parameter.

@@ -61,8 +61,14 @@ pub enum Label {
     Init(Owner, CType, RInit),
     /// A test of an `if` or a loop.
     Branch(RExpr),
+    /// The value of a `switch`, which decides its way out.
+    Switch(RExpr),
     /// A `return`, with or without a value.
     Return(Option<Answer>),
+    /// A `goto`: nothing; where it leads is no part of the label.
+    Goto,
+    /// `exit(e)`: the run ends with the low 8 bits of e (C11 7.22.4.4).
+    Halt(RExpr),
     /// A user call.
     Call(CallLabel),
 }

@@ -1,5 +1,6 @@
 mod ValidArgs
 mod ValidContents
+mod ValidFormats
 mod ValidLists
 mod ValidObjects
 mod ValidResults

@@ -1,6 +1,7 @@
 -- Valid programs: what a program keeps at every moment.
 use Rattle.std.specs.Prelude.{ℕ, ◌+◌, ◌≤◌, ◌≡◌, ◌≢◌, ◌<◌, ◌++◌, ◌⊎◌, ◌&&◌, Bool, true, false, IsTrue, nat_eq}
-use Rattle.std.specs.Prelude.{ℤ, List, [], ◌∷◌, map, length, sum_by, slice_get, find, All, AllPairs, Option, Some, None, IfSome}
+use Rattle.std.specs.Prelude.{ℤ, List, [], ◌∷◌, map, length, sum_by, slice_get, find, All, AllPairs, Option, Some, None, IfSome, is_some}
+use Rattle.std.specs.Prelude.{if◌then◌else◌}
 use Rattle.std.specs.List.{list_any}
 use Rattle.std.specs.Option.{option_map, option_and_then}
 use Rattle.csub_text.specs.declared.operator.BinOp.{BinOp}
@@ -14,16 +15,23 @@ use Rattle.csub_semantics.specs.Types.{name_eq, GlobalTree}
 use Rattle.csub_semantics.specs.Trees.{NamedPlace, NamedExpr, Variable, NamedArg, value_argument, OwnerTree, global_owner, local_owner, variable}
 use Rattle.csub_semantics.specs.Trees.{element_place, member_place}
 use Rattle.csub_semantics.specs.Trees.{object, temporary, constant, reading, unary_operation, conversion, stepping, operation, conjunction}
-use Rattle.csub_semantics.specs.Trees.{disjunction, choice, assignment, update, input_byte, output_byte}
-use Rattle.csub_semantics.specs.Labels.{LabelTree, evaluates, initialises, branches, returns, calls, AnswerTree, CallTree, InitTree, one_value}
+use Rattle.csub_semantics.specs.Trees.{disjunction, choice, assignment, update, input_byte, output_byte, formatted}
+use Rattle.csub_semantics.specs.Trees.{NamedExprs, no_expr, more_exprs, expr_count}
+use Rattle.csub_semantics.specs.declared.expression.Piece.{Piece}
+use Rattle.csub_semantics.specs.Formats.{conversion_count}
+use Rattle.csub_semantics.specs.Labels.{LabelTree, evaluates, initialises, branches, switches, returns, jumps, halts, calls}
+use Rattle.csub_semantics.specs.Labels.{AnswerTree, CallTree, InitTree, one_value}
 use Rattle.csub_semantics.specs.Cells.{type_of}
-use Rattle.csub_semantics.specs.Syntax.{PartTree, StmtTree, StmtTrees, ElseTree, parts, block, conditional, while_loop, do_loop, for_loop, breaks}
-use Rattle.csub_semantics.specs.Syntax.{continues, no_stmt, more_stmts, no_else, else_stmt, Stage, LocalTree, FunctionTree, ProgramTree}
+use Rattle.csub_semantics.specs.Syntax.{PartTree, StmtTree, StmtTrees, ElseTree, parts, block, conditional, while_loop, do_loop, for_loop}
+use Rattle.csub_semantics.specs.Syntax.{switch_on, case_label, default_label, breaks, continues, goes_to, marked}
+use Rattle.csub_semantics.specs.Syntax.{no_stmt, more_stmts, no_else, else_stmt, Stage, LocalTree, FunctionTree, ProgramTree}
 use Rattle.csub_validity.specs.declared.role.Role.{Role}
-use Rattle.csub_validity.specs.declared.role.Role.TheVariants.{Whole, Test, Effect}
+use Rattle.csub_validity.specs.declared.role.Role.TheVariants.{Whole, Test, Switch, Effect}
 use Rattle.csub_validity.specs.declared.role.Targets.{Targets}
 use Rattle.csub_semantics.specs.Globals.{global_of}
-use Rattle.csub_semantics.specs.Flows.{start_name, main_name, function_of, point_list, edge_list}
+use Rattle.csub_semantics.specs.Successors.{is_default, case_values, marks_list}
+use Rattle.csub_semantics.specs.Points.{at}
+use Rattle.csub_semantics.specs.Flows.{start_name, main_name, to_exit, function_of, point_list, edge_list}
 
 -- the kind of an operation: a shift has the promoted kind of its left operand (C11 6.5.7), any other the common kind
 abbrev pub operation_kind : BinOp → IntKind → IntKind → IntKind
@@ -78,6 +86,7 @@ kind_of (assignment p e) = place_kind p
 kind_of (update p op k e) = place_kind p
 kind_of input_byte = Int
 kind_of (output_byte e) = Int
+kind_of (formatted pieces es) = Int
 
 -- the objects of a function: its parameters, each the first of its name, and its locals
 abbrev pub parameter_object : MemberTree → LocalTree
@@ -125,6 +134,13 @@ abbrev pub IsVariable : Scope → ℕ → Variable → Type 0
 IsVariable sc k (object owner t) = IsObject sc.globals sc.objects owner t
 IsVariable sc k (temporary n kind) = (n < k) × (result_of sc.results n ≡ Some kind)
 
+-- a format has a value for each of its conversions (C11 7.21.6.1p2), and at most 8
+abbrev pub most_values : ℕ
+most_values = 8
+
+abbrev pub IsFormat : List Piece → ℕ → Type 0
+IsFormat pieces values = (conversion_count pieces ≡ values) × (values ≤ most_values)
+
 module _ (sc : Scope) (number : ℕ) where
   abbrev mutual
     -- a place at the k-th stage of a part: its indices are expressions
@@ -151,6 +167,11 @@ module _ (sc : Scope) (number : ℕ) where
     IsExpr (update p op k e) = (k ≡ operation_kind op (place_kind p) (kind_of e)) × IsModifiable p × IsPlace p × IsExpr e
     IsExpr input_byte = Unit {0}
     IsExpr (output_byte e) = IsExpr e
+    IsExpr (formatted pieces es) = IsFormat pieces (expr_count es) × AreExprs es
+
+    pub AreExprs : NamedExprs → Type 0
+    AreExprs no_expr = Unit {0}
+    AreExprs (more_exprs e rest) = IsExpr e × AreExprs rest
 
   -- an argument fits its parameter: a number goes to a number (C11 6.5.2.2p2)
   abbrev pub IsArg : MemberTree → NamedArg → Type 0
@@ -201,7 +222,9 @@ IsLast P f sc Whole k (calls c) = IsCall P sc f.temps k c
 IsLast P f sc Whole k (evaluates e) = IsExpr sc k e
 IsLast P f sc Whole k (initialises owner t init) = IsInitialised f sc k owner t init
 IsLast P f sc Whole k (returns answer) = IsAnswer sc k f.result answer
+IsLast P f sc Whole k (halts e) = IsExpr sc k e
 IsLast P f sc Test k (branches e) = IsExpr sc k e
+IsLast P f sc Switch k (switches e) = IsExpr sc k e
 IsLast P f sc Effect k (calls c) = IsCall P sc f.temps k c
 IsLast P f sc Effect k (evaluates e) = IsExpr sc k e
 IsLast P f sc Effect k (initialises owner t init) = IsInitialised f sc k owner t init
@@ -258,24 +281,74 @@ pub record IsForHead (P : ProgramTree) (f : FunctionTree) (first : List PartTree
   pub steps : All (λ p. IsPart P f Effect p) third
   pub undeclared : All (λ p. declares p ≡ false) third
 
--- a `break` and a `continue` stand in loops alone (C11 6.8.6.2p1 and 6.8.6.3p1)
+-- a `break` stands in a loop or `switch`, and a `continue` in a loop (C11 6.8.6.2p1 and 6.8.6.3p1)
 abbrev pub no_loop : Targets
-no_loop = record { of_break = false; of_continue = false }
+no_loop = record { of_break = false; of_continue = false; of_case = None }
 
 abbrev pub in_loop : Targets
-in_loop = record { of_break = true; of_continue = true }
+in_loop = record { of_break = true; of_continue = true; of_case = None }
+
+-- a `case` and a `default` stand among the lines of a `switch` alone, whose kind is given
+abbrev pub in_switch : IntKind → Targets → Targets
+in_switch kind to = record { of_break = true; of_continue = to.of_continue; of_case = Some kind }
+
+-- inside a statement which is no `switch`
+abbrev pub further_in : Targets → Targets
+further_in to = record { of_break = to.of_break; of_continue = to.of_continue; of_case = None }
+
+-- the kind of a `switch`, which is the promoted kind of its expression (C11 6.8.4.2p5)
+abbrev pub value_kind : LabelTree → IntKind
+value_kind (switches e) = promote (kind_of e)
+value_kind label = Int
+
+abbrev pub switch_kind : PartTree → IntKind
+switch_kind [] = Int
+switch_kind (s ∷ []) = value_kind s.label
+switch_kind (s ∷ t ∷ rest) = switch_kind (t ∷ rest)
+
+-- a case value is of the kind of its `switch`
+abbrev pub IsCase : Option IntKind → ℤ → Type 0
+IsCase None v = ⊥
+IsCase (Some kind) v = IsOf kind v
+
+-- how many lines are a `default`
+abbrev pub default_count : StmtTrees → ℕ
+default_count no_stmt = 0
+default_count (more_stmts s rest) = if is_default s then default_count rest + 1 else default_count rest
+
+-- the lines of a `switch`: no two case values are the same, and there is at most one `default` (C11 6.8.4.2p3)
+pub record AreCases (stmts : StmtTrees) : Type 0 where
+  pub few : stmt_count stmts ≤ most_entries
+  pub distinct : AllPairs (λ v w. v ≢ w) (case_values stmts)
+  pub one : default_count stmts ≤ 1
+
+-- a `goto` is a point by itself
+abbrev pub IsJump : PartTree → Type 0
+IsJump [] = ⊥
+IsJump (s ∷ []) = s.label ≡ jumps
+IsJump (s ∷ t ∷ rest) = ⊥
+
+-- the names of the labelled statements of a function
+abbrev pub labels_of : FunctionTree → List Name
+labels_of f = map (λ m. m.name) (marks_list f.body 0 at to_exit)
 
 -- a label stands only where there is a point of its kind, and every test has its own point
 abbrev mutual
   pub IsStmt : ProgramTree → FunctionTree → Targets → StmtTree → Type 0
   IsStmt P f to (parts ps) = AreParts P f Whole ps
-  IsStmt P f to (block stmts) = (stmt_count stmts ≤ most_entries) × AreStmts P f to stmts
-  IsStmt P f to (conditional p t e) = IsPart P f Test p × IsStmt P f to t × IsElse P f to e
+  IsStmt P f to (block stmts) = (stmt_count stmts ≤ most_entries) × AreStmts P f (further_in to) stmts
+  IsStmt P f to (conditional p t e) = IsPart P f Test p × IsStmt P f (further_in to) t × IsElse P f (further_in to) e
   IsStmt P f to (while_loop p s) = IsPart P f Test p × IsStmt P f in_loop s
   IsStmt P f to (do_loop s p) = IsStmt P f in_loop s × IsPart P f Test p
   IsStmt P f to (for_loop first p third s) = IsForHead P f first p third × IsStmt P f in_loop s
+  IsStmt P f to (switch_on p stmts) = IsPart P f Switch p × AreCases stmts × AreStmts P f (in_switch (switch_kind p) to) stmts
+  IsStmt P f to (case_label v) = IsCase to.of_case v
+  IsStmt P f to default_label = IsTrue (is_some to.of_case)
   IsStmt P f to breaks = IsTrue to.of_break
   IsStmt P f to continues = IsTrue to.of_continue
+  -- a `goto` names a label of its function (C11 6.8.6.1p1)
+  IsStmt P f to (goes_to a p) = IsJump p × IsTrue (list_any (λ b. name_eq b a) (labels_of f))
+  IsStmt P f to (marked a s) = IsStmt P f (further_in to) s
 
   pub AreStmts : ProgramTree → FunctionTree → Targets → StmtTrees → Type 0
   AreStmts P f to no_stmt = Unit {0}
@@ -367,6 +440,7 @@ pub record IsValid (P : ProgramTree) : Type 0 where
   pub distinct : AllPairs (λ f g. f.name ≢ g.name) P.functions
   pub globals : AreGlobals P.globals
   pub bodies : All (λ f. AreStmts P f no_loop f.body) P.functions
+  pub labels : All (λ f. AllPairs (λ a b. a ≢ b) (labels_of f)) P.functions
   pub objects : All (λ f. AllPairs AreOther (objects_of f)) P.functions
   pub types : All AreDeclared P.functions
   pub functions : length P.functions ≤ most_functions + 1

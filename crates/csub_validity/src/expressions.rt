@@ -1,5 +1,5 @@
 //! Whether expressions have the kinds that C states, and name what is declared.
-ghost use Rattle.std.specs.Prelude.{◌≡◌, ◌↔◌, IsTrue, map};
+ghost use Rattle.std.specs.Prelude.{◌≡◌, ◌↔◌, All, IsTrue, map};
 ghost use Rattle.csub_types.specs.Kinds.{IsOf, promote, common};
 ghost use Rattle.csub_semantics.specs.Trees.{place_tree, expr_tree, temporary};
 ghost use Rattle.csub_semantics.specs.Syntax.{part_tree};
@@ -9,6 +9,7 @@ ghost use Rattle.std.specs.Option.{option_map};
 ghost use Rattle.csub_semantics.specs.Labels.{label_tree};
 ghost use Rattle.csub_validity.specs.Checks.{scope_at, own_result};
 
+use crate::formats::is_format;
 use crate::objects::is_object;
 use crate::places::{is_number_place, place_kind};
 use crate::role::Site;
@@ -33,6 +34,7 @@ pub fn is_expr(site: Site<'_>, expr: &RExpr) -> bool
         RExpr::Step(_, place) => is_number_place(place) && is_place(site, place),
         RExpr::Getchar => true,
         RExpr::Putchar(byte) => is_expr(site, byte),
+        RExpr::Printf(pieces, values) => { is_format(pieces, values) && are_exprs(site, values) }
         RExpr::Unary(_, kind, operand) => {
             *kind == promote(kind_of(operand)) && is_expr(site, operand)
         }
@@ -58,6 +60,19 @@ pub fn is_expr(site: Site<'_>, expr: &RExpr) -> bool
                 && is_expr(site, value)
         }
     }
+}
+
+/// Whether each of the expressions is valid.
+#[cycle(expressions)]
+fn are_exprs(site: Site<'_>, exprs: &[RExpr]) -> bool
+    ensures { IsTrue result ↔ All (λ e. IsExpr (scope_at site.entry) site.entry.number (expr_tree e)) exprs.now }
+{
+    for expr in exprs {
+        if !is_expr(site, expr) {
+            return false;
+        }
+    }
+    true
 }
 
 /// Whether a place is in an object of the function or of file scope, with the type that it is declared with, and its
@@ -95,13 +110,14 @@ fn is_operation(op: BinOp, kind: IntKind, left: &RExpr, right: &RExpr) -> bool
 }
 
 /// The kind of an expression's value.
-fn kind_of(expr: &RExpr) -> IntKind
+pub fn kind_of(expr: &RExpr) -> IntKind
     ensures { result ≡ kind_of (expr_tree expr.now) }
 {
     match expr {
         RExpr::Const(kind, _) => *kind,
         RExpr::Getchar => IntKind::Int,
         RExpr::Putchar(_) => IntKind::Int,
+        RExpr::Printf(_, _) => IntKind::Int,
         RExpr::Read(place) => place_kind(place),
         RExpr::Temp(_, kind) => *kind,
         RExpr::Step(_, place) => place_kind(place),

@@ -13,6 +13,7 @@
 pub mod calls;
 pub mod contents;
 pub mod expressions;
+mod formats;
 pub mod objects;
 pub mod places;
 pub mod role;
