@@ -1,4 +1,6 @@
 mod ValidCounts
+mod ValidLabels
+mod ValidCases
 mod ValidParts
 mod ValidGlobals
 mod ValidObjects

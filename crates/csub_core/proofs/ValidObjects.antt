@@ -1,5 +1,5 @@
 -- The objects of a function, by its parameters and its locals.
-use Rattle.std.proofs.Common.{◌≡◌, ◌↔◌, ◌∙◌, ℕ, ◌+◌, ◌≤◌, List, [], ◌∷◌, ◌++◌, map, sum_by, All, Option, Some, None, refl, ap, sym, arith}
+use Rattle.std.proofs.Common.{◌≡◌, ◌↔◌, ◌∙◌, ℕ, ◌+◌, List, [], ◌∷◌, ◌++◌, map, sum_by, All, refl, ap, sym, arith}
 use Rattle.std.proofs.lemmas.List.Sums.{sum_by-cons}
 use Rattle.csub_objects.specs.declared.types.Member.{Member}
 use Rattle.csub_objects.specs.Meaning.{type_tree, member_tree}

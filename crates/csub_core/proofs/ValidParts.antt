@@ -2,7 +2,7 @@
 use Rattle.std.proofs.Common.{◌≡◌, ◌↔◌, ℕ, zero, suc, ◌+◌, ◌<◌, List, [], ◌∷◌, ◌++◌, map, length, get_or, Option, Some, None, sym, subst, arith}
 use Rattle.csub_semantics.specs.declared.function.RCall.{RCall}
 use Rattle.csub_validity.specs.declared.role.Role.{Role}
-use Rattle.csub_validity.specs.declared.role.Role.TheVariants.{Whole, Test, Effect}
+use Rattle.csub_validity.specs.declared.role.Role.TheVariants.{Whole, Test, Switch, Effect}
 use Rattle.csub_text.specs.declared.span.Span.{Span}
 use Rattle.csub_semantics.specs.Labels.{LabelTree, call_tree}
 use Rattle.csub_semantics.specs.Syntax.{Stage, call_stage, own_stage, FunctionTree, ProgramTree}
@@ -63,6 +63,11 @@ module _ (P : ProgramTree) (f : FunctionTree) (sc : Scope) where
   AreStages-test k (c ∷ []) h = h
   AreStages-test k (c ∷ d ∷ cs) h = AreStages-test (k + 1) (d ∷ cs) h.1
 
+  AreStages-switch : (k : ℕ) (cs : List RCall) → AreStages P f sc Switch k (map call_stage cs ++ []) → ⊥
+  AreStages-switch k [] h = h
+  AreStages-switch k (c ∷ []) h = h
+  AreStages-switch k (c ∷ d ∷ cs) h = AreStages-switch (k + 1) (d ∷ cs) h.1
+
   -- a part has calls that fit, and then what may stand last
   pub AreStages-split : (role : Role) (cs : List RCall) (span : Span) (own : Option LabelTree) → AreStages P f sc role 1 (map call_stage cs ++ own_stage span own) ↔ (AreCalls P sc f.temps cs × IsEnd P f sc role (length cs) own)
   AreStages-split role cs span (Some label) =
@@ -80,3 +85,4 @@ module _ (P : ProgramTree) (f : FunctionTree) (sc : Scope) where
       let fit = FitFrom-calls (c ∷ cs) in
       (λ h. (fit.0 (parts.0 h), omega arith), λ h. parts.1 (fit.1 h.0))
   AreStages-split Test cs span None = (λ h. absurd (AreStages-test 1 cs h), λ h. absurd h.1)
+  AreStages-split Switch cs span None = (λ h. absurd (AreStages-switch 1 cs h), λ h. absurd h.1)

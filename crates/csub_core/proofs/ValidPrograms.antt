@@ -1,5 +1,5 @@
 -- Validity of a program, by what is looked at in turn.
-use Rattle.std.proofs.Common.{◌≡◌, ◌≢◌, ◌↔◌, List, [], map, All, AllPairs, refl, ap, sym, subst}
+use Rattle.std.proofs.Common.{◌≢◌, ◌↔◌, List, map, All, AllPairs}
 use Rattle.csub_semantics.specs.declared.function.Function.{Function}
 use Rattle.csub_semantics.specs.Syntax.{ProgramParts, ProgramTree, function_tree, program_tree}
 use Rattle.csub_validity.specs.Valid.{IsValid}
@@ -14,7 +14,7 @@ AreNamed-split fs =
 valid_parts : (P : ProgramTree) → IsValid P → IsFramed P × All (IsFunction P) P.functions
 valid_parts P h = (
   (((h.functions, h.points, h.edges), ((h.start, h.main), h.distinct)), h.globals),
-  λ k d below. ((((h.frames k d below, (h.parameters k d below, h.lists k d below)), h.types k d below), h.objects k d below), h.bodies k d below),
+  λ k d below. (((((h.frames k d below, (h.parameters k d below, h.lists k d below)), h.types k d below), h.objects k d below), h.labels k d below), h.bodies k d below),
 )
 
 valid_from_parts : (P : ProgramTree) → IsFramed P → All (IsFunction P) P.functions → IsValid P
@@ -24,14 +24,15 @@ valid_from_parts P framed each = record {
   distinct = framed.0.1.1;
   globals = framed.1;
   bodies = λ k d below. (each k d below).1;
-  objects = λ k d below. (each k d below).0.1;
-  types = λ k d below. (each k d below).0.0.1;
+  labels = λ k d below. (each k d below).0.1;
+  objects = λ k d below. (each k d below).0.0.1;
+  types = λ k d below. (each k d below).0.0.0.1;
   functions = framed.0.0.0;
   points = framed.0.0.1;
   edges = framed.0.0.2;
-  frames = λ k d below. (each k d below).0.0.0.0;
-  parameters = λ k d below. (each k d below).0.0.0.1.0;
-  lists = λ k d below. (each k d below).0.0.0.1.1;
+  frames = λ k d below. (each k d below).0.0.0.0.0;
+  parameters = λ k d below. (each k d below).0.0.0.0.1.0;
+  lists = λ k d below. (each k d below).0.0.0.0.1.1;
 }
 
 pub IsValid-split : (p : ProgramParts) → IsValid (program_tree p) ↔ (IsFramed (program_tree p) × All (λ f. IsFunction (program_tree p) (function_tree f)) p.functions)

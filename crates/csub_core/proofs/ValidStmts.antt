@@ -7,14 +7,14 @@ use Rattle.csub_text.specs.declared.span.Span.{Span}
 use Rattle.csub_semantics.specs.declared.function.RCall.{RCall}
 use Rattle.csub_semantics.specs.declared.function.RPart.{RPart}
 use Rattle.csub_semantics.specs.Labels.{LabelTree}
-use Rattle.csub_semantics.specs.declared.function.RStmt.{RStmt, Block}
+use Rattle.csub_semantics.specs.declared.function.RStmt.{RStmt, Block, Switch}
 use Rattle.csub_validity.specs.declared.role.Role.{Role}
 use Rattle.csub_validity.specs.declared.role.Role.TheVariants.{Effect}
 use Rattle.csub_validity.specs.declared.role.Targets.{Targets}
 use Rattle.csub_semantics.specs.Syntax.{call_stage, own_stage, part_tree, stmt_tree, stmts_of, FunctionTree, ProgramTree}
-use Rattle.csub_validity.specs.Valid.{is_declared, declares, IsPart, IsStmt, AreStmts, stmt_count, most_entries}
-use Rattle.csub_core.specs.Checks.{declared_own}
-use Rattle.csub_semantics.proofs.LawsRows.{stmt_tree-Block}
+use Rattle.csub_validity.specs.Valid.{is_declared, declares, IsPart, IsStmt, AreStmts, further_in, in_switch, switch_kind, stmt_count, most_entries}
+use Rattle.csub_core.specs.Checks.{declared_own, IsSwitch}
+use Rattle.csub_semantics.proofs.LawsRows.{stmt_tree-Block, stmt_tree-Switch}
 use Rattle.csub_validity.proofs.LawsLists.{All-of_map}
 
 module _ (P : ProgramTree) (f : FunctionTree) (to : Targets) where
@@ -26,15 +26,30 @@ module _ (P : ProgramTree) (f : FunctionTree) (to : Targets) where
         λ h. (All-head (λ t. IsStmt P f to (stmt_tree t)) s ss h, rest.1 (All-tail (λ t. IsStmt P f to (stmt_tree t)) s ss h)),
       )
 
-  -- a block is a short list of statements
-  abbrev pub AreFew : List RStmt → Type 0
-  AreFew ss = stmt_count (stmts_of (map stmt_tree ss)) ≤ most_entries
+-- a block is a short list of statements
+abbrev pub AreFew : List RStmt → Type 0
+AreFew ss = stmt_count (stmts_of (map stmt_tree ss)) ≤ most_entries
 
-  pub IsStmt-Block : (stmts : Vec RStmt Global) → IsStmt P f to (stmt_tree (Block stmts)) ↔ (AreFew stmts.items × All (λ s. IsStmt P f to (stmt_tree s)) stmts.items)
+module _ (P : ProgramTree) (f : FunctionTree) (to : Targets) where
+  abbrev pub AreInBlock : List RStmt → Type 0
+  AreInBlock ss = AreFew ss × All (λ s. IsStmt P f (further_in to) (stmt_tree s)) ss
+
+  pub IsStmt-Block : (stmts : Vec RStmt Global) → IsStmt P f to (stmt_tree (Block stmts)) ↔ AreInBlock stmts.items
   IsStmt-Block stmts =
-      let each = AreStmts-All stmts.items in
-      subst (λ t. IsStmt P f to t ↔ (AreFew stmts.items × All (λ s. IsStmt P f to (stmt_tree s)) stmts.items)) (sym (stmt_tree-Block stmts))
+      let each = AreStmts-All P f (further_in to) stmts.items in
+      subst (λ t. IsStmt P f to t ↔ AreInBlock stmts.items) (sym (stmt_tree-Block stmts))
       (λ h. (h.0, each.0 h.1), λ h. (h.0, each.1 h.1))
+
+  -- a `switch` has an expression, cases that differ, and statements
+  abbrev pub AreInSwitch : RPart → List RStmt → Type 0
+  AreInSwitch p ss =
+      IsSwitch P f (part_tree p) (stmts_of (map stmt_tree ss)) × All (λ s. IsStmt P f (in_switch (switch_kind (part_tree p)) to) (stmt_tree s)) ss
+
+  pub IsStmt-Switch : (p : RPart) (stmts : Vec RStmt Global) → IsStmt P f to (stmt_tree (Switch p stmts)) ↔ AreInSwitch p stmts.items
+  IsStmt-Switch p stmts =
+      let each = AreStmts-All P f (in_switch (switch_kind (part_tree p)) to) stmts.items in
+      subst (λ t. IsStmt P f to t ↔ AreInSwitch p stmts.items) (sym (stmt_tree-Switch p stmts))
+      (λ h. ((h.0, h.1), each.0 h.2), λ h. (h.0.0, h.0.1, each.1 h.1))
 
 -- how many statements a list has
 pub stmt_count-list : (ss : List RStmt) → stmt_count (stmts_of (map stmt_tree ss)) ≡ length ss

@@ -1,21 +1,28 @@
 -- What the steps of the validity check decide or count. No definition above this file needs it.
-use Rattle.std.specs.Prelude.{ℕ, ◌+◌, ◌<◌, ◌≤◌, ◌≡◌, ◌≢◌, Bool, false, List, [], ◌∷◌, length, sum_by, All, AllPairs, Option, Some, None}
-use Rattle.std.specs.List.{flat_map}
-use Rattle.csub_semantics.specs.Labels.{LabelTree}
-use Rattle.csub_semantics.specs.Syntax.{PartTree, StmtTree, StmtTrees, ElseTree, parts, block, conditional, while_loop, do_loop, for_loop, breaks}
-use Rattle.csub_semantics.specs.Syntax.{continues, no_stmt, more_stmts, no_else, else_stmt, FunctionTree, ProgramTree}
-use Rattle.csub_semantics.specs.declared.types.GlobalVar.{GlobalVar}
+use Rattle.std.specs.Prelude.{ℕ, ℤ, ◌+◌, ◌<◌, ◌≤◌, ◌≡◌, ◌≢◌, nat_le, Bool, false, List, [], ◌∷◌, ◌++◌, length, sum_by}
+use Rattle.std.specs.Prelude.{All, AllPairs, Option, Some, None}
+use Rattle.std.specs.List.{flat_map, count_by}
+use Rattle.csub_types.specs.declared.kind.IntKind.{IntKind}
+use Rattle.csub_types.specs.declared.kind.IntKind.TheVariants.{Int}
 use Rattle.csub_objects.specs.Meaning.{type_tree}
-use Rattle.csub_objects.specs.Types.{cells, kinds, IsSized}
+use Rattle.csub_objects.specs.Types.{Name, cells, kinds, IsSized}
 use Rattle.csub_objects.specs.declared.types.Member.{Member}
+use Rattle.csub_semantics.specs.declared.types.GlobalVar.{GlobalVar}
 use Rattle.csub_semantics.specs.declared.function.LocalVar.{LocalVar}
-use Rattle.csub_semantics.specs.Types.{GlobalTree, global_tree}
+use Rattle.csub_semantics.specs.Types.{name_eq, GlobalTree, global_tree}
+use Rattle.csub_semantics.specs.Labels.{LabelTree, halts, jumps}
+use Rattle.csub_semantics.specs.Syntax.{PartTree, StmtTree, StmtTrees, ElseTree, parts, block, conditional, while_loop, do_loop, for_loop}
+use Rattle.csub_semantics.specs.Syntax.{switch_on, case_label, default_label, breaks, continues, goes_to, marked, no_stmt, more_stmts, no_else, else_stmt}
+use Rattle.csub_semantics.specs.Syntax.{FunctionTree, ProgramTree}
+use Rattle.csub_semantics.specs.Successors.{case_values}
 use Rattle.csub_semantics.specs.Flows.{main_name, function_in, points_of, Edge, edges_from}
 use Rattle.csub_validity.specs.declared.role.Role.{Role}
-use Rattle.csub_validity.specs.declared.role.Role.TheVariants.{Whole, Test, Effect}
-use Rattle.csub_validity.specs.Valid.{Scope, is_declared, IsLast, AreStmts, no_loop, objects_of, AreOther}
+use Rattle.csub_validity.specs.declared.role.Role.TheVariants.{Whole, Test, Switch, Effect}
+use Rattle.csub_validity.specs.Valid.{Scope, is_declared, value_kind, IsPart, IsLast, AreStmts, no_loop, objects_of, AreOther, labels_of, AreCases}
 use Rattle.csub_validity.specs.Valid.{declares, IsOneOrDeclares, stmt_count, most_entries, frame_cells, most_parameters, BeginsWithStart, IsMain}
 use Rattle.csub_validity.specs.Valid.{most_functions, most_points, most_edges, most_cells, AreOf, AreGlobals, AreDeclared}
+use Rattle.csub_core.specs.declared.valid.counts.Measure.{Measure}
+use Rattle.csub_core.specs.declared.valid.counts.Measure.TheVariants.{Points, Edges}
 
 -- whether a part's own point initialises a declared object
 abbrev pub declared_own : Option LabelTree → Bool
@@ -27,40 +34,120 @@ abbrev pub IsEnd : ProgramTree → FunctionTree → Scope → Role → ℕ → O
 IsEnd P f sc role calls (Some label) = IsLast P f sc role (calls + 1) label
 IsEnd P f sc Whole calls None = 0 < calls
 IsEnd P f sc Test calls None = ⊥
+IsEnd P f sc Switch calls None = ⊥
 IsEnd P f sc Effect calls None = 0 < calls
 
--- A count of points, and of ways out: 1 for each stage, and `further` for the second way out of a test. So it counts
--- points with `further` 0, and ways out with `further` 1.
-abbrev pub count_test : ℕ → PartTree → ℕ
-count_test further [] = 0
-count_test further (s ∷ rest) = length (s ∷ rest) + further
+-- the kind of a `switch` by its part's own point
+abbrev pub own_kind : Option LabelTree → IntKind
+own_kind None = Int
+own_kind (Some label) = value_kind label
 
--- the same of what stands before the body of a `for`
-abbrev pub count_head : ℕ → List PartTree → PartTree → List PartTree → ℕ
-count_head further first test third = sum_by length first + (count_test further test + sum_by length third)
+-- what stands before the lines of a `switch` are valid, and they are cases that differ
+abbrev pub IsSwitch : ProgramTree → FunctionTree → PartTree → StmtTrees → Type 0
+IsSwitch P f p stmts = IsPart P f Switch p × AreCases stmts
 
+-- two lines are not labels of one case
+abbrev pub AreOtherCases : Option ℤ → Option ℤ → Type 0
+AreOtherCases a b = (v : ℤ) → a ≡ Some v → b ≢ Some v
+
+-- how many ways out the last stage of a part outside a test has: none where it ends the run
+abbrev pub own_count : LabelTree → ℕ
+own_count (halts e) = 0
+own_count label = 1
+
+abbrev pub end_count : Option LabelTree → ℕ
+end_count None = 1
+end_count (Some label) = own_count label
+
+abbrev pub last_count : PartTree → ℕ
+last_count [] = 1
+last_count (s ∷ []) = own_count s.label
+last_count (s ∷ t ∷ rest) = last_count (t ∷ rest)
+
+-- what the last stage of a part counts, which has so many ways out: it is one point
+abbrev pub stage_count : Measure → ℕ → ℕ
+stage_count Points ways = 1
+stage_count Edges ways = ways
+
+-- a count of a part whose last stage has so many ways out: each stage before it is a point with one way out
+abbrev pub count_stages : Measure → PartTree → ℕ → ℕ
+count_stages m [] ways = 0
+count_stages m (s ∷ rest) ways = length rest + stage_count m ways
+
+-- the same of a part outside a test
+abbrev pub count_part : Measure → PartTree → ℕ
+count_part m p = count_stages m p (last_count p)
+
+-- A count of the points of a statement, or of the ways out of them: a test has two, a `switch` one for each case and one
+-- beside, and a `goto` one.
 abbrev mutual
-  pub count : ℕ → StmtTree → ℕ
-  count further (parts ps) = sum_by length ps
-  count further (block stmts) = count_list further stmts
-  count further (conditional p t e) = count_test further p + (count further t + count_else further e)
-  count further (while_loop p s) = count_test further p + count further s
-  count further (do_loop s p) = count further s + count_test further p
-  count further (for_loop first p third s) = count_head further first p third + count further s
-  count further breaks = 0
-  count further continues = 0
+  pub count : Measure → StmtTree → ℕ
+  count m (parts ps) = sum_by (count_part m) ps
+  count m (block stmts) = count_list m stmts
+  count m (conditional p t e) = count_stages m p 2 + (count m t + count_else m e)
+  count m (while_loop p s) = count_stages m p 2 + count m s
+  count m (do_loop s p) = count m s + count_stages m p 2
+  count m (for_loop first p third s) = (sum_by (count_part m) first + (count_stages m p 2 + sum_by (count_part m) third)) + count m s
+  count m (switch_on p stmts) = count_stages m p (length (case_values stmts) + 1) + count_list m stmts
+  count m (case_label v) = 0
+  count m default_label = 0
+  count m breaks = 0
+  count m continues = 0
+  count m (goes_to a p) = count_stages m p 1
+  count m (marked a s) = count m s
 
-  pub count_list : ℕ → StmtTrees → ℕ
-  count_list further no_stmt = 0
-  count_list further (more_stmts s rest) = count further s + count_list further rest
+  pub count_list : Measure → StmtTrees → ℕ
+  count_list m no_stmt = 0
+  count_list m (more_stmts s rest) = count m s + count_list m rest
 
-  pub count_else : ℕ → ElseTree → ℕ
-  count_else further no_else = 0
-  count_else further (else_stmt s) = count further s
+  pub count_else : Measure → ElseTree → ℕ
+  count_else m no_else = 0
+  count_else m (else_stmt s) = count m s
 
--- the same of a function, with so many for its entry and exit
-abbrev pub count_function : ℕ → ℕ → FunctionTree → ℕ
-count_function ends further f = ends + count_list further f.body
+-- the same of a function: its entry and its exit are points, and the entry has a way out
+abbrev pub count_ends : Measure → ℕ
+count_ends Points = 2
+count_ends Edges = 1
+
+abbrev pub count_function : Measure → FunctionTree → ℕ
+count_function m f = count_ends m + count_list m f.body
+
+-- the names of the labelled statements inside a statement, in the order of the text
+abbrev mutual
+  pub label_names : StmtTree → List Name
+  label_names (parts ps) = []
+  label_names (block stmts) = label_names_list stmts
+  label_names (conditional p t e) = label_names t ++ label_names_else e
+  label_names (while_loop p s) = label_names s
+  label_names (do_loop s p) = label_names s
+  label_names (for_loop first p third s) = label_names s
+  label_names (switch_on p stmts) = label_names_list stmts
+  label_names (case_label v) = []
+  label_names default_label = []
+  label_names breaks = []
+  label_names continues = []
+  label_names (goes_to a p) = []
+  label_names (marked a s) = a ∷ label_names s
+
+  pub label_names_list : StmtTrees → List Name
+  label_names_list no_stmt = []
+  label_names_list (more_stmts s rest) = label_names s ++ label_names_list rest
+
+  pub label_names_else : ElseTree → List Name
+  label_names_else no_else = []
+  label_names_else (else_stmt s) = label_names s
+
+-- how often a name stands among names, and whether at most once
+abbrev pub uses : Name → List Name → ℕ
+uses a names = count_by (λ b. name_eq b a) names
+
+abbrev pub is_once : List Name → Name → Bool
+is_once names a = nat_le (uses a names) 1
+
+-- a part's own point is that of a `goto`
+abbrev pub IsOwnJump : Option LabelTree → Type 0
+IsOwnJump None = ⊥
+IsOwnJump (Some label) = label ≡ jumps
 
 -- the parts of a statement apart from what each of them is
 abbrev pub AreTogether : List PartTree → Type 0
@@ -116,5 +203,8 @@ HasTypes f = IsSmall f × AreDeclared f
 abbrev pub HasObjects : FunctionTree → Type 0
 HasObjects f = HasTypes f × AllPairs AreOther (objects_of f)
 
+abbrev pub HasLabels : FunctionTree → Type 0
+HasLabels f = HasObjects f × AllPairs (λ a b. a ≢ b) (labels_of f)
+
 abbrev pub IsFunction : ProgramTree → FunctionTree → Type 0
-IsFunction P f = HasObjects f × AreStmts P f no_loop f.body
+IsFunction P f = HasLabels f × AreStmts P f no_loop f.body

@@ -8,16 +8,19 @@ ghost use Rattle.csub_semantics.specs.declared.function.Function.{Function};
 ghost use Rattle.csub_semantics.specs.Syntax.{function_tree};
 ghost use Rattle.csub_validity.specs.Valid.{IsValid, most_parameters, most_entries, stmt_count};
 ghost use Rattle.csub_validity.specs.Checks.{tree_of};
-ghost use Rattle.csub_core.specs.Checks.{IsWithinLimits, HasEnds, AreNamed, HasFunctions, IsFramed, IsFunction, HasObjects, HasTypes, IsSmall};
+ghost use Rattle.csub_core.specs.Checks.{IsWithinLimits, HasEnds, AreNamed, HasFunctions, IsFramed, IsFunction, HasLabels, HasObjects, HasTypes, IsSmall};
 
+mod cases;
 mod counts;
 mod globals;
+mod labels;
 mod objects;
 mod start;
 mod statements;
 
 use crate::valid::counts::{has_few_edges, has_few_points};
 use crate::valid::globals::are_globals;
+use crate::valid::labels::labels_differ;
 use crate::valid::objects::{are_declared, has_few_cells};
 use crate::valid::start::{has_main, has_start};
 use crate::valid::statements::{are_stmts, has_few_stmts};
@@ -34,7 +37,8 @@ const MOST_PARAMETERS: usize = 16;
 
 /// Whether the functions and the globals are a valid program. Beside a few passes over the program this takes a
 /// comparison of names for each two functions, for each two globals, for each two objects of a function, for each call
-/// and function, and for each use of an object and object that may be meant.
+/// and function, and for each use of an object and object that may be meant. It passes over a function for each of its
+/// labels and each of its `goto`s, and takes a comparison for each two lines of a `switch`.
 pub(crate) fn is_valid(program: Definitions<'_>) -> bool
     ensures { IsTrue result ↔ IsValid (tree_of program.entry) }
 {
@@ -111,11 +115,17 @@ fn are_functions(program: Definitions<'_>) -> bool
     true
 }
 
-/// Whether a function of the program has few objects that differ, and valid statements.
+/// Whether a function of the program has few objects that differ, labels that differ, and valid statements.
 fn is_function(program: Definitions<'_>, function: &Function) -> bool
     ensures { IsTrue result ↔ IsFunction (tree_of program.entry) (function_tree function.now) }
 {
-    has_objects(function) && are_stmts(program, function, Targets::NONE, &function.body)
+    has_labels(function) && are_stmts(program, function, Targets::NONE, &function.body)
+}
+
+fn has_labels(function: &Function) -> bool
+    ensures { IsTrue result ↔ HasLabels (function_tree function.now) }
+{
+    has_objects(function) && labels_differ(function)
 }
 
 fn has_objects(function: &Function) -> bool

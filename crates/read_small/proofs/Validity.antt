@@ -1,5 +1,5 @@
 -- The program of a small source is valid.
-use Rattle.std.proofs.Common.{◌≡◌, ◌≢◌, ℕ, ◌+◌, ◌≤◌, List, [], ◌∷◌, ◌++◌, length, Option, Some, None, inl, refl, sym, ap, subst, arith, length-append, pos}
+use Rattle.std.proofs.Common.{◌≡◌, ◌≢◌, ℕ, ◌+◌, ◌≤◌, List, [], ◌∷◌, ◌++◌, length, Option, Some, None, inl, refl, sym, ap, ap₂, subst, arith, length-append, pos}
 use Rattle.std.specs.Prelude.{map, All, AllPairs}
 use Rattle.std.specs.List.{flat_map}
 use Rattle.std.proofs.lemmas.List.{length-map}
@@ -14,9 +14,9 @@ use Rattle.csub_semantics.specs.Syntax.{PartTree, StmtTree, stmts_of, FunctionTr
 use Rattle.csub_semantics.specs.Points.{PointTree}
 use Rattle.csub_semantics.specs.Points as points
 use Rattle.csub_semantics.specs.Labels.{exits}
-use Rattle.csub_semantics.specs.Successors.{Node, nodes_list}
-use Rattle.csub_semantics.specs.Flows.{to_exit, end_rule, function_nodes, PlacedNode, placed, point_list, edges_from, edge_list}
-use Rattle.csub_validity.specs.Valid.{IsPart, AreParts, most_entries, stmt_count, no_loop, IsStmt, AreStmts, IsElse, objects_of, AreOther, AreDeclared, frame_cells, AreOf, IsValid}
+use Rattle.csub_semantics.specs.Successors.{Node, Around, Mark, leaving, enter_list, marks, marks_list, marks_else, nodes_list}
+use Rattle.csub_semantics.specs.Flows.{to_exit, goto_of, end_rule, function_nodes, PlacedNode, placed, point_list, edges_from, edge_list}
+use Rattle.csub_validity.specs.Valid.{IsPart, AreParts, most_entries, stmt_count, no_loop, IsStmt, AreStmts, IsElse, labels_of, objects_of, AreOther, AreDeclared, frame_cells, AreOf, IsValid}
 use Rattle.csub_validity.specs.declared.role.Role.TheVariants.{Whole}
 use Rattle.read_small.specs.declared.plain.Plain.{Plain}
 use Rattle.read_small.specs.declared.plain.Plain.TheVariants.{Writes, Gives}
@@ -104,11 +104,11 @@ abbrev last_node : Span → List StmtTree → Node PointTree
 last_node span body = record { point = points.exit; label = exits (end_rule (main_function span body).name (main_function span body).result); span = span; ways = [] }
 
 -- the points of `main`: those of its body, its entry and its exit
-main_points : (span : Span) (body : List StmtTree) → length (function_nodes (main_function span body)) ≡ length (nodes_list (stmts_of body) 0 points.at to_exit) + 2
-main_points span body = omega (arith, length-append (nodes_list (stmts_of body) 0 points.at to_exit) (last_node span body ∷ []))
+main_points : (span : Span) (body : List StmtTree) → length (function_nodes (main_function span body)) ≡ length (nodes_list (stmts_of body) 0 points.at (goto_of (main_function span body)) to_exit) + 2
+main_points span body = omega (arith, length-append (nodes_list (stmts_of body) 0 points.at (goto_of (main_function span body)) to_exit) (last_node span body ∷ []))
 
-main_ways : (span : Span) (body : List StmtTree) → ways_of (function_nodes (main_function span body)) ≡ ways_of (nodes_list (stmts_of body) 0 points.at to_exit) + 1
-main_ways span body = omega (arith, ways_of-append (nodes_list (stmts_of body) 0 points.at to_exit) (last_node span body ∷ []))
+main_ways : (span : Span) (body : List StmtTree) → ways_of (function_nodes (main_function span body)) ≡ ways_of (nodes_list (stmts_of body) 0 points.at (goto_of (main_function span body)) to_exit) + 1
+main_ways span body = omega (arith, ways_of-append (nodes_list (stmts_of body) 0 points.at (goto_of (main_function span body)) to_exit) (last_node span body ∷ []))
 
 abbrev start_of : ℕ → FunctionTree
 start_of place = start_function (span_at place Main)
@@ -116,17 +116,42 @@ start_of place = start_function (span_at place Main)
 abbrev main_of : ℕ → List Line → FunctionTree
 main_of place lines = main_function (span_at place Main) (map line_stmt lines)
 
-points_of : (place : ℕ) (lines : List Line) → length (point_list (program_of place lines)) ≡ length (nodes_list (stmts_of (map line_stmt lines)) 0 points.at to_exit) + 5
+points_of : (place : ℕ) (lines : List Line) → length (point_list (program_of place lines)) ≡ length (nodes_list (stmts_of (map line_stmt lines)) 0 points.at (goto_of (main_of place lines)) to_exit) + 5
 points_of place lines =
     let main_nodes : List (Node PointTree) = function_nodes (main_of place lines) in
     omega (arith, main_points (span_at place Main) (map line_stmt lines), length-append (map (placed (main_of place lines).name) main_nodes) [], length-map main_nodes (placed (main_of place lines).name))
 
-edges_of : (place : ℕ) (lines : List Line) → length (edge_list (program_of place lines)) ≡ ways_of (nodes_list (stmts_of (map line_stmt lines)) 0 points.at to_exit) + 3
+edges_of : (place : ℕ) (lines : List Line) → length (edge_list (program_of place lines)) ≡ ways_of (nodes_list (stmts_of (map line_stmt lines)) 0 points.at (goto_of (main_of place lines)) to_exit) + 3
 edges_of place lines =
     let main_nodes : List (Node PointTree) = function_nodes (main_of place lines) in
     let main_edges = placed_ways (main_of place lines).name main_nodes [] in
     let all_edges = placed_ways (start_of place).name (function_nodes (start_of place)) (map (placed (main_of place lines).name) main_nodes ++ []) in
     omega (arith, main_ways (span_at place Main) (map line_stmt lines), main_edges, all_edges)
+
+-- ---- labels, of which small sources have none
+
+plain_marks : (ps : List Plain) (i : ℕ) (name : List ℕ → ℕ → ℕ → PointTree) (around : Around PointTree)
+    → marks_list (stmts_of (map plain_stmt ps)) i name around ≡ []
+plain_marks [] i name around = refl
+plain_marks (Writes at n ∷ ps) i name around = plain_marks ps (i + 1) name around
+plain_marks (Gives at n ∷ ps) i name around = plain_marks ps (i + 1) name around
+
+else_marks : (other : Option (List Plain)) (name : List ℕ → ℕ → ℕ → PointTree) (around : Around PointTree) → marks_else (else_of other) name around ≡ []
+else_marks None name around = refl
+else_marks (Some ps) name around = plain_marks ps 0 name around
+
+line_marks : (l : Line) (name : List ℕ → ℕ → ℕ → PointTree) (around : Around PointTree) → marks (line_stmt l) name around ≡ []
+line_marks (plain (Writes at n)) name around = refl
+line_marks (plain (Gives at n)) name around = refl
+line_marks (test at n ps other) name around =
+    ap₂ (λ (xs ys : List (Mark PointTree)). xs ++ ys) (plain_marks ps 0 (λ q. name (0 ∷ q)) around) (else_marks other (λ q. name (1 ∷ q)) around)
+
+no_marks : (lines : List Line) (i : ℕ) (name : List ℕ → ℕ → ℕ → PointTree) (around : Around PointTree)
+    → marks_list (stmts_of (map line_stmt lines)) i name around ≡ []
+no_marks [] i name around = refl
+no_marks (l ∷ ls) i name around =
+    ap₂ (λ (xs ys : List (Mark PointTree)). xs ++ ys)
+    (line_marks l (λ q. name (i ∷ q)) (leaving (enter_list (stmts_of (map line_stmt ls)) (i + 1) name around) around)) (no_marks ls (i + 1) name around)
 
 -- ---- the program
 
@@ -139,7 +164,7 @@ valid_program place lines spelled fits =
     let f = start_of place in
     let g = main_of place lines in
     let inner = kinds_split (flat_map line_words lines) (word CloseBrace ∷ []) spelled.1.1.1.1.1.1 in
-    let counted : Counted (nodes_list (stmts_of (map line_stmt lines)) 0 points.at to_exit) (weight (flat_map line_words lines)) = counted_many line_words line_stmt counted_line lines 0 points.at to_exit inner.0 in
+    let counted : Counted (nodes_list (stmts_of (map line_stmt lines)) 0 points.at (goto_of (main_of place lines)) to_exit) (weight (flat_map line_words lines)) = counted_many line_words line_stmt counted_line lines 0 points.at (goto_of g) to_exit inner.0 in
     let bytes = weight-append (flat_map line_words lines) (word CloseBrace ∷ []) in
     let short : IsShort (flat_map line_words lines) = omega (arith, bytes, fits) in
     record {
@@ -155,6 +180,8 @@ valid_program place lines spelled fits =
       };
       bodies = two (λ h. AreStmts P h no_loop h.body) f g (one_part P f _ (record { defined = (refl, refl); args = tt; temp = refl; few = omega arith }), tt)
           (valid_many P (span_at place Main) (map line_stmt lines) line_words line_stmt (valid_line P (span_at place Main) (map line_stmt lines)) lines inner.0 short);
+      labels = two (λ h. AllPairs (λ a b. a ≢ b) (labels_of h)) f g (λ i j d less below. absurd (omega (arith, below)))
+          (subst (λ ms. AllPairs (λ a b. a ≢ b) (map (λ m. m.name) ms)) (sym (no_marks lines 0 points.at to_exit)) (λ i j d less below. absurd (omega (arith, below))));
       objects = two (λ h. AllPairs AreOther (objects_of h)) f g (λ i j d less below. absurd (omega (arith, below))) (λ i j d less below. absurd (omega (arith, below)));
       types = two AreDeclared f g
           (record { params = All-nil (λ p. IsNumber p.ctype); locals = All-nil (λ v. IsSized v.ctype) })

@@ -2,100 +2,132 @@
 //!
 //! A count is taken away from what is left of its limit, and ends at once where too little is left.
 ghost use Rattle.std.specs.Prelude.{◌≡◌, ◌↔◌, ◌≤◌, ◌<◌, ◌+◌, ◌-◌, ◌^◌, map, sum_by, length, IsTrue};
-ghost use Rattle.std.specs.Option.{SomeIff};
-ghost use Rattle.csub_semantics.specs.Syntax.{part_tree, stmt_tree, function_tree};
+ghost use Rattle.std.specs.Option.{SomeIff, option_map};
+ghost use Rattle.csub_semantics.specs.Labels.{label_tree};
+ghost use Rattle.csub_semantics.specs.Syntax.{part_tree, stmt_tree, stmts_of, function_tree};
+ghost use Rattle.csub_semantics.specs.Successors.{case_values};
 ghost use Rattle.csub_semantics.specs.Flows.{points_of};
 ghost use Rattle.csub_validity.specs.Valid.{most_points, most_edges};
-ghost use Rattle.csub_core.specs.Checks.{edges_of, count, count_test, count_head, count_function};
+ghost use Rattle.csub_core.specs.Checks.{edges_of, count, count_ends, count_function, count_part, count_stages, end_count, last_count, stage_count};
 
-use csub_semantics::{Function, RPart, RStmt};
+use crate::valid::cases::case_count;
+use csub_semantics::{Function, Label, RPart, RStmt};
 
 const MOST_POINTS: usize = 10_000;
 
 const MOST_EDGES: usize = 10_000;
 
+/// What is counted of a program.
+#[derive(Clone, Copy, Debug, PartialEq, Eq)]
+pub enum Measure {
+    /// Its points.
+    Points,
+    /// Its edges, which are the ways out of points.
+    Edges,
+}
+
+impl Measure {
+    /// The count of a function's entry and exit.
+    fn of_ends(self) -> usize
+        ensures { result ≡ count_ends self }
+    {
+        match self {
+            Measure::Points => 2,
+            Measure::Edges => 1,
+        }
+    }
+
+    /// The count of a stage with so many ways out.
+    fn of_stage(self, ways: usize) -> usize
+        ensures { result ≡ stage_count self ways }
+    {
+        match self {
+            Measure::Points => 1,
+            Measure::Edges => ways,
+        }
+    }
+}
+
 /// Whether the functions have at most 10,000 points: each has an entry and an exit, and each stage is one.
 pub(crate) fn has_few_points(functions: &[Function]) -> bool
     ensures { IsTrue result ↔ (length (points_of (map function_tree functions.now)) ≤ most_points) }
 {
-    room_after_functions(functions, 2, 0, MOST_POINTS).is_some()
+    room_after_functions(functions, Measure::Points, MOST_POINTS).is_some()
 }
 
-/// Whether the functions have at most 10,000 edges: an entry and each stage have one, and a test has two.
+/// Whether the functions have at most 10,000 edges: an entry and each stage have one, but a test has two, a `switch` one
+/// for each case and one beside, and `exit` none.
 pub(crate) fn has_few_edges(functions: &[Function]) -> bool
     ensures { IsTrue result ↔ (length (edges_of (map function_tree functions.now)) ≤ most_edges) }
 {
-    room_after_functions(functions, 1, 1, MOST_EDGES).is_some()
+    room_after_functions(functions, Measure::Edges, MOST_EDGES).is_some()
 }
 
 /// What is left of `most` after the count of the functions.
-fn room_after_functions(
-    functions: &[Function],
-    ends: usize,
-    further: usize,
-    most: usize,
-) -> Option<usize>
-    ensures { SomeIff result (sum_by (λ f. count_function ends further (function_tree f)) functions.now ≤ most) (most - sum_by (λ f. count_function ends further (function_tree f)) functions.now) }
+fn room_after_functions(functions: &[Function], measure: Measure, most: usize) -> Option<usize>
+    ensures { SomeIff result (sum_by (λ f. count_function measure (function_tree f)) functions.now ≤ most) (most - sum_by (λ f. count_function measure (function_tree f)) functions.now) }
 {
     let mut room = most;
     for function in functions {
-        room = room_after_function(function, ends, further, room)?;
+        room = room_after_function(function, measure, room)?;
     }
     Some(room)
 }
 
-/// What is left of `room` after the count of a function, which has `ends` beside its body.
-fn room_after_function(
-    function: &Function,
-    ends: usize,
-    further: usize,
-    room: usize,
-) -> Option<usize>
-    ensures { SomeIff result (count_function ends further (function_tree function.now) ≤ room) (room - count_function ends further (function_tree function.now)) }
+/// What is left of `room` after the count of a function.
+fn room_after_function(function: &Function, measure: Measure, room: usize) -> Option<usize>
+    ensures { SomeIff result (count_function measure (function_tree function.now) ≤ room) (room - count_function measure (function_tree function.now)) }
 {
+    let ends = measure.of_ends();
     let inside = room.checked_sub(ends)?;
-    room_after_stmts(&function.body, further, inside)
+    room_after_stmts(&function.body, measure, inside)
 }
 
-/// What is left of `room` after the count of a statement, in which a test counts `further` more than its stages.
+/// What is left of `room` after the count of a statement.
 #[cycle(count)]
-fn room_after_stmt(stmt: &RStmt, further: usize, room: usize) -> Option<usize>
-    ensures { SomeIff result (count further (stmt_tree stmt.now) ≤ room) (room - count further (stmt_tree stmt.now)) }
+fn room_after_stmt(stmt: &RStmt, measure: Measure, room: usize) -> Option<usize>
+    ensures { SomeIff result (count measure (stmt_tree stmt.now) ≤ room) (room - count measure (stmt_tree stmt.now)) }
 {
     match stmt {
-        RStmt::Parts(parts) => room_after_parts(parts, room),
-        RStmt::Block(stmts) => room_after_stmts(stmts, further, room),
+        RStmt::Parts(parts) => room_after_parts(parts, measure, room),
+        RStmt::Block(stmts) => room_after_stmts(stmts, measure, room),
         RStmt::If(test, then, other) => {
-            let after_test = room_after_test(test, further, room)?;
-            let after_then = room_after_stmt(then, further, after_test)?;
+            let after_test = room_after_test(test, measure, room)?;
+            let after_then = room_after_stmt(then, measure, after_test)?;
             match other {
                 None => Some(after_then),
-                Some(stmt) => room_after_stmt(stmt, further, after_then),
+                Some(stmt) => room_after_stmt(stmt, measure, after_then),
             }
         }
         RStmt::While(test, body) => {
-            let after_test = room_after_test(test, further, room)?;
-            room_after_stmt(body, further, after_test)
+            let after_test = room_after_test(test, measure, room)?;
+            room_after_stmt(body, measure, after_test)
         }
         RStmt::Do(body, test) => {
-            let after_body = room_after_stmt(body, further, room)?;
-            room_after_test(test, further, after_body)
+            let after_body = room_after_stmt(body, measure, room)?;
+            room_after_test(test, measure, after_body)
         }
         RStmt::For(first, test, third, body) => {
-            let after_head = room_after_head(first, test, third, further, room)?;
-            room_after_stmt(body, further, after_head)
+            let after_head = room_after_head(first, test, third, measure, room)?;
+            room_after_stmt(body, measure, after_head)
         }
-        RStmt::Break | RStmt::Continue => Some(room),
+        RStmt::Switch(value, stmts) => {
+            let after_value = room_after_switch(value, stmts, measure, room)?;
+            room_after_stmts(stmts, measure, after_value)
+        }
+        RStmt::Goto(_, part) => room_after_stages(part, measure, 1, room),
+        RStmt::Mark(_, stmt) => room_after_stmt(stmt, measure, room),
+        RStmt::Case(_) | RStmt::Default | RStmt::Break | RStmt::Continue => Some(room),
     }
 }
 
 #[cycle(count)]
-fn room_after_stmts(stmts: &[RStmt], further: usize, room: usize) -> Option<usize>
-    ensures { SomeIff result (sum_by (λ s. count further (stmt_tree s)) stmts.now ≤ room) (room - sum_by (λ s. count further (stmt_tree s)) stmts.now) }
+fn room_after_stmts(stmts: &[RStmt], measure: Measure, room: usize) -> Option<usize>
+    ensures { SomeIff result (sum_by (λ s. count measure (stmt_tree s)) stmts.now ≤ room) (room - sum_by (λ s. count measure (stmt_tree s)) stmts.now) }
 {
     let mut rest = room;
     for stmt in stmts {
-        rest = room_after_stmt(stmt, further, rest)?;
+        rest = room_after_stmt(stmt, measure, rest)?;
     }
     Some(rest)
 }
@@ -105,34 +137,53 @@ fn room_after_head(
     first: &[RPart],
     test: &RPart,
     third: &[RPart],
-    further: usize,
+    measure: Measure,
     room: usize,
 ) -> Option<usize>
-    ensures { SomeIff result (count_head further (map part_tree first.now) (part_tree test.now) (map part_tree third.now) ≤ room) (room - count_head further (map part_tree first.now) (part_tree test.now) (map part_tree third.now)) }
+    ensures { SomeIff result (sum_by (count_part measure) (map part_tree first.now) + (count_stages measure (part_tree test.now) 2 + sum_by (count_part measure) (map part_tree third.now)) ≤ room) (room - (sum_by (count_part measure) (map part_tree first.now) + (count_stages measure (part_tree test.now) 2 + sum_by (count_part measure) (map part_tree third.now)))) }
 {
-    let after_first = room_after_parts(first, room)?;
-    let after_test = room_after_test(test, further, after_first)?;
-    room_after_parts(third, after_test)
+    let after_first = room_after_parts(first, measure, room)?;
+    let after_test = room_after_test(test, measure, after_first)?;
+    room_after_parts(third, measure, after_test)
 }
 
-fn room_after_parts(parts: &[RPart], room: usize) -> Option<usize>
-    ensures { SomeIff result (sum_by (λ p. length (part_tree p)) parts.now ≤ room) (room - sum_by (λ p. length (part_tree p)) parts.now) }
+/// What is left of `room` after the count of the expression of a `switch`, which has a way out for each case and one
+/// beside.
+fn room_after_switch(value: &RPart, stmts: &[RStmt], measure: Measure, room: usize) -> Option<usize>
+    ensures { SomeIff result (count_stages measure (part_tree value.now) (length (case_values (stmts_of (map stmt_tree stmts.now))) + 1) ≤ room) (room - count_stages measure (part_tree value.now) (length (case_values (stmts_of (map stmt_tree stmts.now))) + 1)) }
+{
+    let ways = case_count(stmts) + 1;
+    room_after_stages(value, measure, ways, room)
+}
+
+/// What is left of `room` after the count of a test.
+fn room_after_test(test: &RPart, measure: Measure, room: usize) -> Option<usize>
+    ensures { SomeIff result (count_stages measure (part_tree test.now) 2 ≤ room) (room - count_stages measure (part_tree test.now) 2) }
+{
+    room_after_stages(test, measure, 2, room)
+}
+
+/// What is left of `room` after the count of parts outside a test.
+fn room_after_parts(parts: &[RPart], measure: Measure, room: usize) -> Option<usize>
+    ensures { SomeIff result (sum_by (λ p. count_part measure (part_tree p)) parts.now ≤ room) (room - sum_by (λ p. count_part measure (part_tree p)) parts.now) }
 {
     let mut rest = room;
     for part in parts {
-        rest = rest.checked_sub(stages_of(part))?;
+        rest = room_after_stages(part, measure, last_ways(part), rest)?;
     }
     Some(rest)
 }
 
-fn room_after_test(test: &RPart, further: usize, room: usize) -> Option<usize>
-    ensures { SomeIff result (count_test further (part_tree test.now) ≤ room) (room - count_test further (part_tree test.now)) }
+/// What is left of `room` after the count of a part whose last stage has `ways` ways out; each stage before has one.
+fn room_after_stages(part: &RPart, measure: Measure, ways: usize, room: usize) -> Option<usize>
+    ensures { SomeIff result (count_stages measure (part_tree part.now) ways ≤ room) (room - count_stages measure (part_tree part.now) ways) }
 {
-    let stages = stages_of(test);
+    let stages = stages_of(part);
     if stages == 0 {
         return Some(room);
     }
-    room.checked_sub(stages)?.checked_sub(further)
+    let last = measure.of_stage(ways);
+    room.checked_sub(stages - 1)?.checked_sub(last)
 }
 
 /// How many stages a part has: its calls, and its own point where it has one.
@@ -142,5 +193,22 @@ fn stages_of(part: &RPart) -> usize
     match part.main {
         None => part.calls.len(),
         Some(_) => part.calls.len() + 1,
+    }
+}
+
+/// How many ways out the last stage of a part outside a test has.
+fn last_ways(part: &RPart) -> usize
+    ensures { result ≡ last_count (part_tree part.now) }
+{
+    own_ways(&part.main)
+}
+
+/// The same by the part's own point: an end of the run has none.
+fn own_ways(main: &Option<Label>) -> usize
+    ensures { result ≡ end_count (option_map label_tree main.now) }
+{
+    match main {
+        Some(Label::Halt(_)) => 0,
+        _ => 1,
     }
 }

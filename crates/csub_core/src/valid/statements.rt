@@ -8,8 +8,10 @@ ghost use Rattle.csub_semantics.specs.Syntax.{part_tree, stmt_tree, stmts_of, fu
 ghost use Rattle.csub_validity.specs.declared.role.Role.TheVariants.{Effect};
 ghost use Rattle.csub_validity.specs.Valid.{scope_of, declares, IsAnswer, IsInit, IsInitialised, IsLast, IsPart, AreParts, IsForHead, IsStmt, stmt_count, most_entries};
 ghost use Rattle.csub_validity.specs.Checks.{tree_of, scope_at};
-ghost use Rattle.csub_core.specs.Checks.{declared_own, IsEnd, AreTogether, IsOneStep};
+ghost use Rattle.csub_core.specs.Checks.{declared_own, IsEnd, AreTogether, IsOneStep, IsSwitch};
 
+use crate::valid::cases::{are_cases, is_case, switch_kind};
+use crate::valid::labels::{has_label, is_jump};
 use csub_objects::is_number;
 use csub_semantics::{Answer, CType, Function, Label, Owner, RInit, RPart, RStmt};
 use csub_validity::calls::{are_calls, is_call};
@@ -22,41 +24,39 @@ const MOST_ENTRIES: usize = 1_048_576;
 
 /// Whether a statement of `function` is valid in the program.
 #[cycle(stmts)]
-pub(crate) fn is_stmt(
-    program: Definitions<'_>,
-    function: &Function,
-    targets: Targets,
-    stmt: &RStmt,
-) -> bool
+fn is_stmt(program: Definitions<'_>, function: &Function, targets: Targets, stmt: &RStmt) -> bool
     ensures { IsTrue result ↔ IsStmt (tree_of program.entry) (function_tree function.now) targets (stmt_tree stmt.now) }
 {
+    let inner = targets.further_in();
     match stmt {
         RStmt::Parts(parts) => are_parts(program, function, Role::Whole, parts),
-        RStmt::Block(stmts) => {
-            has_few_stmts(stmts) && are_stmts(program, function, targets, stmts)
-        }
+        RStmt::Block(stmts) => has_few_stmts(stmts) && are_stmts(program, function, inner, stmts),
         RStmt::If(test, then, other) => {
             is_part(program, function, Role::Test, test)
-                && is_stmt(program, function, targets, then)
+                && is_stmt(program, function, inner, then)
                 && match other {
                     None => true,
-                    Some(stmt) => is_stmt(program, function, targets, stmt),
+                    Some(stmt) => is_stmt(program, function, inner, stmt),
                 }
         }
-        RStmt::While(test, body) => {
+        RStmt::While(test, body) | RStmt::Do(body, test) => {
             is_part(program, function, Role::Test, test)
                 && is_stmt(program, function, Targets::LOOP, body)
-        }
-        RStmt::Do(body, test) => {
-            is_stmt(program, function, Targets::LOOP, body)
-                && is_part(program, function, Role::Test, test)
         }
         RStmt::For(first, test, third, body) => {
             is_for_head(program, function, first, test, third)
                 && is_stmt(program, function, Targets::LOOP, body)
         }
+        RStmt::Switch(value, stmts) => {
+            let lines = targets.in_switch(switch_kind(value));
+            is_switch(program, function, value, stmts) && are_stmts(program, function, lines, stmts)
+        }
+        RStmt::Case(value) => is_case(targets.of_case, *value),
+        RStmt::Default => targets.of_case.is_some(),
         RStmt::Break => targets.of_break,
         RStmt::Continue => targets.of_continue,
+        RStmt::Goto(name, part) => is_jump(part) && has_label(function, name),
+        RStmt::Mark(_, stmt) => is_stmt(program, function, inner, stmt),
     }
 }
 
@@ -83,6 +83,13 @@ pub(crate) fn has_few_stmts(stmts: &[RStmt]) -> bool
     ensures { IsTrue result ↔ (stmt_count (stmts_of (map stmt_tree stmts.now)) ≤ most_entries) }
 {
     stmts.len() <= MOST_ENTRIES
+}
+
+/// Whether the expression of a `switch` is valid, and its lines are cases that differ.
+fn is_switch(program: Definitions<'_>, function: &Function, value: &RPart, stmts: &[RStmt]) -> bool
+    ensures { IsTrue result ↔ IsSwitch (tree_of program.entry) (function_tree function.now) (part_tree value.now) (stmts_of (map stmt_tree stmts.now)) }
+{
+    is_part(program, function, Role::Switch, value) && are_cases(stmts)
 }
 
 /// Whether the parts of a `for` before its body are valid.
@@ -214,7 +221,7 @@ fn is_end(program: Definitions<'_>, function: &Function, role: Role, part: &RPar
         }
         None => match role {
             Role::Whole | Role::Effect => calls > 0,
-            Role::Test => false,
+            Role::Test | Role::Switch => false,
         },
     }
 }
@@ -229,10 +236,16 @@ fn is_last(role: Role, site: Site<'_>, label: &Label) -> bool
             Label::Eval(expr) => is_expr(site, expr),
             Label::Init(owner, ctype, init) => is_initialised(site, owner, ctype, init),
             Label::Return(answer) => is_answer(site, answer),
+            Label::Halt(expr) => is_expr(site, expr),
             Label::Entry | Label::Exit(_) | Label::Branch(_) => false,
+            Label::Switch(_) | Label::Goto => false,
         },
         Role::Test => match label {
             Label::Branch(expr) => is_expr(site, expr),
+            _ => false,
+        },
+        Role::Switch => match label {
+            Label::Switch(expr) => is_expr(site, expr),
             _ => false,
         },
         Role::Effect => match label {

@@ -5,8 +5,8 @@ use Rattle.csub_validity.specs.Checks.{tree_of}
 use Rattle.csub_core.proofs.ValidStmts.{AreStmts-All}
 use Rattle.csub_core.proofs.valid.is_function.Goals as goal
 
-pub returns-then-has_objects : goal.returns-then-has_objects
-returns-then-has_objects c =
+pub returns-then-has_labels : goal.returns-then-has_labels
+returns-then-has_labels c =
     let body = AreStmts-All (tree_of c.args.program) (function_tree c.args.function.now) no_loop c.args.function.now.body.items in
     let checked = rw c.deref.ensures.value at c.are_stmts.ensures in
-    (λ h. (c.if-has_objects.ensures.0 refl, body.1 (checked.0 h)), λ h. checked.1 (body.0 h.1))
+    (λ h. (c.if-has_labels.ensures.0 refl, body.1 (checked.0 h)), λ h. checked.1 (body.0 h.1))

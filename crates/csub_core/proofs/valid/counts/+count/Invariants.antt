@@ -5,4 +5,4 @@ use Rattle.csub_core.proofs.valid.counts.+count.Given as goal
 
 abbrev pub invariant-room_after_stmts-loop-stmt : goal.invariant-room_after_stmts-loop-stmt
 invariant-room_after_stmts-loop-stmt l =
-    l.rest + sum_by (λ s. count l.further (stmt_tree s)) (take l.stmt-index l.stmts) ≡ l.room
+    l.rest + sum_by (λ s. count l.measure (stmt_tree s)) (take l.stmt-index l.stmts) ≡ l.room

@@ -1,11 +1,11 @@
 use Rattle.std.proofs.Common.{◌≡◌, ◌-◌, ◌≤◌}
-use Rattle.csub_core.proofs.ValidCounts.{count_list-sum_by}
-use Rattle.csub_core.proofs.ValidCounts.{SomeIff-after}
+use Rattle.csub_core.specs.Checks.{count_ends}
+use Rattle.csub_core.proofs.ValidCounts.{count_list-sum_by, SomeIff-after}
 use Rattle.csub_core.proofs.valid.counts.room_after_function.Goals as goal
 
 pub returns : goal.returns
 returns c =
-    let enough : c.args.ends ≤ c.args.room = c.in_ok-inside.ensures.0 in
-    let inside : c.in_ok-inside.inside ≡ c.args.room - c.args.ends = c.in_ok-inside.ensures.1 in
-    rw (count_list-sum_by c.args.further c.args.function.now.body.items)
+    let enough : count_ends c.args.measure ≤ c.args.room = rw c.of_ends-ends.ensures at c.in_ok-inside.ensures.0 in
+    let inside : c.in_ok-inside.inside ≡ c.args.room - count_ends c.args.measure = rw c.of_ends-ends.ensures at c.in_ok-inside.ensures.1 in
+    rw (count_list-sum_by c.args.measure c.args.function.now.body.items)
     (SomeIff-after _ _ _ _ _ enough inside (rw c.deref.ensures.value at c.room_after_stmts.ensures))

@@ -5,4 +5,4 @@ use Rattle.csub_core.proofs.valid.counts.room_after_functions.Given as goal
 
 abbrev pub invariant-loop-function : goal.invariant-loop-function
 invariant-loop-function l =
-    l.room + sum_by (λ f. count_function l.ends l.further (function_tree f)) (take l.function-index l.functions) ≡ l.most
+    l.room + sum_by (λ f. count_function l.measure (function_tree f)) (take l.function-index l.functions) ≡ l.most

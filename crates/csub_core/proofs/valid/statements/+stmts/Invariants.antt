@@ -1,4 +1,4 @@
-use Rattle.std.proofs.Common.{ℕ, ◌<◌, map, get_or}
+use Rattle.std.proofs.Common.{ℕ, ◌<◌, get_or}
 use Rattle.csub_semantics.specs.declared.function.RStmt.{RStmt}
 use Rattle.csub_semantics.specs.Syntax.{stmt_tree, function_tree}
 use Rattle.csub_validity.specs.Valid.{IsStmt}

@@ -1,4 +1,3 @@
-use Rattle.std.proofs.Common.{map}
 use Rattle.csub_semantics.specs.Syntax.{function_tree}
 use Rattle.csub_validity.specs.Checks.{tree_of}
 use Rattle.csub_core.proofs.ValidStmts.{effects_of_map}

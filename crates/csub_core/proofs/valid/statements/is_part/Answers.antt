@@ -1,4 +1,3 @@
-use Rattle.std.proofs.Common.{map}
 use Rattle.std.specs.Option.{option_map}
 use Rattle.csub_semantics.specs.Labels.{label_tree}
 use Rattle.csub_semantics.specs.Syntax.{part_tree, function_tree}
