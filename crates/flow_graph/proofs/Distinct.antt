@@ -2,11 +2,12 @@
 use Rattle.std.proofs.Common.{◌≡◌, ℕ, zero, suc, ◌+◌, ◌<◌, List, [], ◌∷◌, ◌++◌, length, map, refl, ap, sym, ◌∙◌, arith, add_assoc, add-zero, zero-add}
 use Rattle.std.specs.List.{range_with_len}
 use Rattle.std.proofs.lemmas.List.{map-append}
-use Rattle.csub_semantics.specs.Points.{PointTree, entry, exit, at}
-use Rattle.csub_semantics.specs.Syntax.{PartTree, StmtTree, StmtTrees, ElseTree, parts, block, conditional, while_loop, do_loop, for_loop, breaks, continues, no_stmt, more_stmts, no_else, else_stmt, FunctionTree}
+use Rattle.csub_semantics.specs.Points.{PointTree, entry, exit, at, next}
+use Rattle.csub_objects.specs.Types.{Name}
+use Rattle.csub_semantics.specs.Syntax.{PartTree, StmtTree, StmtTrees, ElseTree, parts, block, conditional, while_loop, do_loop, for_loop, switch_on, case_label, default_label, breaks, continues, goes_to, marked, no_stmt, more_stmts, no_else, else_stmt, FunctionTree}
 use Rattle.csub_semantics.specs.Successors as points
 use Rattle.csub_semantics.specs.Successors.{Way, Node, Around}
-use Rattle.csub_semantics.specs.Flows.{function_nodes, to_exit}
+use Rattle.csub_semantics.specs.Flows.{function_nodes, to_exit, goto_of}
 use Rattle.flow_graph.specs.Numbers.{count, count_list, count_else, count_parts, count_head, count_function}
 use Rattle.flow_graph.proofs.LawsLists.{range-plus}
 
@@ -30,8 +31,15 @@ abbrev mutual
   place (do_loop s p) (j ∷ q) i k = place s q i k
   place (for_loop first p third s) [] i k = place_parts (first ++ p ∷ third) i k
   place (for_loop first p third s) (j ∷ q) i k = count_head first p third + place s q i k
+  place (switch_on p stmts) [] i k = k
+  place (switch_on p stmts) (j ∷ q) i k = length p + place_list stmts j q i k
+  place (case_label v) q i k = 0
+  place default_label q i k = 0
   place breaks q i k = 0
   place continues q i k = 0
+  place (goes_to n p) q i k = k
+  place (marked n s) [] i k = 0
+  place (marked n s) (j ∷ q) i k = place s q i k
 
   pub place_list : StmtTrees → ℕ → List ℕ → ℕ → ℕ → ℕ
   place_list no_stmt j q i k = 0
@@ -102,46 +110,46 @@ module _ (number : PointTree → ℕ) where
       risen (points.part_nodes p 0 (λ k. name [] i k) ways) (points.parts_nodes rest (i + 1) name a) first (length p) (count_parts rest) p_places (parts_places rest (i + 1) name a (first + length p) later)
 
   mutual
-    pub places : (s : StmtTree) (name : List ℕ → ℕ → ℕ → PointTree) (a : Around PointTree) (first : ℕ) → ((q : List ℕ) (i k : ℕ) → number (name q i k) ≡ first + place s q i k) → numbers (points.nodes s name a) ≡ range_with_len first (count s)
-    places (parts ps) name a first h = parts_places ps 0 name a first (λ j k l. ap (λ n. number (name [] n k)) (zero-add j) ∙ h [] j k)
-    places (block stmts) name a first h = list_places stmts 0 name a first (λ j q i k. ap (λ n. number (name (n ∷ q) i k)) (zero-add j) ∙ h (j ∷ q) i k)
-    places (conditional p t e) name a first h =
+    pub places : (s : StmtTree) (name : List ℕ → ℕ → ℕ → PointTree) (jump : Name → PointTree) (a : Around PointTree) (first : ℕ) → ((q : List ℕ) (i k : ℕ) → number (name q i k) ≡ first + place s q i k) → numbers (points.nodes s name jump a) ≡ range_with_len first (count s)
+    places (parts ps) name jump a first h = parts_places ps 0 name a first (λ j k l. ap (λ n. number (name [] n k)) (zero-add j) ∙ h [] j k)
+    places (block stmts) name jump a first h = list_places stmts 0 name jump a first (λ j q i k. ap (λ n. number (name (n ∷ q) i k)) (zero-add j) ∙ h (j ∷ q) i k)
+    places (conditional p t e) name jump a first h =
         let ways = points.test_ways (points.enter t (λ q. name (0 ∷ q)) a) (points.enter_else e (λ q. name (1 ∷ q)) a) in
         let p_places = part_places p 0 (λ k. name [] 0 k) ways first (λ k. h [] 0 k) ∙ ap (λ n. range_with_len n (length p)) (add-zero first) in
         let in_then = λ (q : List ℕ) (i k : ℕ). h (0 ∷ q) i k ∙ sym (add_assoc first (length p) (place t q i k)) in
         let in_else = λ (q : List ℕ) (i k : ℕ). h (1 ∷ q) i k ∙ three first (length p) (count t) (place_else e q i k) in
-        let t_places = places t (λ q. name (0 ∷ q)) a (first + length p) in_then in
-        let e_places = else_places e (λ q. name (1 ∷ q)) a (first + length p + count t) in_else in
-        let then = points.nodes t (λ q. name (0 ∷ q)) a in
-        let other = points.nodes_else e (λ q. name (1 ∷ q)) a in
+        let t_places = places t (λ q. name (0 ∷ q)) jump a (first + length p) in_then in
+        let e_places = else_places e (λ q. name (1 ∷ q)) jump a (first + length p + count t) in_else in
+        let then = points.nodes t (λ q. name (0 ∷ q)) jump a in
+        let other = points.nodes_else e (λ q. name (1 ∷ q)) jump a in
         risen (points.part_nodes p 0 (λ k. name [] 0 k) ways) (then ++ other) first (length p) (count t + count_else e) p_places (risen then other (first + length p) (count t) (count_else e) t_places e_places)
         ∙ ap (range_with_len first) (sym (add_assoc (length p) (count t) (count_else e)))
-    places (while_loop p s) name a first h =
-        let inside = points.looping (points.enter_part p 0 name a.leave) a in
+    places (while_loop p s) name jump a first h =
+        let inside = points.in_while p name a in
         let ways = points.test_ways (points.enter s (λ q. name (0 ∷ q)) inside) a.leave in
         let p_places = part_places p 0 (λ k. name [] 0 k) ways first (λ k. h [] 0 k) ∙ ap (λ n. range_with_len n (length p)) (add-zero first) in
         let in_body = λ (q : List ℕ) (i k : ℕ). h (0 ∷ q) i k ∙ sym (add_assoc first (length p) (place s q i k)) in
-        risen (points.part_nodes p 0 (λ k. name [] 0 k) ways) (points.nodes s (λ q. name (0 ∷ q)) inside) first (length p) (count s) p_places
-        (places s (λ q. name (0 ∷ q)) inside (first + length p) in_body)
-    places (do_loop s p) name a first h =
-        let inside = points.looping (points.enter_part p 0 name a.leave) a in
+        risen (points.part_nodes p 0 (λ k. name [] 0 k) ways) (points.nodes s (λ q. name (0 ∷ q)) jump inside) first (length p) (count s) p_places
+        (places s (λ q. name (0 ∷ q)) jump inside (first + length p) in_body)
+    places (do_loop s p) name jump a first h =
+        let inside = points.in_while p name a in
         let ways = points.test_ways (points.enter s (λ q. name (0 ∷ q)) inside) a.leave in
         let here = λ (k : ℕ). h [] 0 k ∙ sym (add_assoc first (count s) k) in
         let p_places = part_places p 0 (λ k. name [] 0 k) ways (first + count s) here ∙ ap (λ n. range_with_len n (length p)) (add-zero (first + count s)) in
-        risen (points.nodes s (λ q. name (0 ∷ q)) inside) (points.part_nodes p 0 (λ k. name [] 0 k) ways) first (count s) (length p)
-        (places s (λ q. name (0 ∷ q)) inside first (λ q i k. h (0 ∷ q) i k)) p_places
-    places (for_loop begin p third s) name a first h =
+        risen (points.nodes s (λ q. name (0 ∷ q)) jump inside) (points.part_nodes p 0 (λ k. name [] 0 k) ways) first (count s) (length p)
+        (places s (λ q. name (0 ∷ q)) jump inside first (λ q i k. h (0 ∷ q) i k)) p_places
+    places (for_loop begin p third s) name jump a first h =
         let m = length begin in
         let at_test = first + count_parts begin in
         let at_third = at_test + length p in
         let at_body = at_third + count_parts third in
         let back = points.enter_part p m name a.leave in
-        let inside = points.looping (points.enter_parts third (m + 1) name back) a in
+        let inside = points.in_for begin p third name a in
         let ways = points.test_ways (points.enter s (λ q. name (0 ∷ q)) inside) a.leave in
         let init = points.parts_nodes begin 0 name (points.leaving back a) in
         let test = points.part_nodes p 0 (λ k. name [] m k) ways in
         let step = points.parts_nodes third (m + 1) name (points.leaving back a) in
-        let body = points.nodes s (λ q. name (0 ∷ q)) inside in
+        let body = points.nodes s (λ q. name (0 ∷ q)) jump inside in
         let in_init = λ (j k : ℕ) (l : j < length begin). ap (λ n. number (name [] n k)) (zero-add j) ∙ h [] j k ∙ ap (λ n. first + n) (place_before begin (p ∷ third) j k l) in
         let in_test = λ (k : ℕ). h [] m k ∙ ap (λ n. first + n) (place_behind begin (p ∷ third) m 0 k (omega arith)) ∙ sym (add_assoc first (count_parts begin) k) in
         let in_step = λ (j k : ℕ) (l : j < length third). h [] (m + 1 + j) k ∙ ap (λ n. first + n) (place_behind begin (p ∷ third) (m + 1 + j) (suc j) k (omega arith)) ∙ four_from first (count_parts begin) (length p) (place_parts third j k) in
@@ -149,32 +157,44 @@ module _ (number : PointTree → ℕ) where
         let i_places = parts_places begin 0 name (points.leaving back a) first in_init in
         let p_places = part_places p 0 (λ k. name [] m k) ways at_test in_test ∙ ap (λ n. range_with_len n (length p)) (add-zero at_test) in
         let t_places = parts_places third (m + 1) name (points.leaving back a) at_third in_step in
-        let b_places = places s (λ q. name (0 ∷ q)) inside at_body in_body in
+        let b_places = places s (λ q. name (0 ∷ q)) jump inside at_body in_body in
         risen init (test ++ (step ++ body)) first (count_parts begin) (length p + (count_parts third + count s)) i_places
         (risen test (step ++ body) at_test (length p) (count_parts third + count s) p_places
         (risen step body at_third (count_parts third) (count s) t_places b_places))
         ∙ ap (range_with_len first) (four_from (count_parts begin) (length p) (count_parts third) (count s))
-    places breaks name a first h = refl
-    places continues name a first h = refl
+    places (switch_on p stmts) name jump a first h =
+        let inside = points.switching a in
+        let ways = points.switch_ways stmts name inside in
+        let p_places = part_places p 0 (λ k. name [] 0 k) ways first (λ k. h [] 0 k) ∙ ap (λ n. range_with_len n (length p)) (add-zero first) in
+        let in_lines = λ (j : ℕ) (q : List ℕ) (i k : ℕ). ap (λ n. number (name (n ∷ q) i k)) (zero-add j) ∙ h (j ∷ q) i k ∙ sym (add_assoc first (length p) (place_list stmts j q i k)) in
+        risen (points.part_nodes p 0 (λ k. name [] 0 k) ways) (points.nodes_list stmts 0 name jump inside) first (length p) (count_list stmts) p_places
+        (list_places stmts 0 name jump inside (first + length p) in_lines)
+    places (case_label v) name jump a first h = refl
+    places default_label name jump a first h = refl
+    places breaks name jump a first h = refl
+    places continues name jump a first h = refl
+    places (goes_to n p) name jump a first h =
+        part_places p 0 (λ k. name [] 0 k) (points.way next (jump n) ∷ []) first (λ k. h [] 0 k) ∙ ap (λ m. range_with_len m (length p)) (add-zero first)
+    places (marked n s) name jump a first h = places s (λ q. name (0 ∷ q)) jump a first (λ q i k. h (0 ∷ q) i k)
 
-    pub list_places : (ss : StmtTrees) (i : ℕ) (name : List ℕ → ℕ → ℕ → PointTree) (a : Around PointTree) (first : ℕ) → ((j : ℕ) (q : List ℕ) (n k : ℕ) → number (name ((i + j) ∷ q) n k) ≡ first + place_list ss j q n k) → numbers (points.nodes_list ss i name a) ≡ range_with_len first (count_list ss)
-    list_places no_stmt i name a first h = refl
-    list_places (more_stmts s rest) i name a first h =
+    pub list_places : (ss : StmtTrees) (i : ℕ) (name : List ℕ → ℕ → ℕ → PointTree) (jump : Name → PointTree) (a : Around PointTree) (first : ℕ) → ((j : ℕ) (q : List ℕ) (n k : ℕ) → number (name ((i + j) ∷ q) n k) ≡ first + place_list ss j q n k) → numbers (points.nodes_list ss i name jump a) ≡ range_with_len first (count_list ss)
+    list_places no_stmt i name jump a first h = refl
+    list_places (more_stmts s rest) i name jump a first h =
         let past = points.leaving (points.enter_list rest (i + 1) name a) a in
         let here = λ (q : List ℕ) (n k : ℕ). ap (λ j. number (name (j ∷ q) n k)) (sym (add-zero i)) ∙ h 0 q n k in
         let later = λ (j : ℕ) (q : List ℕ) (n k : ℕ). ap (λ m. number (name (m ∷ q) n k)) (one_later i j) ∙ h (suc j) q n k ∙ sym (add_assoc first (count s) (place_list rest j q n k)) in
-        risen (points.nodes s (λ q. name (i ∷ q)) past) (points.nodes_list rest (i + 1) name a) first (count s) (count_list rest) (places s (λ q. name (i ∷ q)) past first here) (list_places rest (i + 1) name a (first + count s) later)
+        risen (points.nodes s (λ q. name (i ∷ q)) jump past) (points.nodes_list rest (i + 1) name jump a) first (count s) (count_list rest) (places s (λ q. name (i ∷ q)) jump past first here) (list_places rest (i + 1) name jump a (first + count s) later)
 
-    pub else_places : (e : ElseTree) (name : List ℕ → ℕ → ℕ → PointTree) (a : Around PointTree) (first : ℕ) → ((q : List ℕ) (i k : ℕ) → number (name q i k) ≡ first + place_else e q i k) → numbers (points.nodes_else e name a) ≡ range_with_len first (count_else e)
-    else_places no_else name a first h = refl
-    else_places (else_stmt s) name a first h = places s name a first h
+    pub else_places : (e : ElseTree) (name : List ℕ → ℕ → ℕ → PointTree) (jump : Name → PointTree) (a : Around PointTree) (first : ℕ) → ((q : List ℕ) (i k : ℕ) → number (name q i k) ≡ first + place_else e q i k) → numbers (points.nodes_else e name jump a) ≡ range_with_len first (count_else e)
+    else_places no_else name jump a first h = refl
+    else_places (else_stmt s) name jump a first h = places s name jump a first h
 
 pub function_places : (f : FunctionTree) → numbers (number_of f.body) (function_nodes f) ≡ range_with_len 0 (count_function f)
 function_places f =
     let number = number_of f.body in
-    let inner = points.nodes_list f.body 0 at to_exit in
+    let inner = points.nodes_list f.body 0 at (goto_of f) to_exit in
     let named = λ (j : ℕ) (q : List ℕ) (n k : ℕ). ap (λ m. number (at (m ∷ q) n k)) (zero-add j) in
-    let body = list_places number f.body 0 at to_exit 1 named in
+    let body = list_places number f.body 0 at (goto_of f) to_exit 1 named in
     let sum : suc (count_list f.body + 1) ≡ count_function f = omega arith in
     ap (λ l. 0 ∷ l) (map-append (λ n. number n.point) inner _ ∙ ap (λ l. l ++ (1 + count_list f.body) ∷ []) body ∙ sym (range-plus 1 (count_list f.body) 1))
     ∙ ap (range_with_len 0) sum

@@ -3,13 +3,14 @@ use Rattle.std.proofs.Common.{◌≡◌, List, [], ◌∷◌, ◌++◌, ◌∙�
 use Rattle.std.specs.Option.{option_map}
 use Rattle.std.proofs.lemmas.List.{reverse-append}
 use Rattle.csub_text.specs.declared.span.Span.{Span}
+use Rattle.csub_objects.specs.Types.{Name}
 use Rattle.csub_semantics.specs.declared.function.RPart.{RPart}
 use Rattle.csub_semantics.specs.declared.function.RCall.{RCall}
-use Rattle.csub_semantics.specs.Labels.{LabelTree, returns, label_tree}
+use Rattle.csub_semantics.specs.Labels.{LabelTree, label_tree}
 use Rattle.csub_semantics.specs.Points.{at, next}
 use Rattle.csub_semantics.specs.Syntax.{Stage, PartTree, StmtTree, for_loop, part_tree, call_stage, own_stage}
 use Rattle.csub_semantics.specs.Successors.{Way, Around, way, looping, own_ways, last_ways}
-use Rattle.flow_graph.specs.Numbers.{Numbered, count_parts, count_head, enter, enter_part, enter_parts, part_numbered, parts_numbered, head_numbered, numbered, past_label}
+use Rattle.flow_graph.specs.Numbers.{Numbered, count_parts, count_head, enter, enter_part, enter_parts, part_numbered, parts_numbered, head_numbered, numbered, in_for, main_ways}
 use Rattle.flow_graph.proofs.Rows.{parts_from, parts_from-back}
 
 -- a part by the stages before its last and the last
@@ -49,10 +50,6 @@ last_call : (c : RCall) (cs : List RCall) (past returned : ℕ) → last_ways (m
 last_call c [] past returned = refl
 last_call c (d ∷ cs) past returned = last_call d cs past returned
 
-own_way : (label : LabelTree) (past returned : ℕ) → own_ways label past returned ≡ way next (past_label (Some label) past returned) ∷ []
-own_way (returns a) past returned = refl
-own_way _ past returned = refl
-
 nothing_after : (cs : List RCall) → map call_stage cs ++ [] ≡ map call_stage cs
 nothing_after [] = refl
 nothing_after (c ∷ cs) = ap (λ l. call_stage c ∷ l) (nothing_after cs)
@@ -61,15 +58,15 @@ calls_ways : (cs : List RCall) (first : ℕ) (path : List ℕ) (i past returned 
 calls_ways [] first path i past returned = refl
 calls_ways (c ∷ cs) first path i past returned = ap (λ w. part_numbered (map call_stage (c ∷ cs)) 0 first path i w) (sym (last_call c cs past returned))
 
-stages_ways : (cs : List RCall) (span : Span) (main : Option LabelTree) (first : ℕ) (path : List ℕ) (i past returned : ℕ) → let p = map call_stage cs ++ own_stage span main in part_numbered p 0 first path i (way next (past_label main past returned) ∷ []) ≡ part_numbered p 0 first path i (last_ways p past returned)
+stages_ways : (cs : List RCall) (span : Span) (main : Option LabelTree) (first : ℕ) (path : List ℕ) (i past returned : ℕ) → let p = map call_stage cs ++ own_stage span main in part_numbered p 0 first path i (main_ways main past returned) ≡ part_numbered p 0 first path i (last_ways p past returned)
 stages_ways cs span None first path i past returned =
     subst (λ p. part_numbered p 0 first path i (way next past ∷ []) ≡ part_numbered p 0 first path i (last_ways p past returned)) (sym (nothing_after cs)) (calls_ways cs first path i past returned)
 stages_ways cs span (Some label) first path i past returned =
     let s : Stage = record { label = label; span = span } in
-    ap (λ w. part_numbered (map call_stage cs ++ s ∷ []) 0 first path i w) (sym (last_own (map call_stage cs) s past returned ∙ own_way label past returned))
+    ap (λ w. part_numbered (map call_stage cs ++ s ∷ []) 0 first path i w) (sym (last_own (map call_stage cs) s past returned))
 
 -- the points of a part that is no test
-pub part_ways : (p : RPart) (first : ℕ) (path : List ℕ) (i past returned : ℕ) → part_numbered (part_tree p) 0 first path i (way next (past_label (option_map label_tree p.main) past returned) ∷ []) ≡ part_numbered (part_tree p) 0 first path i (last_ways (part_tree p) past returned)
+pub part_ways : (p : RPart) (first : ℕ) (path : List ℕ) (i past returned : ℕ) → part_numbered (part_tree p) 0 first path i (main_ways (option_map label_tree p.main) past returned) ≡ part_numbered (part_tree p) 0 first path i (last_ways (part_tree p) past returned)
 part_ways p first path i past returned = stages_ways p.calls.items p.span (option_map label_tree p.main) first path i past returned
 
 -- the parts from a place on, by those from the next place on
@@ -78,7 +75,7 @@ pub record PartsFrom (ps : List RPart) (from j i : ℕ) (x : RPart) (first onwar
   pub begins : enter_part (part_tree x) first begin ≡ enter_parts (map part_tree (drop j ps)) first a.leave
   pub points : new ≡ old ++ reverse (parts_numbered (map part_tree (drop j ps)) (from + j) first path a)
 
-pub parts_emitted : (ps : List RPart) (from j i : ℕ) (x : RPart) (first onward : ℕ) (path : List ℕ) (a : Around ℕ) (begin : ℕ) (old middle new : List Numbered) → j + 1 ≡ i → j < length ps → x ≡ get_or ps j x → first + length (part_tree x) ≡ onward → begin ≡ enter_parts (map part_tree (drop i ps)) onward a.leave → middle ≡ old ++ reverse (parts_numbered (map part_tree (drop i ps)) (from + i) onward path a) → new ≡ middle ++ reverse (part_numbered (part_tree x) 0 first path (from + j) (way next (past_label (option_map label_tree x.main) begin a.returned) ∷ [])) → PartsFrom ps from j i x first onward path a begin old middle new
+pub parts_emitted : (ps : List RPart) (from j i : ℕ) (x : RPart) (first onward : ℕ) (path : List ℕ) (a : Around ℕ) (begin : ℕ) (old middle new : List Numbered) → j + 1 ≡ i → j < length ps → x ≡ get_or ps j x → first + length (part_tree x) ≡ onward → begin ≡ enter_parts (map part_tree (drop i ps)) onward a.leave → middle ≡ old ++ reverse (parts_numbered (map part_tree (drop i ps)) (from + i) onward path a) → new ≡ middle ++ reverse (part_numbered (part_tree x) 0 first path (from + j) (main_ways (option_map label_tree x.main) begin a.returned)) → PartsFrom ps from j i x first onward path a begin old middle new
 parts_emitted ps from j i x first onward path a begin old middle new next_is below is at_end begins points emitted =
     let p = part_tree x in
     let rest = map part_tree (drop i ps) in
@@ -103,11 +100,11 @@ call_count [] = refl
 call_count (c ∷ cs) = ap suc (call_count cs)
 
 -- the points of what stands before the body of a `for`, in front of those of its body
-pub for_emitted : (begin : List PartTree) (p : PartTree) (third : List PartTree) (s : StmtTree) (first : ℕ) (path : List ℕ) (a inside : Around ℕ) (body at_body onward : ℕ) (old middle new : List Numbered) → first + count_head begin p third ≡ at_body → inside ≡ looping onward a → onward ≡ enter_parts third (first + count_parts begin + length p) (enter_part p (first + count_parts begin) a.leave) → body ≡ enter s at_body inside → middle ≡ old ++ reverse (numbered s at_body (path ++ 0 ∷ []) inside) → new ≡ middle ++ reverse (head_numbered begin p third first path body a) → new ≡ old ++ reverse (numbered (for_loop begin p third s) first path a)
-for_emitted begin p third s first path a inside body at_body onward old middle new at_end is_inside is_onward begins points emitted =
+pub for_emitted : (begin : List PartTree) (p : PartTree) (third : List PartTree) (s : StmtTree) (first : ℕ) (path : List ℕ) (jump : Name → ℕ) (a inside : Around ℕ) (body at_body onward : ℕ) (old middle new : List Numbered) → first + count_head begin p third ≡ at_body → inside ≡ looping onward a → onward ≡ enter_parts third (first + count_parts begin + length p) (enter_part p (first + count_parts begin) a.leave) → body ≡ enter s at_body inside → middle ≡ old ++ reverse (numbered s at_body (path ++ 0 ∷ []) jump inside) → new ≡ middle ++ reverse (head_numbered begin p third first path body a) → new ≡ old ++ reverse (numbered (for_loop begin p third s) first path jump a)
+for_emitted begin p third s first path jump a inside body at_body onward old middle new at_end is_inside is_onward begins points emitted =
     let head = λ (b : ℕ). head_numbered begin p third first path b a in
-    let within = looping (enter_parts third (first + count_parts begin + length p) (enter_part p (first + count_parts begin) a.leave)) a in
-    two_appended (head body) (numbered s at_body (path ++ 0 ∷ []) inside) old middle new points emitted
-    ∙ ap (λ b. old ++ reverse (head b ++ numbered s at_body (path ++ 0 ∷ []) inside)) begins
-    ∙ ap (λ i. old ++ reverse (head (enter s at_body i) ++ numbered s at_body (path ++ 0 ∷ []) i)) (is_inside ∙ ap (λ n. looping n a) is_onward)
-    ∙ ap (λ k. old ++ reverse (head (enter s k within) ++ numbered s k (path ++ 0 ∷ []) within)) (sym at_end)
+    let within = in_for begin p third first a in
+    two_appended (head body) (numbered s at_body (path ++ 0 ∷ []) jump inside) old middle new points emitted
+    ∙ ap (λ b. old ++ reverse (head b ++ numbered s at_body (path ++ 0 ∷ []) jump inside)) begins
+    ∙ ap (λ i. old ++ reverse (head (enter s at_body i) ++ numbered s at_body (path ++ 0 ∷ []) jump i)) (is_inside ∙ ap (λ n. looping n a) is_onward)
+    ∙ ap (λ k. old ++ reverse (head (enter s k within) ++ numbered s k (path ++ 0 ∷ []) jump within)) (sym at_end)

@@ -4,6 +4,7 @@ pub mod LawsThreads
 mod Rows
 mod Emitted
 mod Lengths
+mod Table
 mod Listed
 mod Numbering
 mod Distinct

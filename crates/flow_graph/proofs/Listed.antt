@@ -2,10 +2,15 @@
 use Rattle.std.proofs.Common.{◌≡◌, List, [], ◌∷◌, ◌++◌, ◌∙◌, reverse, arith, map, refl, ap, sym, ℕ, ◌+◌, ◌<◌, ◌≤◌, length, get_or, drop, add-one, drop-cons, append_assoc}
 use Rattle.std.proofs.Math.ListN.{drop_of_length-le}
 use Rattle.std.proofs.lemmas.List.{length-append, length-map, map-append, reverse-append, reverse-reverse}
+use Rattle.csub_objects.specs.Types.{Name}
 use Rattle.csub_semantics.specs.declared.function.Function.{Function}
-use Rattle.csub_semantics.specs.Syntax.{function_tree, FunctionTree}
+use Rattle.csub_semantics.specs.Labels.{enters, exits}
+use Rattle.csub_semantics.specs.Points.{entry, exit, next}
+use Rattle.csub_semantics.specs.Syntax.{function_tree, FunctionTree, StmtTrees}
+use Rattle.csub_semantics.specs.Successors.{Around, way}
+use Rattle.csub_semantics.specs.Flows.{end_rule}
 use Rattle.flow_graph.specs.declared.node.GraphNode.{GraphNode}
-use Rattle.flow_graph.specs.Numbers.{Numbered, numbered_node, NumberedPoint, NumberedFunction, of_function, count_function, count_program, exit_number, function_numbered, program_numbered, functions_numbered}
+use Rattle.flow_graph.specs.Numbers.{Numbered, numbered_node, NumberedPoint, NumberedFunction, of_function, count_function, count_program, exit_number, enter_list, list_numbered, jump_of, by_exit, function_numbered, program_numbered, functions_numbered}
 use Rattle.flow_graph.proofs.Lengths.{function_numbered-length}
 
 pub map-reverse : {A B : Type 0} (f : A → B) (xs : List A) → map f (reverse xs) ≡ reverse (map f xs)
@@ -14,12 +19,35 @@ map-reverse f (x ∷ xs) =
     ap (map f) (reverse-append (x ∷ []) xs) ∙ map-append f (reverse xs) (x ∷ []) ∙ ap (λ l. l ++ f x ∷ []) (map-reverse f xs) ∙ sym (reverse-append (f x ∷ []) (map f xs))
 
 -- an exit, a body and an entry that are appended last first
-pub turned_round : (entry exit : Numbered) (body : List Numbered) (nodes : List GraphNode) → map numbered_node nodes ≡ ((exit ∷ []) ++ reverse body) ++ entry ∷ [] → map numbered_node (reverse nodes) ≡ (entry ∷ body) ++ exit ∷ []
-turned_round entry exit body nodes h =
+pub turned_round : (first last : Numbered) (body : List Numbered) (nodes : List GraphNode) → map numbered_node nodes ≡ ((last ∷ []) ++ reverse body) ++ first ∷ [] → map numbered_node (reverse nodes) ≡ (first ∷ body) ++ last ∷ []
+turned_round first last body nodes h =
     map-reverse numbered_node nodes
     ∙ ap reverse h
-    ∙ reverse-append ((exit ∷ []) ++ reverse body) (entry ∷ [])
-    ∙ ap (λ l. entry ∷ l) (reverse-append (exit ∷ []) (reverse body) ∙ ap (λ l. l ++ exit ∷ []) (reverse-reverse body))
+    ∙ reverse-append ((last ∷ []) ++ reverse body) (first ∷ [])
+    ∙ ap (λ l. first ∷ l) (reverse-append (last ∷ []) (reverse body) ∙ ap (λ l. l ++ last ∷ []) (reverse-reverse body))
+
+abbrev pub entry_node : FunctionTree → ℕ → Numbered
+entry_node f enter = record { point = entry; label = enters; span = f.span; ways = way next enter ∷ [] }
+
+abbrev pub exit_node : FunctionTree → Numbered
+exit_node f = record { point = exit; label = exits (end_rule f.name f.result); span = f.span; ways = [] }
+
+-- the points of a function whose body begins behind its entry
+pub function_made : (f : FunctionTree) (body : StmtTrees) (start first enter : ℕ) (path : List ℕ) (jump : Name → ℕ) (a : Around ℕ) (nodes : List GraphNode) (old middle : List Numbered) → body ≡ f.body → first ≡ start + 1 → path ≡ [] → jump ≡ jump_of f start → a ≡ by_exit f start → old ≡ exit_node f ∷ [] → enter ≡ enter_list body first a → middle ≡ old ++ reverse (list_numbered body 0 first path jump a) → map numbered_node nodes ≡ middle ++ entry_node f enter ∷ [] → map numbered_node (reverse nodes) ≡ function_numbered f start
+function_made f body start first enter path jump a nodes old middle is_body is_first is_path is_jump is_around ended begins emitted pushed =
+    let lines = λ (b : StmtTrees) (n : ℕ) (p : List ℕ) (j : Name → ℕ) (x : Around ℕ). (exit_node f ∷ []) ++ reverse (list_numbered b 0 n p j x) in
+    let beginning =
+    begins ∙ ap (λ b. enter_list b first a) is_body ∙ ap (λ n. enter_list f.body n a) is_first ∙ ap (enter_list f.body (start + 1)) is_around in
+    let inner =
+    emitted
+    ∙ ap (λ l. l ++ reverse (list_numbered body 0 first path jump a)) ended
+    ∙ ap (λ b. lines b first path jump a) is_body
+    ∙ ap (λ n. lines f.body n path jump a) is_first
+    ∙ ap (λ p. lines f.body (start + 1) p jump a) is_path
+    ∙ ap (λ j. lines f.body (start + 1) [] j a) is_jump
+    ∙ ap (lines f.body (start + 1) [] (jump_of f start)) is_around in
+    turned_round (entry_node f (enter_list f.body (start + 1) (by_exit f start))) (exit_node f) (list_numbered f.body 0 (start + 1) [] (jump_of f start) (by_exit f start)) nodes
+    (pushed ∙ ap (λ l. l ++ entry_node f enter ∷ []) inner ∙ ap (λ n. lines f.body (start + 1) [] (jump_of f start) (by_exit f start) ++ entry_node f n ∷ []) beginning)
 
 -- how many points the nodes of a function are
 pub nodes_made : (nodes : List GraphNode) (f : _) (start : ℕ) → map numbered_node nodes ≡ function_numbered f start → length nodes ≡ count_function f

@@ -15,6 +15,13 @@ pub struct Begin {
     pub enter: u32,
 }
 
+/// Where a statement without points begins, if control goes from it to `enter`.
+pub fn ends(end: u32, enter: u32) -> Begin
+    ensures { (result.first ≡ end) × (result.enter ≡ enter) }
+{
+    Begin { first: end, enter }
+}
+
 /// Where the part begins behind whose last point the number is `end`, and past which control goes to `past`.
 pub fn part_begin(part: &RPart, end: u32, past: u32) -> Begin
     requires { length (part_tree part.now) ≤ end }

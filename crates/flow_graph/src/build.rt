@@ -9,8 +9,10 @@ ghost use Rattle.csub_semantics.specs.Syntax.{function_tree};
 ghost use Rattle.flow_graph.specs.Numbers.{numbered_node, numbered_point, numbered_function, of_function, count_function, count_program, function_numbered, program_numbered, functions_numbered};
 
 use crate::count::count_all;
-use crate::emit::{Onward, emit_list};
+use crate::emit::emit_list;
+use crate::jumps::jumps_of;
 use crate::node::{GraphFunction, GraphNode, GraphPoint, one_way};
+use crate::onward::all_to;
 use csub_semantics::{
     EndRule, Function, GlobalVar, IntKind, Label, Point, Span, Text, copy_global,
 };
@@ -85,15 +87,19 @@ fn list_function(
 {
     let body = function.body.as_slice();
     let exit = start + 1 + count_all(body);
+    let jumps = jumps_of(alloc, body, exit)?;
     let mut nodes = exit_alone(alloc, function)?;
-    let onward = Onward {
-        leave: exit,
-        returned: exit,
-        broken: exit,
-        continued: exit,
-    };
+    let onward = all_to(exit);
     let path = Vec::new(alloc);
-    let begin = emit_list(alloc, body, path.as_slice(), exit, onward, &mut nodes)?;
+    let begin = emit_list(
+        alloc,
+        body,
+        path.as_slice(),
+        exit,
+        &jumps,
+        onward,
+        &mut nodes,
+    )?;
     push_entry(alloc, function.span, begin.enter, &mut nodes)?;
     nodes.reverse();
     Ok(nodes)

@@ -54,7 +54,10 @@ pub fn count_of(stmt: &RStmt) -> u32
             let head = count_parts_of(first.as_slice()) + count_part(test);
             head + count_parts_of(third.as_slice()) + count_of(body)
         }
-        RStmt::Break | RStmt::Continue => 0,
+        RStmt::Switch(value, stmts) => count_part(value) + count_all(stmts.as_slice()),
+        RStmt::Goto(_, part) => count_part(part),
+        RStmt::Mark(_, stmt) => count_of(stmt),
+        RStmt::Case(_) | RStmt::Default | RStmt::Break | RStmt::Continue => 0,
     }
 }
 

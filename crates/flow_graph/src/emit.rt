@@ -2,46 +2,24 @@
 ghost use Rattle.std.specs.Prelude.{◌≡◌, ◌≤◌, ◌+◌, ◌++◌, IfOk, [], ◌∷◌, map, reverse, length};
 ghost use Rattle.std.specs.Option.{option_map};
 ghost use Rattle.csub_semantics.specs.Labels.{label_tree};
-ghost use Rattle.csub_semantics.specs.Syntax.{call_stage, part_tree, do_loop, for_loop, stmt_tree, stmts_of};
-ghost use Rattle.csub_semantics.specs.Successors.{looping};
-ghost use Rattle.flow_graph.specs.Numbers.{numbered_way, numbered_node, around, count, count_parts, count_head, count_list, enter, enter_part, enter_parts, enter_head, enter_list, past_label, part_numbered, parts_numbered, head_numbered, numbered, list_numbered};
+ghost use Rattle.csub_semantics.specs.Syntax.{call_stage, part_tree, do_loop, for_loop, switch_on, stmt_tree, stmts_of};
+ghost use Rattle.flow_graph.specs.Jumps.{jump_by};
+ghost use Rattle.flow_graph.specs.Numbers.{numbered_way, numbered_node, around, count, count_parts, count_head, count_list, enter, enter_part, enter_parts, enter_head, enter_list, case_ways, default_to, main_ways as main_ways', part_numbered, parts_numbered, head_numbered, numbered, list_numbered};
 
-use crate::begin::{Begin, begin_again, part_begin};
+use crate::begin::{Begin, begin_again, ends, part_begin};
+use crate::cases::{Cases, gather, switch_ways};
 use crate::count::count_of;
+use crate::jumps::{Jumps, jump};
 use crate::node::{GraphNode, GraphWay, inner_path, one_way, point_at, step, test_ways};
+use crate::onward::{Onward, looping, switching};
 use csub_semantics::{Label, RCall, RPart, RStmt, copy_call, copy_label};
 use std::alloc::{AllocError, Global};
 
-/// Where control goes from a statement: past its end, at a return, and in a loop at a `break` and at a `continue`.
-#[derive(Clone, Copy, Debug, PartialEq, Eq)]
-pub struct Onward {
-    /// The point past the end.
-    pub leave: u32,
-    /// The function's exit.
-    pub returned: u32,
-    /// The point past the loop.
-    pub broken: u32,
-    /// What comes next in the loop.
-    pub continued: u32,
-}
-
-/// What stands round the body of a loop, in which `next` comes next.
-fn inside(onward: Onward, next: u32) -> Onward
-    ensures { around result ≡ looping next (around onward) }
-{
-    Onward {
-        leave: next,
-        returned: onward.returned,
-        broken: onward.leave,
-        continued: next,
-    }
-}
-
-/// Where a statement without points begins, if control goes from it to `enter`.
-fn ends(end: u32, enter: u32) -> Begin
-    ensures { (result.first ≡ end) × (result.enter ≡ enter) }
-{
-    Begin { first: end, enter }
+/// The lines of a list: where they begin, and where they lead as those of a `switch`.
+#[derive(Drop)]
+struct Lines {
+    begin: Begin,
+    cases: Cases,
 }
 
 /// Appends the calls of a part, last first; the number behind the last is `end`, and its ways out are `ways`.
@@ -127,13 +105,20 @@ fn emit_part(
     Ok(Begin { first, enter })
 }
 
-/// Where the own point of a part leads that is no test: a return to the function's exit, any other past the part.
-fn past_part(part: &RPart, past: u32, returned: u32) -> u32
-    ensures { result ≡ past_label (option_map label_tree part.now.main) past returned }
+/// The ways out of the last stage of a part that is no test: a return leads to the function's exit, an end of the run
+/// nowhere, and any other past the part.
+fn main_ways(
+    alloc: Global,
+    part: &RPart,
+    past: u32,
+    returned: u32,
+) -> Result<Vec<GraphWay>, AllocError>
+    ensures { IfOk result (λ made. map numbered_way made.items ≡ main_ways' (option_map label_tree part.now.main) past returned) }
 {
     match &part.main {
-        Some(Label::Return(_)) => returned,
-        _ => past,
+        Some(Label::Return(_)) => one_way(alloc, returned),
+        Some(Label::Halt(_)) => Ok(Vec::new(alloc)),
+        _ => one_way(alloc, past),
     }
 }
 
@@ -156,7 +141,7 @@ fn emit_parts(
     let mut enter = onward.leave;
     for i in (0..parts.len()).rev() {
         let part = &parts[i];
-        let ways = one_way(alloc, past_part(part, enter, onward.returned))?;
+        let ways = main_ways(alloc, part, enter, onward.returned)?;
         let index = step(from as usize + i)?;
         let begin = emit_part(alloc, part, path, index, first, ways, enter, out)?;
         first = begin.first;
@@ -202,34 +187,66 @@ fn emit(
     stmt: &RStmt,
     path: &[u32],
     end: u32,
+    jumps: &Jumps,
     onward: Onward,
     out: &mut Vec<GraphNode>,
 ) -> Result<Begin, AllocError>
     requires { count (stmt_tree stmt.now) ≤ end }
     ensures first { IfOk result (λ begin. begin.first + count (stmt_tree stmt.now) ≡ end) }
     ensures enter { IfOk result (λ begin. begin.enter ≡ enter (stmt_tree stmt.now) begin.first (around onward)) }
-    ensures nodes { IfOk result (λ begin. map numbered_node out.new.items ≡ map numbered_node out.old.items ++ reverse (numbered (stmt_tree stmt.now) begin.first path.now (around onward))) }
+    ensures nodes { IfOk result (λ begin. map numbered_node out.new.items ≡ map numbered_node out.old.items ++ reverse (numbered (stmt_tree stmt.now) begin.first path.now (jump_by jumps.now) (around onward))) }
 {
     match stmt {
         RStmt::Parts(parts) => emit_parts(alloc, parts.as_slice(), path, 0, end, onward, out),
-        RStmt::Block(stmts) => emit_list(alloc, stmts.as_slice(), path, end, onward, out),
+        RStmt::Block(stmts) => emit_list(alloc, stmts.as_slice(), path, end, jumps, onward, out),
         RStmt::If(test, then, other) => {
             let on_false = match other {
                 None => ends(end, onward.leave),
-                Some(stmt) => emit_inner(alloc, stmt, path, 1, end, onward, out)?,
+                Some(stmt) => emit_inner(alloc, stmt, path, 1, end, jumps, onward, out)?,
             };
-            let on_true = emit_inner(alloc, then, path, 0, on_false.first, onward, out)?;
+            let on_true = emit_inner(alloc, then, path, 0, on_false.first, jumps, onward, out)?;
             let ways = test_ways(alloc, on_true.enter, on_false.enter)?;
             emit_part(alloc, test, path, 0, on_true.first, ways, onward.leave, out)
         }
-        RStmt::While(test, body) => emit_for(alloc, &[], test, &[], body, path, end, onward, out),
-        RStmt::Do(body, test) => emit_do(alloc, body, test, path, end, onward, out),
+        RStmt::While(test, body) => emit_for(
+            alloc,
+            &[],
+            test,
+            &[],
+            body,
+            path,
+            end,
+            jumps,
+            onward,
+            out,
+        ),
+        RStmt::Do(body, test) => emit_do(alloc, body, test, path, end, jumps, onward, out),
         RStmt::For(first, test, third, body) => {
             let (first, third) = (first.as_slice(), third.as_slice());
-            emit_for(alloc, first, test, third, body, path, end, onward, out)
+            emit_for(
+                alloc, first, test, third, body, path, end, jumps, onward, out,
+            )
         }
+        RStmt::Switch(value, stmts) => {
+            emit_switch(
+                alloc,
+                value,
+                stmts.as_slice(),
+                path,
+                end,
+                jumps,
+                onward,
+                out,
+            )
+        }
+        RStmt::Case(_) | RStmt::Default => Ok(ends(end, onward.leave)),
         RStmt::Break => Ok(ends(end, onward.broken)),
         RStmt::Continue => Ok(ends(end, onward.continued)),
+        RStmt::Goto(name, part) => {
+            let ways = one_way(alloc, jump(jumps, name))?;
+            emit_part(alloc, part, path, 0, end, ways, onward.leave, out)
+        }
+        RStmt::Mark(_, stmt) => emit_inner(alloc, stmt, path, 0, end, jumps, onward, out),
     }
 }
 
@@ -241,16 +258,17 @@ fn emit_inner(
     path: &[u32],
     step: u32,
     end: u32,
+    jumps: &Jumps,
     onward: Onward,
     out: &mut Vec<GraphNode>,
 ) -> Result<Begin, AllocError>
     requires { count (stmt_tree stmt.now) ≤ end }
     ensures first { IfOk result (λ begin. begin.first + count (stmt_tree stmt.now) ≡ end) }
     ensures enter { IfOk result (λ begin. begin.enter ≡ enter (stmt_tree stmt.now) begin.first (around onward)) }
-    ensures nodes { IfOk result (λ begin. map numbered_node out.new.items ≡ map numbered_node out.old.items ++ reverse (numbered (stmt_tree stmt.now) begin.first (path.now ++ step ∷ []) (around onward))) }
+    ensures nodes { IfOk result (λ begin. map numbered_node out.new.items ≡ map numbered_node out.old.items ++ reverse (numbered (stmt_tree stmt.now) begin.first (path.now ++ step ∷ []) (jump_by jumps.now) (around onward))) }
 {
     let inner = inner_path(alloc, path, step)?;
-    let begin = emit(alloc, stmt, inner.as_slice(), end, onward, out)?;
+    let begin = emit(alloc, stmt, inner.as_slice(), end, jumps, onward, out)?;
     Ok(begin)
 }
 
@@ -266,17 +284,18 @@ fn emit_for(
     body: &RStmt,
     path: &[u32],
     end: u32,
+    jumps: &Jumps,
     onward: Onward,
     out: &mut Vec<GraphNode>,
 ) -> Result<Begin, AllocError>
     requires { count (for_loop (map part_tree first.now) (part_tree test.now) (map part_tree third.now) (stmt_tree body.now)) ≤ end }
     ensures first { IfOk result (λ begin. begin.first + count (for_loop (map part_tree first.now) (part_tree test.now) (map part_tree third.now) (stmt_tree body.now)) ≡ end) }
     ensures enter { IfOk result (λ begin. begin.enter ≡ enter (for_loop (map part_tree first.now) (part_tree test.now) (map part_tree third.now) (stmt_tree body.now)) begin.first (around onward)) }
-    ensures nodes { IfOk result (λ begin. map numbered_node out.new.items ≡ map numbered_node out.old.items ++ reverse (numbered (for_loop (map part_tree first.now) (part_tree test.now) (map part_tree third.now) (stmt_tree body.now)) begin.first path.now (around onward))) }
+    ensures nodes { IfOk result (λ begin. map numbered_node out.new.items ≡ map numbered_node out.old.items ++ reverse (numbered (for_loop (map part_tree first.now) (part_tree test.now) (map part_tree third.now) (stmt_tree body.now)) begin.first path.now (jump_by jumps.now) (around onward))) }
 {
     let again = begin_again(test, third, end - count_of(body), onward.leave);
-    let within = inside(onward, again.third.enter);
-    let begun = emit_inner(alloc, body, path, 0, end, within, out)?;
+    let within = looping(onward, again.third.enter);
+    let begun = emit_inner(alloc, body, path, 0, end, jumps, within, out)?;
     let begin = emit_head(alloc, first, test, third, path, begun, onward, out)?;
     Ok(begin)
 }
@@ -291,22 +310,55 @@ fn emit_do(
     test: &RPart,
     path: &[u32],
     end: u32,
+    jumps: &Jumps,
     onward: Onward,
     out: &mut Vec<GraphNode>,
 ) -> Result<Begin, AllocError>
     requires { count (do_loop (stmt_tree body.now) (part_tree test.now)) ≤ end }
     ensures first { IfOk result (λ begin. begin.first + count (do_loop (stmt_tree body.now) (part_tree test.now)) ≡ end) }
     ensures enter { IfOk result (λ begin. begin.enter ≡ enter (do_loop (stmt_tree body.now) (part_tree test.now)) begin.first (around onward)) }
-    ensures nodes { IfOk result (λ begin. map numbered_node out.new.items ≡ map numbered_node out.old.items ++ reverse (numbered (do_loop (stmt_tree body.now) (part_tree test.now)) begin.first path.now (around onward))) }
+    ensures nodes { IfOk result (λ begin. map numbered_node out.new.items ≡ map numbered_node out.old.items ++ reverse (numbered (do_loop (stmt_tree body.now) (part_tree test.now)) begin.first path.now (jump_by jumps.now) (around onward))) }
 {
     let tested = part_begin(test, end, onward.leave);
-    let within = inside(onward, tested.enter);
+    let within = looping(onward, tested.enter);
     let mut nodes = Vec::new(alloc);
-    let begun = emit_inner(alloc, body, path, 0, tested.first, within, &mut nodes)?;
+    let begun = emit_inner(
+        alloc,
+        body,
+        path,
+        0,
+        tested.first,
+        jumps,
+        within,
+        &mut nodes,
+    )?;
     let ways = test_ways(alloc, begun.enter, onward.leave)?;
     emit_part(alloc, test, path, 0, end, ways, onward.leave, out)?;
     out.append(&mut nodes)?;
     Ok(begun)
+}
+
+/// Appends the points of a `switch`.
+#[cycle(emit)]
+fn emit_switch(
+    alloc: Global,
+    value: &RPart,
+    stmts: &[RStmt],
+    path: &[u32],
+    end: u32,
+    jumps: &Jumps,
+    onward: Onward,
+    out: &mut Vec<GraphNode>,
+) -> Result<Begin, AllocError>
+    requires { count (switch_on (part_tree value.now) (stmts_of (map stmt_tree stmts.now))) ≤ end }
+    ensures first { IfOk result (λ begin. begin.first + count (switch_on (part_tree value.now) (stmts_of (map stmt_tree stmts.now))) ≡ end) }
+    ensures enter { IfOk result (λ begin. begin.enter ≡ enter (switch_on (part_tree value.now) (stmts_of (map stmt_tree stmts.now))) begin.first (around onward)) }
+    ensures nodes { IfOk result (λ begin. map numbered_node out.new.items ≡ map numbered_node out.old.items ++ reverse (numbered (switch_on (part_tree value.now) (stmts_of (map stmt_tree stmts.now))) begin.first path.now (jump_by jumps.now) (around onward))) }
+{
+    let within = switching(onward);
+    let Lines { begin, cases } = emit_lines(alloc, stmts, path, end, jumps, within, out)?;
+    let ways = switch_ways(alloc, stmts, cases)?;
+    emit_part(alloc, value, path, 0, begin.first, ways, onward.leave, out)
 }
 
 /// Appends the points of the lines of the list at `path`, last first; the number behind its last point is `end`.
@@ -316,25 +368,54 @@ pub fn emit_list(
     stmts: &[RStmt],
     path: &[u32],
     end: u32,
+    jumps: &Jumps,
     onward: Onward,
     out: &mut Vec<GraphNode>,
 ) -> Result<Begin, AllocError>
     requires { count_list (stmts_of (map stmt_tree stmts.now)) ≤ end }
     ensures first { IfOk result (λ begin. begin.first + count_list (stmts_of (map stmt_tree stmts.now)) ≡ end) }
     ensures enter { IfOk result (λ begin. begin.enter ≡ enter_list (stmts_of (map stmt_tree stmts.now)) begin.first (around onward)) }
-    ensures nodes { IfOk result (λ begin. map numbered_node out.new.items ≡ map numbered_node out.old.items ++ reverse (list_numbered (stmts_of (map stmt_tree stmts.now)) 0 begin.first path.now (around onward))) }
+    ensures nodes { IfOk result (λ begin. map numbered_node out.new.items ≡ map numbered_node out.old.items ++ reverse (list_numbered (stmts_of (map stmt_tree stmts.now)) 0 begin.first path.now (jump_by jumps.now) (around onward))) }
+{
+    let lines = emit_lines(alloc, stmts, path, end, jumps, onward, out)?;
+    Ok(lines.begin)
+}
+
+/// Appends the points of the lines of a list as [`emit_list`] does, and gathers where they lead as those of a `switch`.
+#[cycle(emit)]
+fn emit_lines(
+    alloc: Global,
+    stmts: &[RStmt],
+    path: &[u32],
+    end: u32,
+    jumps: &Jumps,
+    onward: Onward,
+    out: &mut Vec<GraphNode>,
+) -> Result<Lines, AllocError>
+    requires { count_list (stmts_of (map stmt_tree stmts.now)) ≤ end }
+    ensures first { IfOk result (λ lines. lines.begin.first + count_list (stmts_of (map stmt_tree stmts.now)) ≡ end) }
+    ensures enter { IfOk result (λ lines. lines.begin.enter ≡ enter_list (stmts_of (map stmt_tree stmts.now)) lines.begin.first (around onward)) }
+    ensures ways { IfOk result (λ lines. map numbered_way lines.cases.ways.items ≡ reverse (case_ways (stmts_of (map stmt_tree stmts.now)) lines.begin.first (around onward))) }
+    ensures other { IfOk result (λ lines. lines.cases.other ≡ default_to (stmts_of (map stmt_tree stmts.now)) lines.begin.first (around onward)) }
+    ensures nodes { IfOk result (λ lines. map numbered_node out.new.items ≡ map numbered_node out.old.items ++ reverse (list_numbered (stmts_of (map stmt_tree stmts.now)) 0 lines.begin.first path.now (jump_by jumps.now) (around onward))) }
 {
     let mut first = end;
     let mut enter = onward.leave;
+    let mut cases = Cases {
+        ways: Vec::new(alloc),
+        other: onward.leave,
+    };
     for i in (0..stmts.len()).rev() {
         let stmt = &stmts[i];
+        gather(stmt, enter, &mut cases)?;
         let past = Onward {
             leave: enter,
             ..onward
         };
-        let begin = emit_inner(alloc, stmt, path, step(i)?, first, past, out)?;
+        let begin = emit_inner(alloc, stmt, path, step(i)?, first, jumps, past, out)?;
         first = begin.first;
         enter = begin.enter;
     }
-    Ok(Begin { first, enter })
+    let begin = Begin { first, enter };
+    Ok(Lines { begin, cases })
 }

@@ -11,11 +11,15 @@
 
 mod begin;
 mod build;
+mod cases;
 mod count;
 mod edges;
 mod emit;
 mod graph;
+mod jumps;
+mod marks;
 mod node;
+mod onward;
 mod search;
 
 pub use graph::{EdgeEnds, Graph};

@@ -10,13 +10,15 @@ use Rattle.csub_text.specs.declared.operator.BinOp.{BinOp}
 use Rattle.csub_text.specs.declared.operator.BinOp.TheVariants.{Mul, Div, Rem, Add, Sub, Shl, Shr, Lt, Gt, Le, Ge, Eq, Ne, BitAnd, BitXor, BitOr}
 use Rattle.csub_types.specs.declared.kind.IntKind.{IntKind}
 use Rattle.csub_types.specs.declared.kind.IntKind.TheVariants.{Char, Int, Unsigned}
+use Rattle.csub_semantics.specs.declared.expression.Piece.{Piece}
+use Rattle.csub_semantics.specs.declared.expression.Piece.TheVariants.{Byte, Signed, Plain, Letter}
 use Rattle.csub_semantics.specs.declared.label.EndRule.{EndRule}
 use Rattle.csub_semantics.specs.declared.label.EndRule.TheVariants.{Nothing, Value, Main, Start}
 use Rattle.csub_objects.specs.Types.{Name, TypeTree, type_eq, MemberTree}
 use Rattle.csub_objects.proofs.LawsTypes.{type_eq-Decides}
 use Rattle.csub_semantics.specs.Types.{GlobalTree}
-use Rattle.csub_semantics.specs.Trees.{NamedPlace, NamedExpr, NamedArg, variable, element_place, member_place, constant, reading, unary_operation, conversion, stepping, operation, conjunction, disjunction, choice, assignment, update, input_byte, output_byte, value_argument, OwnerTree, global_owner, local_owner, Variable, object, temporary}
-use Rattle.csub_semantics.specs.Labels.{LabelTree, enters, exits, evaluates, initialises, branches, returns, calls, AnswerTree, CallTree, InitTree, one_value, PointLabel}
+use Rattle.csub_semantics.specs.Trees.{NamedPlace, NamedExpr, NamedArg, variable, element_place, member_place, constant, reading, unary_operation, conversion, stepping, operation, conjunction, disjunction, choice, assignment, update, input_byte, output_byte, formatted, NamedExprs, no_expr, more_exprs, value_argument, OwnerTree, global_owner, local_owner, Variable, object, temporary}
+use Rattle.csub_semantics.specs.Labels.{LabelTree, enters, exits, evaluates, initialises, branches, switches, returns, jumps, halts, calls, AnswerTree, CallTree, InitTree, one_value, PointLabel}
 use Rattle.program_laws.specs.Decided.{Decided}
 
 -- what is built of one part, two or more is equal where all the parts are
@@ -139,6 +141,16 @@ operators BitXor _ = inr (λ e. cc)
 operators BitOr BitOr = inl refl
 operators BitOr _ = inr (λ e. cc)
 
+pieces : (a b : Piece) → Decided a b
+pieces (Byte m) (Byte n) = one Byte m n (λ e. cc) (cases_eq m n)
+pieces (Byte m) _ = inr (λ e. cc)
+pieces Signed Signed = inl refl
+pieces Signed _ = inr (λ e. cc)
+pieces Plain Plain = inl refl
+pieces Plain _ = inr (λ e. cc)
+pieces Letter Letter = inl refl
+pieces Letter _ = inr (λ e. cc)
+
 types : (a b : TypeTree) → Decided a b
 types a b = by_test (type_eq a b) refl
   where
@@ -194,6 +206,14 @@ mutual
   exprs input_byte _ = inr (λ e. cc)
   exprs (output_byte a) (output_byte b) = one output_byte a b (λ e. cc) (exprs a b)
   exprs (output_byte a) _ = inr (λ e. cc)
+  exprs (formatted ps es) (formatted qs us) = two formatted ps qs es us (λ e. (cc, cc)) (lists pieces ps qs) (expr_rows es us)
+  exprs (formatted ps es) _ = inr (λ e. cc)
+
+  expr_rows : (es us : NamedExprs) → Decided es us
+  expr_rows no_expr no_expr = inl refl
+  expr_rows no_expr _ = inr (λ e. cc)
+  expr_rows (more_exprs a es) (more_exprs b us) = two more_exprs a b es us (λ e. (cc, cc)) (exprs a b) (expr_rows es us)
+  expr_rows (more_exprs a es) _ = inr (λ e. cc)
 
 arguments : (a b : NamedArg) → Decided a b
 arguments (value_argument a) (value_argument b) = one value_argument a b (λ e. cc) (exprs a b)
@@ -229,8 +249,14 @@ labels_alike (initialises o t a) (initialises p u b) = three initialises o p t u
 labels_alike (initialises o t a) _ = inr (λ e. cc)
 labels_alike (branches a) (branches b) = one branches a b (λ e. cc) (exprs a b)
 labels_alike (branches a) _ = inr (λ e. cc)
+labels_alike (switches a) (switches b) = one switches a b (λ e. cc) (exprs a b)
+labels_alike (switches a) _ = inr (λ e. cc)
 labels_alike (returns a) (returns b) = one returns a b (λ e. cc) (options answers a b)
 labels_alike (returns a) _ = inr (λ e. cc)
+labels_alike jumps jumps = inl refl
+labels_alike jumps _ = inr (λ e. cc)
+labels_alike (halts a) (halts b) = one halts a b (λ e. cc) (exprs a b)
+labels_alike (halts a) _ = inr (λ e. cc)
 labels_alike (calls c) (calls d) = one calls c d (λ e. cc) (call_trees c d)
 labels_alike (calls c) _ = inr (λ e. cc)
 

@@ -1,5 +1,5 @@
 -- A valid program has what lockstep asks of it.
-use Rattle.std.proofs.Common.{◌≡◌, ◌⊎◌, inl, inr, List, [], ◌∷◌, Option, Some, None, IsTrue, option_map, All, refl, sym, ap, ◌∙◌, subst}
+use Rattle.std.proofs.Common.{◌≡◌, ◌⊎◌, inl, inr, ℤ, List, [], ◌∷◌, true, Option, Some, None, IsTrue, option_map, All, refl, sym, ap, ◌∙◌, subst}
 use Rattle.std.specs.List.{list_any}
 use Rattle.std.specs.Ordering.{int_eq}
 use Rattle.std.proofs.lemmas.List.Elements.{All-nil, All-cons}
@@ -11,13 +11,16 @@ use Rattle.csub_semantics.specs.Labels.{exits, CallTree, call_of, PointLabel}
 use Rattle.csub_semantics.specs.Syntax.{FunctionTree, ProgramTree}
 use Rattle.csub_semantics.specs.Points.{PointTree, entry, exit, ExitTree, on_case, on_default}
 use Rattle.csub_semantics.specs.Successors.{Way, Node}
-use Rattle.csub_semantics.specs.Flows.{start_name, function_nodes, function_of, node_in, node_of, way_in, way_of, labelled, flow_of}
+use Rattle.csub_semantics.specs.Flows.{start_name, function_nodes, function_of, node_in, node_of, way_in, way_of, cases_of, labelled, flow_of}
 use Rattle.csub_validity.specs.Valid.{IsValid}
 use Rattle.program_laws.specs.Flows.{entry_label, IsFlow}
+use Rattle.program_laws.specs.Numbered.{EdgesHaveNumbers}
+use Rattle.program_laws.proofs.Numbered.{edges_have_numbers}
 use Rattle.program_laws.proofs.LawsNames.{same_name}
 use Rattle.program_laws.proofs.Lists.{passes_found}
-use Rattle.program_laws.proofs.LawsStanding.{IsPoint, Stands, label_at, succ_at, cases_at, point_is, node_is, entry_is, callee_defined, start_defined}
-use Rattle.program_laws.proofs.LawsWays.{AreCases, call_goes_on, exit_ends, are_cases}
+use Rattle.program_laws.proofs.LawsStanding.{IsPoint, Stands, label_at, succ_at, cases_at, goes_on, point_is, node_is, entry_is, callee_defined, start_defined}
+use Rattle.program_laws.proofs.LawsWays.{AreCases, call_goes_on, exit_ends, leads_by_case, are_cases}
+use Rattle.program_laws.proofs.LawsSwitches.{has}
 
 -- a global is the one of its name among these
 abbrev IsNamed : List GlobalTree → GlobalTree → Type 0
@@ -96,6 +99,16 @@ module _ (P : ProgramTree) (valid : IsValid P) where
   cased_at : (g : Name) (p : PointTree) (s : Stands P g p) → AreCases s.node.ways
   cased_at g p s = are_cases P s.function (IsPoint (function_nodes s.function)) s.node.point s.node.label s.node.ways (node_is P g p valid s)
 
+  -- each case value of a switch has its way out
+  pub case_leads : (g : Name) (p : PointTree) (v : ℤ) → has v ((flow_of P).cases g p) ≡ true → (q : PointTree) × ((flow_of P).succ g p (on_case v) ≡ Some q)
+  case_leads g p v e = pick (stands_or_not P g p)
+    where
+      pick : Stands P g p ⊎ (node_of (function_of P g) p ≡ None) → (q : PointTree) × ((flow_of P).succ g p (on_case v) ≡ Some q)
+      pick (inl s) =
+          let leads = leads_by_case P s.function (IsPoint (function_nodes s.function)) s.node.point s.node.label s.node.ways (node_is P g p valid s) v (ap (has v) (sym (cases_at P g p s)) ∙ e) in
+          (leads.0.to, goes_on P g p s (on_case v) leads)
+      pick (inr n) = let none : has v [] ≡ true = ap (λ o. has v (cases_of o)) (sym n) ∙ e in absurd cc
+
   -- a valid program has what lockstep asks of it
   pub is_flow : IsFlow (flow_of P)
   is_flow = record {
@@ -106,3 +119,7 @@ module _ (P : ProgramTree) (valid : IsValid P) where
     defaulted = λ g p q vs e. let h = leaving_at P g p (on_default vs) q e in (cased_at g p h.stands).defaulted vs h.along h.is ∙ sym (cases_at P g p h.stands);
     named = λ g p l e. let h = labelled_at P g p l e in subst (λ (m : PointLabel). All (IsNamed P.globals) m.globals) h.is (named_are P.globals (ordered [] (label_names h.stands.node.label)));
   }
+
+-- each way out along which a point leads on is an edge with a number
+pub edges_numbered : (P : ProgramTree) → EdgesHaveNumbers P
+edges_numbered P = edges_have_numbers P

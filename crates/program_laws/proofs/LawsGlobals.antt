@@ -1,5 +1,5 @@
 -- A label has each global that its tree names, where the program declares it; and equal declarations.
-use Rattle.std.proofs.Common.{◌≡◌, ◌⊎◌, inl, inr, List, [], ◌∷◌, ◌++◌, Bool, true, false, ◌||◌, Option, Some, None, IsTrue, refl, ap, ap₂, sym, subst, ◌∙◌}
+use Rattle.std.proofs.Common.{◌≡◌, ◌⊎◌, inl, inr, List, [], ◌∷◌, ◌++◌, Bool, true, false, ◌||◌, Option, Some, None, IsTrue, refl, ap, sym, subst, ◌∙◌}
 use Rattle.std.specs.List.{list_any, flat_map}
 use Rattle.std.specs.declared.cmp.Ordering.{Ordering}
 use Rattle.std.specs.declared.cmp.Ordering.TheVariants.{Less, Equal, Greater}
@@ -12,7 +12,6 @@ use Rattle.csub_objects.proofs.LawsTypes.{type_eq-Decides}
 use Rattle.csub_semantics.specs.Types.{name_eq, GlobalTree}
 use Rattle.csub_semantics.specs.Labels.{LabelTree}
 use Rattle.csub_semantics.specs.Globals.{ordered, global_of, found_first, globals_of, label_names, named_globals}
-use Rattle.program_laws.proofs.LawsNames.{same_name, name_itself}
 use Rattle.program_laws.proofs.Lists.{passes_found}
 
 -- a stands among names

@@ -7,14 +7,14 @@ use Rattle.csub_types.specs.declared.kind.IntKind.TheVariants.{Int}
 use Rattle.csub_semantics.specs.declared.status.Status.{Status}
 use Rattle.csub_semantics.specs.declared.status.Status.TheVariants.{Exit, Trap}
 use Rattle.csub_objects.specs.Types.{Name}
-use Rattle.csub_semantics.specs.Trees.{reading, assignment, variable, object, temporary}
-use Rattle.csub_semantics.specs.Labels.{LabelTree, enters, exits, evaluates, initialises, branches, returns, calls, one_value, CallTree, call_of}
+use Rattle.csub_semantics.specs.Trees.{NamedExpr, reading, assignment, variable, object, temporary}
+use Rattle.csub_semantics.specs.Labels.{LabelTree, enters, exits, evaluates, initialises, branches, switches, returns, jumps, halts, calls, one_value, CallTree, call_of}
 use Rattle.csub_semantics.specs.Points.{ExitTree, on_true, on_false}
 use Rattle.csub_semantics.specs.Memory.{Answer, value, trapped, low_byte}
 use Rattle.csub_semantics.specs.Evaluation.{eval}
 use Rattle.csub_semantics.specs.Cells.{named, entered}
 use Rattle.csub_semantics.specs.Acts.{Store, Outcome, leaves, gives, pushes, pops, ends, after_value, argument_contents, most_frames, act_exit, act}
-use Rattle.program_laws.specs.Outcomes.{LeavesBy, Pushes, Pops, IsNext, IsOfTest, Fits}
+use Rattle.program_laws.specs.Outcomes.{Ends, LeavesBy, Gives, Pushes, Pops, IsNext, IsOfTest, Fits}
 
 -- where all that may follow a value fits, and the end by a trap does, all fits
 fits_after : {X : Type 0} (Q : Outcome → Type 0) (a : Answer X Store) (go : X → Store → Outcome) → ((v : X) (s : Store) → Q (go v s)) → ((t : Status) (s : Store) → Q (ends t s)) → Q (after_value a go)
@@ -45,16 +45,17 @@ fits (evaluates e) n r s = fits_after (LeavesBy IsNext) (eval (named (n - 1)) e 
 fits (initialises owner t (one_value e)) n r s =
     fits_after (LeavesBy IsNext) (eval (named (n - 1)) (assignment (variable (object owner t)) e) s) _ (λ v u. refl) (λ t u. tt)
 fits (branches e) n r s = fits_after (LeavesBy IsOfTest) (eval (named (n - 1)) e s) _ (λ v t. of_test (int_eq v (pos 0))) (λ t u. tt)
+fits (switches e) n r s = fits_after Gives (eval (named (n - 1)) e s) gives (λ v t. tt) (λ t u. tt)
 fits (returns None) n r s = refl
 fits (returns (Some a)) n r s = fits_after (LeavesBy IsNext) (eval (named (n - 1)) a.value s) _ (λ v t. refl) (λ t u. tt)
+fits jumps n r s = refl
+fits (halts e) n r s = fits_after Ends (eval (named (n - 1)) e s) (λ v t. ends (Exit (low_byte v)) t) (λ v t. tt) (λ t u. tt)
 fits (calls c) n r s = fits_after (Pushes c.callee) (argument_contents (n - 1) c.params c.args s) _ (λ cs t. pushed c.callee (nat_le most_frames n) t (record t { cells = entered n c.params cs t.cells })) (λ t u. tt)
 
--- no label gives a value that decides a way out
-pub none_gives : (l : LabelTree) (v : ℤ) (s : Store) → Fits l (gives v s) → ⊥
-none_gives (calls c) v s fit = fit
-none_gives (exits rule) v s fit = fit
-none_gives (branches e) v s fit = fit
-none_gives _ v s fit = fit
+-- a value that decides a way out is that of a `switch`
+pub gives_by_switch : (l : LabelTree) (v : ℤ) (s : Store) → Fits l (gives v s) → (e : NamedExpr) × (l ≡ switches e)
+gives_by_switch (switches e) v s fit = (e, refl)
+gives_by_switch _ v s fit = absurd fit
 
 -- what control leaves along a way out calls nothing
 pub leaves_no_call : (l : LabelTree) (x : ExitTree) (r : Option ℤ) (s : Store) → Fits l (leaves x r s) → call_of l ≡ None

@@ -1,5 +1,6 @@
 pub mod LawsNames
 pub mod LawsNodes
+pub mod LawsSwitches
 pub mod LawsStanding
 pub mod LawsWays
 pub mod LawsFlows

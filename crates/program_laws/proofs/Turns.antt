@@ -6,16 +6,16 @@ use Rattle.csub_objects.specs.Types.{Name}
 use Rattle.csub_semantics.specs.Labels.{CallTree, call_of}
 use Rattle.csub_semantics.specs.Syntax.{ProgramTree}
 use Rattle.csub_semantics.specs.Points.{PointTree, entry, ExitTree, next}
-use Rattle.csub_semantics.specs.Flows.{Flow, Edge, start_name, end_rule, function_of, function_nodes, flow_of}
+use Rattle.csub_semantics.specs.Flows.{Flow, Edge, start_name, end_rule, function_of, function_nodes, cases_in, flow_of}
 use Rattle.csub_semantics.specs.Acts.{Store, Outcome, leaves, gives, pushes, pops, ends, act}
-use Rattle.csub_semantics.specs.Runs.{Frame, Standing, Turn, goes, stops, lost, cross, put_result, come_back, come_back_to, pop, follow, turn_at, turn_of, turn, Moment, running, ended, nowhere, after_turn, go_on, after, results_at}
+use Rattle.csub_semantics.specs.Runs.{Frame, Standing, Turn, goes, stops, lost, cross, put_result, come_back, come_back_to, pop, exit_at, follow, turn_at, turn_of, turn, Moment, running, ended, nowhere, after_turn, go_on, after, results_at}
 use Rattle.csub_validity.specs.Valid.{IsDefinedAs, IsValid}
 use Rattle.program_laws.specs.Outcomes.{Fits}
 use Rattle.program_laws.specs.Lost.{NeverLost, HasResults}
 use Rattle.program_laws.proofs.LawsNodes.{LeadsBy}
-use Rattle.program_laws.proofs.LawsOutcomes.{fits, none_gives, pushes_by_call, pops_by_exit}
-use Rattle.program_laws.proofs.LawsStanding.{IsPoint, Stands, label_at, goes_on, stands_next, name_is, node_is, at_entry, callee_defined, start_defined}
-use Rattle.program_laws.proofs.LawsWays.{call_goes_on, exit_ends, leads_on}
+use Rattle.program_laws.proofs.LawsOutcomes.{fits, gives_by_switch, pushes_by_call, pops_by_exit}
+use Rattle.program_laws.proofs.LawsStanding.{IsPoint, Stands, label_at, cases_at, goes_on, stands_next, name_is, node_is, at_entry, callee_defined, start_defined}
+use Rattle.program_laws.proofs.LawsWays.{call_goes_on, exit_ends, leads_on, chooses_on}
 
 module _ (P : ProgramTree) (valid : IsValid P) where
   -- the flow of the program
@@ -86,10 +86,18 @@ module _ (P : ProgramTree) (valid : IsValid P) where
         let ends = exit_ends P s.function (Among top.function top.point s) s.node.point s.node.label s.node.ways by.0 (node_is P top.function top.point valid s) by.1 in
         popped top.function below r t (not_start by.0 ends.1 by.2) w
 
+    -- a switch leads on by its value's case, or by Default
+    chosen : (v : ℤ) (t : Store) → Fits s.node.label (gives v t) → Keeps (follow F top below (gives v t))
+    chosen v t fit =
+        let by = gives_by_switch s.node.label v t fit in
+        let leads = chooses_on P s.function (Among top.function top.point s) s.node.point s.node.label s.node.ways by.0 (node_is P top.function top.point valid s) by.1 v in
+        subst (λ vs. Keeps (cross top below (exit_at vs v) top.result t (F.succ top.function top.point (exit_at vs v)))) (sym (cases_at P top.function top.point s))
+        (crosses top below (exit_at (cases_in s.node.ways) v) top.result t s leads w)
+
     followed : (o : Outcome) → Fits s.node.label o → Keeps (follow F top below o)
     followed (leaves x r t) fit =
         crosses top below x r t s (leads_on P s.function (Among top.function top.point s) s.node.point s.node.label s.node.ways x r t (node_is P top.function top.point valid s) fit) w
-    followed (gives v t) fit = absurd (none_gives s.node.label v t fit)
+    followed (gives v t) fit = chosen v t fit
     followed (pushes g t) fit = pushed g t fit
     followed (pops r t) fit = pops_on r t fit
     followed (ends u t) fit = tt

@@ -1,22 +1,32 @@
 -- No run writes more than a run may, nor anything but bytes, nor takes more turns than its budget.
-use Rattle.std.proofs.Common.{◌≡◌, ℕ, zero, suc, ◌+◌, ◌-◌, ◌<◌, ◌≤◌, ℤ, pos, negsuc, List, [], ◌∷◌, ◌++◌, length, Bool, true, false, Option, Some, None, Result, Ok, Err, nat_lt, nat_le, int_eq, All, refl, sym, subst, arith, length-append, if◌then◌else◌}
+use Rattle.std.proofs.Common.{◌≡◌, ℕ, zero, suc, ◌+◌, ◌-◌, ◌^◌, ◌<◌, ◌≤◌, ℤ, pos, negsuc, List, [], ◌∷◌, ◌++◌, length, Bool, true, false, Option, Some, None, Result, Ok, Err, nat_lt, nat_le, int_eq, All, refl, sym, subst, arith, length-append, if◌then◌else◌}
 use Rattle.std.proofs.lemmas.Bool.{ltb-true}
-use Rattle.std.proofs.lemmas.List.Elements.{All-nil, All-cons, All-append}
+use Rattle.std.proofs.lemmas.List.Elements.{All-nil, All-cons, All-append, All-head, All-tail}
+use Rattle.std.specs.Fmt.{signed_decimal}
+use Rattle.std.specs.Str.{IsAscii}
+use Rattle.std.specs.Int.{cast_signed, w32}
+use Rattle.std.specs.Int.Signed.{mag}
+use Rattle.std.proofs.Math.Facts.{sfits_to_z}
+use Rattle.std.proofs.lemmas.Fmt.{IsAscii-signed}
 use Rattle.csub_text.specs.declared.operator.BinOp.TheVariants.{Add}
 use Rattle.csub_text.specs.declared.operator.StepOp.{StepOp}
-use Rattle.csub_types.specs.declared.kind.IntKind.TheVariants.{Int}
+use Rattle.csub_types.specs.declared.kind.IntKind.TheVariants.{Int, Unsigned}
 use Rattle.csub_types.specs.declared.trap.Trap.{Trap as TrapKind}
 use Rattle.csub_types.specs.declared.trap.Trap.TheVariants.{Depth, Flood}
+use Rattle.csub_types.specs.Kinds.{convert, low_bits}
+use Rattle.csub_semantics.specs.declared.expression.Piece.{Piece}
+use Rattle.csub_semantics.specs.declared.expression.Piece.TheVariants.{Byte, Signed, Plain, Letter}
 use Rattle.csub_semantics.specs.declared.label.EndRule.{EndRule}
 use Rattle.csub_semantics.specs.declared.label.EndRule.TheVariants.{Nothing, Value, Main, Start}
 use Rattle.csub_semantics.specs.declared.status.Status.TheVariants.{Trap, Turns}
 use Rattle.csub_objects.specs.Types.{Name, MemberTree}
-use Rattle.csub_semantics.specs.Trees.{NamedPlace, NamedExpr, NamedArg, constant, reading, variable, element_place, member_place, object, temporary, unary_operation, conversion, stepping, operation, conjunction, disjunction, choice, assignment, update, input_byte, output_byte, value_argument}
-use Rattle.csub_semantics.specs.Labels.{LabelTree, enters, exits, evaluates, initialises, branches, returns, calls, one_value, CallTree, call_of, PointLabel}
+use Rattle.csub_semantics.specs.Trees.{NamedPlace, NamedExpr, NamedArg, constant, reading, variable, element_place, member_place, object, temporary, unary_operation, conversion, stepping, operation, conjunction, disjunction, choice, assignment, update, input_byte, output_byte, formatted, NamedExprs, no_expr, more_exprs, value_argument}
+use Rattle.csub_semantics.specs.Labels.{LabelTree, enters, exits, evaluates, initialises, branches, switches, returns, jumps, halts, calls, one_value, CallTree, call_of, PointLabel}
 use Rattle.csub_semantics.specs.Points.{PointTree, ExitTree, next}
 use Rattle.csub_semantics.specs.Flows.{Flow, Edge}
-use Rattle.csub_semantics.specs.Memory.{Answer, value, trapped, then_do, given, found, get_byte, put_byte, low_byte, most_output}
-use Rattle.csub_semantics.specs.Evaluation.{computed, fetch, step_by, step_value, is_index, indexed, locate, store, step, eval}
+use Rattle.csub_semantics.specs.Memory.{Answer, value, trapped, then_do, given, found, get_byte, put_byte, put_bytes, low_byte, most_output}
+use Rattle.csub_semantics.specs.Formats.{text_of}
+use Rattle.csub_semantics.specs.Evaluation.{computed, fetch, step_by, step_value, is_index, indexed, locate, store, step, eval, eval_all}
 use Rattle.csub_semantics.specs.Cells.{Spot, named, entered}
 use Rattle.csub_semantics.specs.Acts.{Store, Outcome, leaves, gives, pushes, pops, ends, after_value, argument_content, argument_contents, most_frames, act_exit, act}
 use Rattle.csub_semantics.specs.Runs.{Frame, Turn, goes, stops, lost, cross, put_result, come_back, come_back_to, pop, follow, turn_at, turn_of, turn, Moment, running, ended, nowhere, after_turn, go_on, after, results_at, Results}
@@ -29,6 +39,41 @@ IsShort s = (length s.output ≤ most_output) × All (λ b. b < 256) s.output
 below_256 : (v : ℤ) → low_byte v < 256
 below_256 (pos n) = omega arith
 below_256 (negsuc n) = omega arith
+
+abbrev AreBytes : List ℕ → Type 0
+AreBytes bs = All (λ b. b < 256) bs
+
+-- what a format writes is bytes
+ascii_bytes : (bs : List ℕ) → IsAscii bs → AreBytes bs
+ascii_bytes [] h = All-nil (λ b. b < 256)
+ascii_bytes (b ∷ bs) h = All-cons (λ c. c < 256) b bs (omega (arith, h 0)) (ascii_bytes bs (λ i. h (suc i)))
+
+small_signed : (m : ℕ) → m < 2 ^ 32 → mag (cast_signed w32 m) < 2 ^ 63
+small_signed m h = let fits = sfits_to_z {w = w32} {n = m} (record { fits = h }) in omega (arith, fits.sfits)
+
+small_int : (v : ℤ) → mag (convert Int v) < 2 ^ 63
+small_int (pos n) = small_signed (low_bits Int (pos n)) (omega arith)
+small_int (negsuc n) = small_signed (low_bits Int (negsuc n)) (omega arith)
+
+small_unsigned : (v : ℤ) → mag (convert Unsigned v) < 2 ^ 63
+small_unsigned (pos n) = omega arith
+small_unsigned (negsuc n) = omega arith
+
+signed_bytes : (v : ℤ) → AreBytes (signed_decimal (convert Int v))
+signed_bytes v = ascii_bytes (signed_decimal (convert Int v)) (IsAscii-signed (convert Int v) (small_int v))
+
+plain_bytes : (v : ℤ) → AreBytes (signed_decimal (convert Unsigned v))
+plain_bytes v = ascii_bytes (signed_decimal (convert Unsigned v)) (IsAscii-signed (convert Unsigned v) (small_unsigned v))
+
+text_bytes : (pieces : List Piece) (vs : List ℤ) → AreBytes (text_of pieces vs)
+text_bytes [] vs = All-nil (λ b. b < 256)
+text_bytes (Byte b ∷ rest) vs = All-cons (λ c. c < 256) (low_byte (pos b)) (text_of rest vs) (below_256 (pos b)) (text_bytes rest vs)
+text_bytes (Signed ∷ rest) [] = All-nil (λ b. b < 256)
+text_bytes (Signed ∷ rest) (v ∷ vs) = All-append (λ c. c < 256) (signed_decimal (convert Int v)) (text_of rest vs) (signed_bytes v) (text_bytes rest vs)
+text_bytes (Plain ∷ rest) [] = All-nil (λ b. b < 256)
+text_bytes (Plain ∷ rest) (v ∷ vs) = All-append (λ c. c < 256) (signed_decimal (convert Unsigned v)) (text_of rest vs) (plain_bytes v) (text_bytes rest vs)
+text_bytes (Letter ∷ rest) [] = All-nil (λ b. b < 256)
+text_bytes (Letter ∷ rest) (v ∷ vs) = All-cons (λ c. c < 256) (low_byte v) (text_of rest vs) (below_256 v) (text_bytes rest vs)
 
 abbrev LeavesShort : {X : Type 0} → Answer X Store → Type 0
 LeavesShort (value v s) = IsShort s
@@ -52,6 +97,11 @@ short_pick b s false byte is short = short
 
 short_put : (b : ℕ) (s : Store) → b < 256 → IsShort s → LeavesShort {X = Unit {0}} (put_byte b s)
 short_put b s byte short = short_pick b s (nat_lt (length s.output) most_output) byte refl short
+
+short_put_all : (bs : List ℕ) (s : Store) → AreBytes bs → IsShort s → LeavesShort {X = Unit {0}} (put_bytes bs s)
+short_put_all [] s bytes short = short
+short_put_all (b ∷ bs) s bytes short =
+    short_then (put_byte b s) _ (short_put b s (All-head (λ c. c < 256) b bs bytes) short) (λ x t below. short_put_all bs t (All-tail (λ c. c < 256) b bs bytes) below)
 
 short_found : {X : Type 0} (o : Option X) (s : Store) → IsShort s → LeavesShort (found o s)
 short_found None s short = short
@@ -119,6 +169,15 @@ mutual
   short_eval h input_byte s short = short_input s s.input short
   short_eval h (output_byte e) s short =
       short_then (eval (named h) e s) _ (short_eval h e s short) (λ v t below. short_then (put_byte (low_byte v) t) _ (short_put (low_byte v) t (below_256 v) below) (λ x u under. under))
+  short_eval h (formatted pieces es) s short =
+      short_then (eval_all (named h) es s) _ (short_all h es s short)
+      (λ vs t below. short_then (put_bytes (text_of pieces vs) t) _ (short_put_all (text_of pieces vs) t (text_bytes pieces vs) below) (λ x u under. under))
+
+  short_all : (h : ℕ) (es : NamedExprs) (s : Store) → IsShort s → LeavesShort (eval_all (named h) es s)
+  short_all h no_expr s short = short
+  short_all h (more_exprs e rest) s short =
+      short_then (eval (named h) e s) _ (short_eval h e s short)
+      (λ v t below. short_then (eval_all (named h) rest t) _ (short_all h rest t below) (λ vs u under. under))
 
 -- what an act leaves; a run ends with a status that is a byte
 abbrev EndsShort : Outcome → Type 0
@@ -162,8 +221,11 @@ short_act (evaluates e) n r s short = short_after (eval (named (n - 1)) e s) _ (
 short_act (initialises owner t (one_value e)) n r s short =
     short_after (eval (named (n - 1)) (assignment (variable (object owner t)) e) s) _ (short_eval (n - 1) (assignment (variable (object owner t)) e) s short) (λ v u below. below)
 short_act (branches e) n r s short = short_after (eval (named (n - 1)) e s) _ (short_eval (n - 1) e s short) (λ v t below. below)
+short_act (switches e) n r s short = short_after (eval (named (n - 1)) e s) gives (short_eval (n - 1) e s short) (λ v t below. below)
 short_act (returns None) n r s short = short
 short_act (returns (Some a)) n r s short = short_after (eval (named (n - 1)) a.value s) _ (short_eval (n - 1) a.value s short) (λ v t below. below)
+short_act jumps n r s short = short
+short_act (halts e) n r s short = short_after (eval (named (n - 1)) e s) _ (short_eval (n - 1) e s short) (λ v t below. (below, below_256 v))
 short_act (calls c) n r s short =
     short_after (argument_contents (n - 1) c.params c.args s) _ (short_arguments (n - 1) c.params c.args s short)
     (λ cs t below. short_push (nat_le most_frames n) c.callee t (record t { cells = entered n c.params cs t.cells }) below below)

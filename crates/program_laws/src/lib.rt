@@ -6,8 +6,9 @@
 //! that labels can be compared.
 //!
 //! Proofs above cite the files `proofs/Laws*`: `LawsNodes`, what a point of a valid program may be, by one induction over
-//! its statements; `LawsStanding` and `LawsWays`, what follows for a point, its label and its ways out; `LawsFlows` and
-//! `LawsOutcomes`, the laws above; `LawsLabels` and `LawsNames`, equality of labels, names, points and ways out.
+//! its statements; `LawsSwitches`, the ways out of a `switch`; `LawsStanding` and `LawsWays`, what follows for a point, its
+//! label and its ways out; `LawsFlows` and `LawsOutcomes`, the laws above; `LawsLabels` and `LawsNames`, equality of
+//! labels, names, points and ways out; `LawsGlobals`, the globals of labels.
 #![tactic(auto)]
 
 ghost use Rattle.std.specs.Prelude.{ℕ, ℤ, Option};

@@ -8,3 +8,12 @@ count_of-count_all-requires t c = search (rules, row_trees-list, the_lemmas)
 
 pub count_of-returns-in-Block : goal.count_of-returns-in-Block
 count_of-returns-in-Block t c = search (rules, row_trees-list, the_lemmas)
+
+pub count_of-count_all-requires-in-Switch : goal.count_of-count_all-requires-in-Switch
+count_of-count_all-requires-in-Switch t c = search (rules, row_trees-list, the_lemmas)
+
+pub count_of-overflow_add-result-in-Switch : goal.count_of-overflow_add-result-in-Switch
+count_of-overflow_add-result-in-Switch t c = search (rules, row_trees-list, the_lemmas)
+
+pub count_of-returns-in-Switch : goal.count_of-returns-in-Switch
+count_of-returns-in-Switch t c = search (rules, row_trees-list, the_lemmas)

@@ -2,6 +2,7 @@ use Rattle.std.proofs.Common.{rules, arith, ◌≡◌, ◌+◌, ◌-◌, ◌<◌
 use Rattle.csub_semantics.specs.declared.function.RStmt.{the_lemmas}
 use denote.Param.Weighed.{at_most}
 use Rattle.csub_semantics.specs.Syntax.{part_tree, stmt_tree}
+use Rattle.flow_graph.specs.Jumps.{jump_by}
 use Rattle.flow_graph.specs.Numbers.{around, count_parts, count_head, enter_part, enter_parts}
 use Rattle.flow_graph.proofs.Emitted.{for_emitted}
 use Rattle.csub_semantics.proofs.LawsRows.{stmt_size, row_trees-list}
@@ -20,8 +21,8 @@ emit-returns-in-Block-clause-enter t c = search (rules, row_trees-list, the_lemm
 pub emit-returns-in-Block-clause-nodes : goal.emit-returns-in-Block-clause-nodes
 emit-returns-in-Block-clause-nodes t c = search (rules, row_trees-list, the_lemmas)
 
-pub emit_list-emit_inner-requires : goal.emit_list-emit_inner-requires
-emit_list-emit_inner-requires t c =
+pub emit_lines-emit_inner-requires : goal.emit_lines-emit_inner-requires
+emit_lines-emit_inner-requires t c =
     let room = room_back c.args.stmts.now c.loop-i.i c.loop-i.first c.args.end c.index-stmts-i.result c.loop-i-test.true c.loop-i.auto.i c.index-stmts-i.is c.loop-i.invariant.place c.requires in
     let below : c.loop-i.i - 1 < length c.args.stmts.now = omega arith in
     let less = at_most stmt_size c.args.stmts.now (c.loop-i.i - 1) c.index-stmts-i.result below in
@@ -44,4 +45,13 @@ emit_for-returns-clause-nodes t c =
     ∙ ap (λ e. enter_parts third again.third.first e) c.begin_again-again.ensures.test_enter
     ∙ ap (λ k. enter_parts third again.third.first (enter_part test k c.args.onward.leave)) at_test
     ∙ ap (λ k. enter_parts third k (enter_part test (first + count_parts begin) c.args.onward.leave)) at_third in
-    for_emitted begin test third (stmt_tree c.args.body.now) first c.args.path.now (around c.args.onward) (around c.inside-within.result) c.in_ok-begun.begun.enter c.in_ok-begun.begun.first again.third.enter _ _ _ at_end c.inside-within.ensures onward c.in_ok-begun.ensures.enter c.in_ok-begun.ensures.nodes c.in_ok-begin.ensures.nodes
+    for_emitted begin test third (stmt_tree c.args.body.now) first c.args.path.now (jump_by c.args.jumps.now) (around c.args.onward) (around c.looping-within.result) c.in_ok-begun.begun.enter c.in_ok-begun.begun.first again.third.enter _ _ _ at_end c.looping-within.ensures onward c.in_ok-begun.ensures.enter c.in_ok-begun.ensures.nodes c.in_ok-begin.ensures.nodes
+
+pub emit-emit_switch-requires : goal.emit-emit_switch-requires
+emit-emit_switch-requires t c = search (rules, row_trees-list, the_lemmas)
+
+pub emit-returns-in-Switch-clause-first : goal.emit-returns-in-Switch-clause-first
+emit-returns-in-Switch-clause-first t c = search (rules, row_trees-list, the_lemmas)
+
+pub emit-returns-in-Switch-clause-nodes : goal.emit-returns-in-Switch-clause-nodes
+emit-returns-in-Switch-clause-nodes t c = search (rules, row_trees-list, the_lemmas)

@@ -1,0 +1,46 @@
+-- The table of a function's labels.
+use Rattle.std.proofs.Common.{◌≡◌, ◌∙◌, ℕ, List, [], ◌∷◌, ◌++◌, reverse, Bool, true, false, Option, Some, Vec, sym, ap, subst, map, refl, ⊎_elim, if◌then◌else◌}
+use Rattle.std.specs.Str.{bytes_eq}
+use Rattle.std.specs.Map.{KeepsOthers, IsKeyTest, AreApart, lookup}
+use Rattle.std.specs.declared.alloc.Global.{Global}
+use Rattle.std.proofs.lemmas.Bool.{cases_Bool, cond-true, cond-false}
+use Rattle.std.proofs.lemmas.Cmp.{nat_list_eq_equiv}
+use Rattle.std.proofs.lemmas.Slice.Eq.{bytes_eq-Decides}
+use Rattle.std.proofs.lemmas.List.{reverse-append}
+use Rattle.indexmap.specs.IndexMap.{IndexMap, UpdatesBy}
+use Rattle.csub_objects.specs.Types.{Name}
+use Rattle.csub_semantics.specs.Types.{name_eq}
+use Rattle.csub_semantics.specs.Successors.{Mark, target}
+use Rattle.flow_graph.specs.Jumps.{entry_of, to_or}
+
+apart : (a b key : Name) → name_eq a b ≡ false → name_eq a key ≡ true → name_eq b key ≡ false
+apart a b key n y = nat_list_eq_equiv.symm b key ∙ sym (nat_list_eq_equiv.congr a key b y) ∙ n
+
+others : {K : Type 0} (eq : K → K → Bool) (test : K → Bool) {X : Type 0} (old new : List (K × X)) → KeepsOthers eq test old new
+    → (other : K → Bool) → IsKeyTest eq other → AreApart test other → lookup other new ≡ lookup other old
+unfolding KeepsOthers
+others eq test old new h = h
+
+-- what is entered, once a name is
+pub entered : {S : Type 0} (m n : IndexMap (Vec ℕ Global) ℕ S) (name : Name) (to : ℕ)
+    → UpdatesBy (λ a b. bytes_eq a.items b.items) (λ key. bytes_eq name key.items) m n (Some to)
+    → (other : Name) → entry_of n other ≡ (if name_eq name other then Some to else entry_of m other)
+entered m n name to h other =
+    ⊎_elim
+    (λ y. subst (λ x. entry_of n x ≡ Some to) ((bytes_eq-Decides name other).0 y) h.1 ∙ sym (cond-true (name_eq name other) (Some to) (entry_of m other) y))
+    (λ e. others (λ a b. bytes_eq a.items b.items) (λ key. bytes_eq name key.items) m.entries n.entries h.3 (λ key. bytes_eq other key.items)
+    (λ x y. nat_list_eq_equiv.congr other x.items y.items) (λ key. apart name other key.items e)
+    ∙ sym (cond-false (name_eq name other) (Some to) (entry_of m other) e))
+    (cases_Bool (name_eq name other))
+
+to_or_chosen : (b : Bool) (to : ℕ) (o : Option ℕ) (exit : ℕ) → to_or (if b then Some to else o) exit ≡ (if b then to else to_or o exit)
+to_or_chosen true to o exit = refl
+to_or_chosen false to o exit = refl
+
+-- one more labelled statement, in front of the others
+pub jump_more : (entry entry' : Option ℕ) (marks : List (Mark ℕ)) (m : Mark ℕ) (exit : ℕ) (name : Name) → entry' ≡ (if name_eq m.name name then Some m.to else entry) → to_or entry exit ≡ target (reverse marks) exit name → to_or entry' exit ≡ target (reverse (marks ++ m ∷ [])) exit name
+jump_more entry entry' marks m exit name e h =
+    ap (λ o. to_or o exit) e
+    ∙ to_or_chosen (name_eq m.name name) m.to entry exit
+    ∙ ap (λ n. if name_eq m.name name then m.to else n) h
+    ∙ sym (ap (λ l. target l exit name) (reverse-append marks (m ∷ [])))
