@@ -1,6 +1,7 @@
 pub mod LawsOrder
 pub mod LawsSites
 pub mod LawsSized
+pub mod LawsRows
 mod Objects
 mod Sized
 mod Arguments
@@ -12,3 +13,4 @@ mod Passing
 mod Indexes
 mod Callees
 mod Programs
+mod Steps

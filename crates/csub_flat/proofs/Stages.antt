@@ -6,15 +6,15 @@ use Rattle.std.proofs.lemmas.List.Elements.{All-nil, All-cons}
 use Rattle.csub_types.specs.declared.kind.IntKind.{IntKind}
 use Rattle.csub_types.specs.declared.kind.IntKind.TheVariants.{Int}
 use Rattle.csub_objects.specs.Types.{MemberTree, number_type, IsNumber}
-use Rattle.csub_semantics.specs.Trees.{NamedPlace, NamedExpr, NamedArg, local_owner, variable, element_place, member_place, object, temporary, constant, reading, unary_operation, conversion, stepping, operation, conjunction, disjunction, choice, assignment, update, input_byte, output_byte, value_argument}
-use Rattle.csub_semantics.specs.Labels.{LabelTree, enters, exits, evaluates, initialises, branches, returns, calls, AnswerTree, CallTree, InitTree, one_value}
+use Rattle.csub_semantics.specs.Trees.{NamedPlace, NamedExpr, NamedArg, local_owner, variable, element_place, member_place, object, temporary, constant, reading, unary_operation, conversion, stepping, operation, conjunction, disjunction, choice, assignment, update, input_byte, output_byte, formatted, NamedExprs, no_expr, more_exprs, value_argument}
+use Rattle.csub_semantics.specs.Labels.{LabelTree, enters, exits, evaluates, initialises, branches, switches, returns, jumps, halts, calls, AnswerTree, CallTree, InitTree, one_value}
 use Rattle.csub_semantics.specs.Syntax.{PartTree, FunctionTree, ProgramTree}
 use Rattle.csub_semantics.specs.Flows.{function_of}
 use Rattle.csub_validity.specs.declared.role.Role.{Role}
-use Rattle.csub_validity.specs.declared.role.Role.TheVariants.{Whole, Test, Effect}
-use Rattle.csub_validity.specs.Valid.{objects_of, label_result, stage_result, Scope, scope_of, result_of, IsPlace, IsExpr, AreArgs, IsInit, temp_of, IsDefinedAs, IsCall, IsAnswer, IsInitialised, IsLast, IsEarlier, AreStages, IsPart, AreOther, AreDeclared, AreGlobals}
+use Rattle.csub_validity.specs.declared.role.Role.TheVariants.{Whole, Test, Switch, Effect}
+use Rattle.csub_validity.specs.Valid.{objects_of, label_result, stage_result, Scope, scope_of, result_of, IsPlace, IsExpr, AreExprs, AreArgs, IsInit, temp_of, IsDefinedAs, IsCall, IsAnswer, IsInitialised, IsLast, IsEarlier, AreStages, IsPart, AreOther, AreDeclared, AreGlobals}
 use Rattle.csub_flat.specs.Frames.{globals_of}
-use Rattle.csub_flat.specs.Fits.{HasPlace, FitsPlace, FitsExpr, FitsArg, FitsAnswer, FitsInit, FitsTemp, FitsCall, FitsLabel}
+use Rattle.csub_flat.specs.Fits.{HasPlace, FitsPlace, FitsExpr, FitExprs, FitsArg, FitsAnswer, FitsInit, FitsTemp, FitsCall, FitsLabel}
 use Rattle.csub_flat.proofs.Objects.{all_has, object_place, local_place, parameter_place, temporary_has}
 use Rattle.csub_flat.proofs.LawsSized.{number_sized}
 use Rattle.csub_flat.proofs.Sized.{object_sized}
@@ -31,18 +31,25 @@ module _ (P : ProgramTree) (f : FunctionTree) where
   earlier_temp sc k (evaluates x) kind h e = absurd h
   earlier_temp sc k (initialises owner t init) kind h e = absurd h
   earlier_temp sc k (branches x) kind h e = absurd h
+  earlier_temp sc k (switches x) kind h e = absurd h
   earlier_temp sc k (returns answer) kind h e = absurd h
+  earlier_temp sc k jumps kind h e = absurd h
+  earlier_temp sc k (halts x) kind h e = absurd h
 
   last_temp : (sc : Scope) (role : Role) (k : ℕ) (l : LabelTree) (kind : IntKind) → IsLast P f sc role k l → label_result l ≡ Some kind → k ≤ f.temps
   last_temp sc Whole k (calls c) kind h e = call_temp sc k c kind h e
   last_temp sc Effect k (calls c) kind h e = call_temp sc k c kind h e
   last_temp sc Test k (calls c) kind h e = absurd h
+  last_temp sc Switch k (calls c) kind h e = absurd h
   last_temp sc role k enters kind h e = cc
   last_temp sc role k (exits rule) kind h e = cc
   last_temp sc role k (evaluates x) kind h e = cc
   last_temp sc role k (initialises owner t init) kind h e = cc
   last_temp sc role k (branches x) kind h e = cc
+  last_temp sc role k (switches x) kind h e = cc
   last_temp sc role k (returns answer) kind h e = cc
+  last_temp sc role k jumps kind h e = cc
+  last_temp sc role k (halts x) kind h e = cc
 
   -- each result of a part has its temporary within the frame
   stages_temp : (sc : Scope) (role : Role) (k : ℕ) (ps : PartTree) (i : ℕ) (kind : IntKind) → AreStages P f sc role k ps → slice_get (map stage_result ps) i ≡ Some (Some kind) → k + i ≤ f.temps
@@ -88,6 +95,11 @@ module _ (P : ProgramTree) (f : FunctionTree) where
       expr_fits k (update q op kind e) h = (h.1.1, place_fits k q h.2, expr_fits k e h.3)
       expr_fits k input_byte h = tt
       expr_fits k (output_byte e) h = expr_fits k e h
+      expr_fits k (formatted pieces es) h = (h.0.1, exprs_fit k es h.1)
+
+      exprs_fit : (k : ℕ) (es : NamedExprs) → AreExprs sc k es → FitExprs (globals_of P) f es
+      exprs_fit k no_expr h = tt
+      exprs_fit k (more_exprs e rest) h = (expr_fits k e h.0, exprs_fit k rest h.1)
 
     args_fit : (k : ℕ) (params : List MemberTree) (args : List NamedArg) → AreArgs sc k params args → All (FitsArg (globals_of P) f) args
     args_fit k [] [] h = All-nil (FitsArg (globals_of P) f)
@@ -151,20 +163,10 @@ module _ (P : ProgramTree) (f : FunctionTree) where
       last_fits Whole k (evaluates e) low h = expr_fits k e h
       last_fits Whole k (initialises owner t init) low h = init_all k owner t init h
       last_fits Whole k (returns answer) low h = answer_fits k f.result answer h
-      last_fits Whole k enters low h = absurd h
-      last_fits Whole k (exits rule) low h = absurd h
-      last_fits Whole k (branches e) low h = absurd h
+      last_fits Whole k (halts e) low h = expr_fits k e h
       last_fits Test k (branches e) low h = expr_fits k e h
-      last_fits Test k enters low h = absurd h
-      last_fits Test k (exits rule) low h = absurd h
-      last_fits Test k (evaluates e) low h = absurd h
-      last_fits Test k (initialises owner t init) low h = absurd h
-      last_fits Test k (returns answer) low h = absurd h
-      last_fits Test k (calls c) low h = absurd h
+      last_fits Switch k (switches e) low h = expr_fits k e h
       last_fits Effect k (calls c) low h = call_fits k c low h
       last_fits Effect k (evaluates e) low h = expr_fits k e h
       last_fits Effect k (initialises owner t init) low h = init_all k owner t init h
-      last_fits Effect k enters low h = absurd h
-      last_fits Effect k (exits rule) low h = absurd h
-      last_fits Effect k (branches e) low h = absurd h
-      last_fits Effect k (returns answer) low h = absurd h
+      last_fits role k l low h = absurd h

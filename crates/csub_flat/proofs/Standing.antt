@@ -5,16 +5,16 @@ use Rattle.csub_types.specs.declared.kind.IntKind.TheVariants.{Int}
 use Rattle.csub_semantics.specs.declared.label.EndRule.TheVariants.{Main, Start}
 use Rattle.csub_objects.specs.Types.{Name}
 use Rattle.csub_semantics.specs.Types.{name_eq}
-use Rattle.csub_semantics.specs.Labels.{LabelTree}
+use Rattle.csub_semantics.specs.Labels.{LabelTree, halts}
 use Rattle.csub_semantics.specs.Syntax.{FunctionTree, ProgramTree}
 use Rattle.csub_semantics.specs.Points.{PointTree}
 use Rattle.csub_semantics.specs.Successors.{Way}
 use Rattle.csub_semantics.specs.Flows.{start_name, main_name, end_rule, result_rule, function_nodes, function_in, function_of}
 use Rattle.csub_validity.specs.declared.role.Role.{Role}
-use Rattle.csub_validity.specs.declared.role.Role.TheVariants.{Whole, Test}
+use Rattle.csub_validity.specs.declared.role.Role.TheVariants.{Whole, Test, Switch}
 use Rattle.csub_validity.specs.Valid.{objects_of, AreOther, AreDeclared, BeginsWithStart, IsValid}
 use Rattle.program_laws.proofs.LawsNames.{same_name}
-use Rattle.program_laws.proofs.LawsNodes.{MayStand, IsNode, begins, ends, goes_on, tests}
+use Rattle.program_laws.proofs.LawsNodes.{MayStand, IsNode, begins, ends, goes_on, tests, chooses, jumps_on, halts_there}
 use Rattle.program_laws.proofs.LawsStanding.{IsPoint, Stands, name_is, node_is}
 use Rattle.csub_flat.specs.Frames.{globals_of}
 use Rattle.csub_flat.specs.Fits.{FitsRule, FitsLabel}
@@ -70,3 +70,6 @@ module _ (P : ProgramTree) (valid : IsValid P) where
       by_node q l ws ends = rule_fits s.function g s.defined (name_is P g p valid s)
       by_node q l ws (goes_on r k to m h) = standing s.function (others s.function g s.defined) (declared s.function g s.defined) Whole k m
       by_node q l ws (tests r k a b m h i) = standing s.function (others s.function g s.defined) (declared s.function g s.defined) Test k m
+      by_node q l ws (chooses r k stmts name around m cases to) = standing s.function (others s.function g s.defined) (declared s.function g s.defined) Switch k m
+      by_node q l ws (jumps_on r to h) = tt
+      by_node q l ws (halts_there r e m) = standing s.function (others s.function g s.defined) (declared s.function g s.defined) Whole (halts e) m

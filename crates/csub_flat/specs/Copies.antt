@@ -3,15 +3,18 @@ use Rattle.std.specs.Prelude.{ℕ, ◌≡◌, ◌<◌, ◌≤◌, List, [], ◌�
 use Rattle.std.specs.Option.{option_map}
 use Rattle.csub_types.specs.declared.kind.IntKind.TheVariants.{Int}
 use Rattle.csub_semantics.specs.Trees.{temporary}
-use Rattle.csub_semantics.specs.Labels.{LabelTree, enters, exits, evaluates, initialises, branches, returns, calls, AnswerTree, CallTree}
+use Rattle.csub_semantics.specs.Labels.{LabelTree, enters, exits, evaluates, initialises, branches, switches, returns, jumps, halts, calls}
+use Rattle.csub_semantics.specs.Labels.{AnswerTree, CallTree}
 use Rattle.csub_semantics.specs.Syntax.{FunctionTree, ProgramTree}
 use Rattle.csub_semantics.specs.Flows.{point_list, function_of}
 use Rattle.csub_flat.specs.Sites.{place_of, HasLabel, IsEntry}
 use Rattle.csub_flat.specs.Frames.{objects_size, frame_size, globals_of}
-use Rattle.csub_flat.specs.Trees.{FlatCall, FlatLabel, goes_on, leaves_by, does, tests, answers, enters_callee}
+use Rattle.csub_flat.specs.Trees.{FlatCall, FlatLabel, goes_on, leaves_by, does, tests, chooses, answers, enters_callee}
+use Rattle.csub_flat.specs.Trees as the
 use Rattle.csub_flat.specs.Flatten.{flat_variable, flattened, flat_init, paired, temp_slot}
 use Rattle.csub_flat.specs.Fits.{FitsLabel}
 use Rattle.csub_flat.specs.Seen.{label_seen}
+use Rattle.csub_flat.specs.Ways.{AreSteps}
 use Rattle.csub_flat.specs.declared.flat.FlatLabel.{FlatLabel as Label}
 use Rattle.csub_flat.specs.declared.program.FlatProgram.{FlatProgram}
 
@@ -35,7 +38,10 @@ IsFlat P f (exits rule) m = m ≡ leaves_by rule (flat_variable (globals_of P) f
 IsFlat P f (evaluates e) m = m ≡ does (flattened (globals_of P) f e)
 IsFlat P f (initialises owner t init) m = m ≡ does (flat_init (globals_of P) f owner t init)
 IsFlat P f (branches e) m = m ≡ tests (flattened (globals_of P) f e)
+IsFlat P f (switches e) m = m ≡ chooses (flattened (globals_of P) f e)
 IsFlat P f (returns answer) m = IsFlatAnswer P f answer m
+IsFlat P f jumps m = m ≡ goes_on
+IsFlat P f (halts e) m = m ≡ the.halts (flattened (globals_of P) f e)
 IsFlat P f (calls c) m = (d : FlatCall) × (m ≡ enters_callee d) × IsFlatCall P f c d
 
 -- the copy of the label of the point with a number
@@ -55,10 +61,11 @@ first_in (f ∷ rest) = frame_size f
 abbrev pub first_size : ProgramTree → ℕ
 first_size P = first_in P.functions
 
--- a copy for each point, the count of the globals' slots, and no frame larger than the greatest
+-- a copy for each point, the ways out of each switch, the count of the globals' slots, and no frame larger than the greatest
 pub record IsFlatOf (P : ProgramTree) (flat : FlatProgram) : Type 0 where
   pub count : length flat.labels.items ≡ length (point_list P)
   pub copies : (n : ℕ) (m : Label) → n < length flat.labels.items → m ≡ slice_index_or flat.labels.items n m → IsCopyAt P n (label_seen m)
+  pub steps : AreSteps P flat.choices.steps
   pub globals : flat.sizes.globals ≡ objects_size (globals_of P)
   pub most : All (λ f. frame_size f ≤ flat.sizes.most) P.functions
   pub few : flat.sizes.globals ≤ 65536

@@ -1,15 +1,17 @@
 -- What a label of a valid program has: each object and each temporary that it names has a place.
-use Rattle.std.specs.Prelude.{ℕ, ◌≡◌, List, All, Option, Some, None}
+use Rattle.std.specs.Prelude.{ℕ, ◌≡◌, ◌≤◌, List, All, Option, Some, None}
 use Rattle.csub_types.specs.declared.kind.IntKind.TheVariants.{Int}
 use Rattle.csub_semantics.specs.declared.label.EndRule.{EndRule}
 use Rattle.csub_semantics.specs.declared.label.EndRule.TheVariants.{Nothing, Value, Main, Start}
 use Rattle.csub_objects.specs.Types.{MemberTree, IsNumber, IsSized}
-use Rattle.csub_validity.specs.Valid.{IsNumberPlace}
+use Rattle.csub_validity.specs.Valid.{IsNumberPlace, most_values}
 use Rattle.csub_semantics.specs.Trees.{NamedPlace, NamedExpr, NamedArg, Variable, variable, element_place, member_place, object, temporary}
 use Rattle.csub_semantics.specs.Trees.{local_owner, value_argument}
 use Rattle.csub_semantics.specs.Trees.{constant, reading, unary_operation, conversion, stepping, operation, conjunction, disjunction, choice}
-use Rattle.csub_semantics.specs.Trees.{assignment, update, input_byte, output_byte}
-use Rattle.csub_semantics.specs.Labels.{LabelTree, enters, exits, evaluates, initialises, branches, returns, calls, AnswerTree, CallTree, InitTree, one_value}
+use Rattle.csub_semantics.specs.Trees.{assignment, update, input_byte, output_byte, formatted}
+use Rattle.csub_semantics.specs.Trees.{NamedExprs, no_expr, more_exprs, expr_count}
+use Rattle.csub_semantics.specs.Labels.{LabelTree, enters, exits, evaluates, initialises, branches, switches, returns, jumps, halts, calls}
+use Rattle.csub_semantics.specs.Labels.{AnswerTree, CallTree, InitTree, one_value}
 use Rattle.csub_semantics.specs.Syntax.{LocalTree, FunctionTree, ProgramTree}
 use Rattle.csub_semantics.specs.Flows.{function_of}
 use Rattle.csub_semantics.specs.Cells.{type_of}
@@ -29,7 +31,7 @@ module _ (gs : List LocalTree) (f : FunctionTree) where
     FitsPlace (element_place u p e) = FitsPlace p × FitsExpr e
     FitsPlace (member_place a p) = FitsPlace p
 
-    -- and of an expression, where what is read or written is a number
+    -- and of an expression, where what is read or written is a number, and a `printf` has few values
     pub FitsExpr : NamedExpr → Type 0
     FitsExpr (constant k v) = Unit {0}
     FitsExpr (reading p) = IsNumberPlace p × FitsPlace p
@@ -44,6 +46,11 @@ module _ (gs : List LocalTree) (f : FunctionTree) where
     FitsExpr (update p op k e) = IsNumberPlace p × FitsPlace p × FitsExpr e
     FitsExpr input_byte = Unit {0}
     FitsExpr (output_byte e) = FitsExpr e
+    FitsExpr (formatted pieces es) = (expr_count es ≤ most_values) × FitExprs es
+
+    pub FitExprs : NamedExprs → Type 0
+    FitExprs no_expr = Unit {0}
+    FitExprs (more_exprs e rest) = FitsExpr e × FitExprs rest
 
   abbrev pub FitsArg : NamedArg → Type 0
   FitsArg (value_argument e) = FitsExpr e
@@ -86,5 +93,8 @@ FitsLabel P f (exits rule) = FitsRule (globals_of P) f rule
 FitsLabel P f (evaluates e) = FitsExpr (globals_of P) f e
 FitsLabel P f (initialises owner t init) = IsNumber t × FitsPlace (globals_of P) f (variable (object owner t)) × FitsInit (globals_of P) f init
 FitsLabel P f (branches e) = FitsExpr (globals_of P) f e
+FitsLabel P f (switches e) = FitsExpr (globals_of P) f e
 FitsLabel P f (returns answer) = FitsAnswer (globals_of P) f answer
+FitsLabel P f jumps = Unit {0}
+FitsLabel P f (halts e) = FitsExpr (globals_of P) f e
 FitsLabel P f (calls c) = FitsCall P f c

@@ -6,13 +6,14 @@ use Rattle.csub_objects.specs.Types.{Name, TypeTree, number_type, number_kind, a
 use Rattle.csub_semantics.specs.Trees.{NamedPlace, NamedExpr, NamedArg, Variable, variable, element_place, member_place, object, temporary}
 use Rattle.csub_semantics.specs.Trees.{OwnerTree, global_owner, local_owner}
 use Rattle.csub_semantics.specs.Trees.{constant, reading, unary_operation, conversion, stepping, operation, conjunction, disjunction, choice}
-use Rattle.csub_semantics.specs.Trees.{assignment, update, input_byte, output_byte, value_argument}
+use Rattle.csub_semantics.specs.Trees.{assignment, update, input_byte, output_byte, formatted, value_argument}
+use Rattle.csub_semantics.specs.Trees.{NamedExprs, no_expr, more_exprs}
 use Rattle.csub_semantics.specs.Labels.{InitTree, one_value}
 use Rattle.csub_semantics.specs.Syntax.{LocalTree, FunctionTree}
 use Rattle.csub_validity.specs.Valid.{objects_of, place_type}
 use Rattle.csub_objects.specs.Paths.{Inside}
 use Rattle.csub_flat.specs.Frames.{objects_size, place_in, temporary_place, variable_place}
-use Rattle.csub_flat.specs.Trees.{Form, FlatVariable, frame_slot, global_slot, FlatPart, FlatPlace, FlatExpr, FlatArg}
+use Rattle.csub_flat.specs.Trees.{Form, FlatVariable, frame_slot, global_slot, FlatPart, FlatPlace, FlatExpr, FlatExprs, FlatArg}
 
 -- a place's slot; in a valid program each has one
 abbrev pub slot_or : Option Inside → ℕ
@@ -79,6 +80,11 @@ module _ (gs : List LocalTree) (f : FunctionTree) where
     flattened (update p op k e) = update (flat_place p) op k (flattened e)
     flattened input_byte = input_byte
     flattened (output_byte e) = output_byte (flattened e)
+    flattened (formatted pieces es) = formatted pieces (flattened_row es)
+
+    pub flattened_row : NamedExprs → FlatExprs
+    flattened_row no_expr = no_expr
+    flattened_row (more_exprs e rest) = more_exprs (flattened e) (flattened_row rest)
 
   abbrev pub flat_arg : NamedArg → FlatExpr
   flat_arg (value_argument e) = flattened e

@@ -6,4 +6,5 @@ pub mod Fits
 pub mod Seen
 pub mod Globals
 pub mod Scopes
+pub mod Ways
 pub mod Copies

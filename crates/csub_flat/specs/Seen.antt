@@ -1,7 +1,7 @@
 -- What flat labels of the code stand for.
 use Rattle.std.specs.Prelude.{map}
 use Rattle.csub_semantics.specs.Trees.{variable, element_place, member_place, constant, reading, unary_operation, conversion, stepping, operation}
-use Rattle.csub_semantics.specs.Trees.{conjunction, disjunction, choice, assignment, update, input_byte, output_byte}
+use Rattle.csub_semantics.specs.Trees.{conjunction, disjunction, choice, assignment, update, input_byte, output_byte, formatted, no_expr, more_exprs}
 use Rattle.csub_flat.specs.Trees as the
 use Rattle.csub_flat.specs.declared.flat.Form.{Form}
 use Rattle.csub_flat.specs.declared.flat.FlatVariable.{FlatVariable}
@@ -9,10 +9,11 @@ use Rattle.csub_flat.specs.declared.flat.FlatVariable.TheVariants.{Frame, Global
 use Rattle.csub_flat.specs.declared.flat.FlatPart.{FlatPart}
 use Rattle.csub_flat.specs.declared.flat.FlatPlace.{FlatPlace, Variable, Element', Member'}
 use Rattle.csub_flat.specs.declared.flat.FlatExpr.{FlatExpr, Const, Read, Unary', Cast', Step, Binary', And', Or', Choose', Assign', Update', Getchar, Putchar'}
+use Rattle.csub_flat.specs.declared.flat.FlatExpr.{Printf', Row_of-FlatExpr, end_of-FlatExpr, more_of-FlatExpr}
 use Rattle.csub_flat.specs.declared.flat.FlatArg.{FlatArg}
 use Rattle.csub_flat.specs.declared.flat.FlatCall.{FlatCall}
 use Rattle.csub_flat.specs.declared.flat.FlatLabel.{FlatLabel}
-use Rattle.csub_flat.specs.declared.flat.FlatLabel.TheVariants.{Next, Exit, Eval, Branch, Return, Call}
+use Rattle.csub_flat.specs.declared.flat.FlatLabel.TheVariants.{Next, Exit, Eval, Branch, Switch, Return, Halt, Call}
 
 abbrev pub form_seen : Form → the.Form
 form_seen f = record { kind = f.kind; length = f.length }
@@ -44,6 +45,11 @@ abbrev mutual
   expr_seen (Update' p op k q e) = update (place_seen p) op k (expr_seen e)
   expr_seen Getchar = input_byte
   expr_seen (Putchar' p e) = output_byte (expr_seen e)
+  expr_seen (Printf' pieces shape row) = formatted pieces.items (row_seen row)
+
+  pub row_seen : {m : _} → Row_of-FlatExpr m → the.FlatExprs
+  row_seen end_of-FlatExpr = no_expr
+  row_seen (more_of-FlatExpr e rest) = more_exprs (expr_seen e) (row_seen rest)
 
 abbrev pub arg_seen : FlatArg → the.FlatArg
 arg_seen a = record { param = variable_seen a.param; value = expr_seen a.value }
@@ -56,5 +62,7 @@ label_seen Next = the.goes_on
 label_seen (Exit rule v) = the.leaves_by rule (variable_seen v)
 label_seen (Eval e) = the.does (expr_seen e)
 label_seen (Branch e) = the.tests (expr_seen e)
+label_seen (Switch e) = the.chooses (expr_seen e)
 label_seen (Return k e) = the.answers k (expr_seen e)
+label_seen (Halt e) = the.halts (expr_seen e)
 label_seen (Call c) = the.enters_callee (call_seen c)

@@ -2,7 +2,7 @@
 use Rattle.std.specs.Prelude.{ℕ, List, Option}
 use Rattle.csub_types.specs.declared.kind.IntKind.{IntKind}
 use Rattle.csub_semantics.specs.declared.label.EndRule.{EndRule}
-use Rattle.csub_semantics.specs.Trees.{PlaceTree, ExprTree}
+use Rattle.csub_semantics.specs.Trees.{PlaceTree, ExprTree, ExprTrees}
 
 -- what is at a place: the declared kind of a number (`int` where there is none), and how many elements an array has (0
 -- where there is none)
@@ -31,6 +31,9 @@ FlatPlace = PlaceTree FlatVariable FlatPart FlatPart
 abbrev pub FlatExpr : Type 0
 FlatExpr = ExprTree FlatVariable FlatPart FlatPart
 
+abbrev pub FlatExprs : Type 0
+FlatExprs = ExprTrees FlatVariable FlatPart FlatPart
+
 -- an argument, with the parameter that it goes to
 pub record FlatArg : Type 0 where
   pub param : FlatVariable
@@ -46,13 +49,17 @@ pub record FlatCall : Type 0 where
 
 -- what is done at a point
 pub data FlatLabel : Type 0 where
-  -- nothing, as at an entry and at a return without a value
+  -- nothing, as at an entry, at a return without a value and at a `goto`
   goes_on : FlatLabel
   -- the end of a function, with the first temporary, which that of `#start` reads
   leaves_by : EndRule → FlatVariable → FlatLabel
   -- an expression for its effects; an initialiser is an assignment
   does : FlatExpr → FlatLabel
   tests : FlatExpr → FlatLabel
+  -- the value of a `switch`, which decides its way out
+  chooses : FlatExpr → FlatLabel
   -- a return with a value, which is converted to a kind
   answers : IntKind → FlatExpr → FlatLabel
+  -- the end of the run, with the low 8 bits of a value
+  halts : FlatExpr → FlatLabel
   enters_callee : FlatCall → FlatLabel

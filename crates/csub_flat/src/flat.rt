@@ -1,5 +1,5 @@
 //! Flat labels: slots in place of names.
-use csub_semantics::{BinOp, EndRule, IntKind, StepOp, UnaryOp};
+use csub_semantics::{BinOp, EndRule, IntKind, Piece, StepOp, UnaryOp};
 
 /// What is at a place.
 #[derive(Clone, Copy, Debug, PartialEq, Eq)]
@@ -85,6 +85,8 @@ pub enum FlatExpr {
     Getchar,
     /// `putchar(e)`.
     Putchar(Box<FlatExpr>),
+    /// `printf` of a format and the values of its conversions.
+    Printf(Vec<Piece>, Vec<FlatExpr>),
 }
 
 /// An argument, with the parameter that it goes to.
@@ -120,8 +122,12 @@ pub enum FlatLabel {
     Eval(FlatExpr),
     /// A test.
     Branch(FlatExpr),
+    /// The value of a `switch`, which decides its way out.
+    Switch(FlatExpr),
     /// A return with a value, which is converted to a kind.
     Return(IntKind, FlatExpr),
+    /// The end of the run, with the low 8 bits of a value.
+    Halt(FlatExpr),
     /// A call.
     Call(FlatCall),
 }

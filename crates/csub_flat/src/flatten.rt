@@ -17,7 +17,9 @@ use crate::flat::{FlatArg, FlatExpr, FlatPart, FlatPlace, FlatVariable, Form};
 use crate::places::{find_local, find_param, params_size, slots_before, slots_of};
 use crate::scope::Scope;
 use csub_objects::{array_length, first_cell, member_type, number_kind};
-use csub_semantics::{CType, Function, IntKind, Member, Owner, Place, RArg, RExpr, RInit, Text};
+use csub_semantics::{
+    CType, Function, IntKind, Member, Owner, Piece, Place, RArg, RExpr, RInit, Text,
+};
 use csub_validity::places::place_type;
 use std::alloc::{AllocError, Global};
 
@@ -171,6 +173,10 @@ pub fn flatten_expr(alloc: Global, scope: Scope<'_>, expr: &RExpr) -> Result<Fla
         RExpr::Const(kind, value) => Ok(FlatExpr::Const(*kind, *value)),
         RExpr::Getchar => Ok(FlatExpr::Getchar),
         RExpr::Putchar(byte) => Ok(FlatExpr::Putchar(flatten_boxed(alloc, scope, byte)?)),
+        RExpr::Printf(pieces, values) => {
+            let format = copy_pieces(alloc, pieces)?;
+            Ok(FlatExpr::Printf(format, flatten_exprs(alloc, scope, values)?))
+        }
         RExpr::Read(place) => Ok(FlatExpr::Read(flatten_place(alloc, scope, place)?)),
         RExpr::Temp(number, kind) => {
             let variable = flatten_temporary(scope, *number, *kind);
@@ -223,6 +229,31 @@ fn flatten_boxed(alloc: Global, scope: Scope<'_>, expr: &RExpr) -> Result<Box<Fl
 {
     let made = flatten_expr(alloc, scope, expr)?;
     Ok(Box::new(alloc, made)?)
+}
+
+/// The flat copies of expressions one after another. An `Err` is want of memory.
+#[cycle(flattening)]
+fn flatten_exprs(
+    alloc: Global,
+    scope: Scope<'_>,
+    exprs: &[RExpr],
+) -> Result<Vec<FlatExpr>, AllocError>
+    requires { All (FitsExpr (globals_at scope) (function_at scope)) (map expr_tree exprs.now) }
+    ensures { IfOk result (λ made. map expr_seen made.items ≡ map (flattened (globals_at scope.entry) (function_at scope.entry)) (map expr_tree exprs.now)) }
+{
+    let mut made = Vec::new(alloc);
+    for expr in exprs {
+        made.push(flatten_expr(alloc, scope, expr)?)?;
+    }
+    Ok(made)
+}
+
+fn copy_pieces(alloc: Global, pieces: &[Piece]) -> Result<Vec<Piece>, AllocError>
+    ensures { IfOk result (λ made. made.items ≡ pieces.now) }
+{
+    let mut made = Vec::new(alloc);
+    made.extend_from_slice(pieces)?;
+    Ok(made)
 }
 
 /// The flat copies of the arguments of a call, with the parameters of the callee. An `Err` is want of memory.

@@ -14,6 +14,7 @@ ghost use Rattle.csub_flat.specs.Flatten.{temp_slot};
 ghost use Rattle.csub_flat.specs.Copies.{IsFlat, IsFlatCall, IsCopyAt, IsFlatOf, first_size};
 ghost use Rattle.csub_flat.specs.Seen.{call_seen, label_seen};
 
+use crate::choices::{Choices, list_choices};
 use crate::flat::{FlatCall, FlatLabel};
 use crate::flatten::{flatten_args, flatten_expr, flatten_init, flatten_temporary, temporary_slot};
 use crate::globals::{globals_size, number_globals};
@@ -34,11 +35,13 @@ pub struct Sizes {
     pub most: u32,
 }
 
-/// The flat copy of a program: a label for each point, and how many slots a run takes.
+/// The flat copy of a program: a label for each point, the ways out of its switches, and how many slots a run takes.
 #[derive(Drop)]
 pub struct FlatProgram {
     /// The labels, by the numbers of their points.
     pub labels: Vec<FlatLabel>,
+    /// The ways out of its switches.
+    pub choices: Choices,
     /// How many slots a run takes.
     pub sizes: Sizes,
 }
@@ -110,7 +113,7 @@ fn flatten_label(
     ensures { IfOk result (λ made. IsFlat (program_at scope.entry) (function_at scope.entry) (label_tree label.now) (label_seen made)) }
 {
     match label {
-        Label::Entry | Label::Return(None) => Ok(FlatLabel::Next),
+        Label::Entry | Label::Return(None) | Label::Goto => Ok(FlatLabel::Next),
         Label::Exit(rule) => {
             let first = flatten_temporary(scope, 1, IntKind::Int);
             Ok(FlatLabel::Exit(*rule, first))
@@ -120,6 +123,8 @@ fn flatten_label(
             Ok(FlatLabel::Eval(flatten_init(alloc, scope, owner, ctype, init)?))
         }
         Label::Branch(expr) => Ok(FlatLabel::Branch(flatten_expr(alloc, scope, expr)?)),
+        Label::Switch(expr) => Ok(FlatLabel::Switch(flatten_expr(alloc, scope, expr)?)),
+        Label::Halt(expr) => Ok(FlatLabel::Halt(flatten_expr(alloc, scope, expr)?)),
         Label::Return(Some(Answer { kind, value })) => {
             Ok(FlatLabel::Return(*kind, flatten_expr(alloc, scope, value)?))
         }
@@ -176,7 +181,7 @@ fn greatest_frame(program: &Program) -> u32
 
 /// The flat copy of a program. An `Err` is want of memory. The work is that of copying the labels, a comparison of names
 /// for each use of an object and object of its function, and for each call and function, and a look-up in an ordered map
-/// for each use of a global.
+/// for each use of a global and each way out of a switch.
 pub fn flatten_program(
     alloc: Global,
     program: &Program,
@@ -195,7 +200,12 @@ pub fn flatten_program(
         globals: globals_size(globals),
         most: greatest_frame(program),
     };
-    Ok(FlatProgram { labels, sizes })
+    let choices = list_choices(alloc, program, graph)?;
+    Ok(FlatProgram {
+        labels,
+        choices,
+        sizes,
+    })
 }
 
 /// How many slots a frame of the first function has.

@@ -6,28 +6,28 @@ use Rattle.std.proofs.Math.Nat.{mul-le-mul_right}
 use Rattle.std.proofs.lemmas.List.Elements.{All-map, All-push, All-nil, All-cons, All-head, All-tail}
 use Rattle.csub_semantics.specs.declared.status.Status.{Status}
 use Rattle.csub_objects.specs.Types.{Name}
-use Rattle.csub_semantics.specs.Labels.{LabelTree, enters, exits, evaluates, initialises, branches, returns, calls, CallTree, call_of, PointLabel}
+use Rattle.csub_semantics.specs.Labels.{LabelTree, enters, exits, evaluates, initialises, branches, switches, returns, jumps, halts, calls, CallTree, call_of, PointLabel}
 use Rattle.csub_semantics.specs.Syntax.{FunctionTree, ProgramTree}
 use Rattle.csub_semantics.specs.Points.{PointTree, entry, ExitTree, next}
 use Rattle.csub_semantics.specs.Flows.{Flow, flow_of, point_list, function_of}
 use Rattle.csub_semantics.specs.Numbers.{Site, site}
 use Rattle.csub_semantics.specs.Acts.{Store, act, most_frames}
 use Rattle.csub_semantics.specs.Runs as the
-use Rattle.csub_semantics.specs.Runs.{Standing, cross, put_result, come_back, come_back_to, pop, follow, turn_at, turn}
+use Rattle.csub_semantics.specs.Runs.{Standing, exit_at, cross, put_result, come_back, come_back_to, pop, follow, turn_at, turn}
 use Rattle.csub_machine.specs.Crossed.{edge_of}
 use Rattle.csub_flat.specs.Sites.{place_of, site_or}
 use Rattle.csub_flat.specs.Frames.{objects_size, frame_size, globals_of}
 use Rattle.csub_slots.specs.Layout.{live_size}
 use Rattle.csub_slots.specs.Memory.{most_slot}
 use Rattle.csub_flat.specs.Fits.{FitsLabel, FitsTemp}
-use Rattle.csub_slots.specs.Acts.{FlatStore, FlatOutcome, leaves, pushes, pops, ends, flat_act, flat_result}
+use Rattle.csub_slots.specs.Acts.{FlatStore, FlatOutcome, leaves, gives, pushes, pops, ends, flat_act, flat_result}
 use Rattle.csub_flat.specs.Trees.{FlatCall, FlatLabel, enters_callee}
 use Rattle.csub_flat.specs.Flatten.{temp_slot}
 use Rattle.csub_flat.specs.Copies.{IsFlat, IsFlatCall, IsCopyAt, IsFlatOf}
 use Rattle.csub_flat.specs.declared.program.FlatProgram.{FlatProgram}
 use Rattle.csub_slots.specs.Like.{Like}
 use Rattle.csub_slots.proofs.LawsFrames.{result_stands}
-use Rattle.csub_slots.proofs.LawsActs.{LikeOutcome, act_like, left, pushed, popped, ended}
+use Rattle.csub_slots.proofs.LawsActs.{LikeOutcome, act_like, left, valued, pushed, popped, ended}
 use Rattle.csub_slots.proofs.LawsBounds.{PushesBelow, act_few, live_room}
 use Rattle.csub_flat.proofs.LawsSites.{found_has}
 use Rattle.csub_machine.specs.declared.frames.Frame.{Frame}
@@ -110,25 +110,44 @@ module _ (P : ProgramTree) where
       count = count;
     }
 
+    -- the top frame goes on along a way out
+    crosses_on : (x : ExitTree) (r : Option ℤ) (u : Store) (t' : FlatStore) → turn F (standing_of P frames s) ≡ cross top (below_of P items) x r u (F.succ top.function top.point x) → Like (globals_of P) (f ∷ live_below P items) u t'
+        → (new : Frames) → new.below.items ≡ items → new.top.point < length (point_list P) → (place_of P new.top.point).function ≡ (place_of P frames.top.point).function → new.top.base ≡ frames.top.base
+        → (result : Turn) → Crosses P (cross top (below_of P items) x r u (F.succ top.function top.point x)) result (record { frames = frame_of P new.top ∷ below_of P items; store = u })
+        → Moves P (turn F (standing_of P frames s)) result new t'
+    crosses_on x r u t' to alike new same point fn base result crosses = by_result result crosses
+      where
+        live_same : live_of P new ≡ live_of P frames
+        live_same = ap (λ (g : FunctionTree). g ∷ live_below P new.below.items) (same_function new.top frames.top fn) ∙ ap (λ (xs : List Frame). f ∷ live_below P xs) same
+
+        l : Like (globals_of P) (live_of P new) u t'
+        l = subst (λ fs. Like (globals_of P) fs u t') (sym live_same) alike
+
+        by_result : (result : Turn) → Crosses P (cross top (below_of P items) x r u (F.succ top.function top.point x)) result (record { frames = frame_of P new.top ∷ below_of P items; store = u }) → Moves P (turn F (standing_of P frames s)) result new t'
+        by_result (Goes e) c = record {
+          store = u;
+          goes = to ∙ c ∙ ap (the.goes (edge_of P e)) (same_standing (frame_of P new.top ∷ below_of P items) (frame_of P new.top ∷ below_of P new.below.items) u (ap (λ (xs : List Frame). frame_of P new.top ∷ below_of P xs) (sym same)));
+          like = l;
+          ready = still_ready new (length t'.cells) same point base l.cells.size;
+        }
+        by_result (Stops status) c = record { store = u; stops = to ∙ c; text = record { input = l.input; output = l.output } }
+        by_result Lost c = to ∙ c
+
     pub leaves_on : (x : ExitTree) (r : Option ℤ) (t' : FlatStore) → does ≡ leaves x r t' → (new : Frames) (result : Turn)
         → ((below : List the.Frame) (t : Store) → Crosses P (cross top below x r t (F.succ top.function top.point x)) result (record { frames = frame_of P new.top ∷ below; store = t }))
         → new.below.items ≡ items → new.top.point < length (point_list P) → (place_of P new.top.point).function ≡ (place_of P frames.top.point).function → new.top.base ≡ frames.top.base
         → Moves P (turn F (standing_of P frames s)) result new t'
     leaves_on x r t' e new result crosses same point fn base =
         let o = left P f (live_below P items) _ does x r t' acted e in
-        let live_same : live_of P new ≡ live_of P frames = ap (λ (g : FunctionTree). g ∷ live_below P new.below.items) (same_function new.top frames.top fn) ∙ ap (λ (xs : List Frame). f ∷ live_below P xs) same in
-        by_result o.store (turned ∙ ap (follow F top (below_of P items)) o.is) (subst (λ fs. Like (globals_of P) fs o.store t') (sym live_same) o.like) result (crosses (below_of P items) o.store)
-      where
-        by_result : (u : Store) → turn F (standing_of P frames s) ≡ cross top (below_of P items) x r u (F.succ top.function top.point x) → Like (globals_of P) (live_of P new) u t'
-            → (result : Turn) → Crosses P (cross top (below_of P items) x r u (F.succ top.function top.point x)) result (record { frames = frame_of P new.top ∷ below_of P items; store = u }) → Moves P (turn F (standing_of P frames s)) result new t'
-        by_result u to l (Goes e) c = record {
-          store = u;
-          goes = to ∙ c ∙ ap (the.goes (edge_of P e)) (same_standing (frame_of P new.top ∷ below_of P items) (frame_of P new.top ∷ below_of P new.below.items) u (ap (λ (xs : List Frame). frame_of P new.top ∷ below_of P xs) (sym same)));
-          like = l;
-          ready = still_ready new (length t'.cells) same point base l.cells.size;
-        }
-        by_result u to l (Stops status) c = record { store = u; stops = to ∙ c; text = record { input = l.input; output = l.output } }
-        by_result u to l Lost c = to ∙ c
+        crosses_on x r o.store t' (turned ∙ ap (follow F top (below_of P items)) o.is) o.like new same point fn base result (crosses (below_of P items) o.store)
+
+    pub gives_on : (v : ℤ) (t' : FlatStore) → does ≡ gives v t' → (new : Frames) (result : Turn)
+        → ((below : List the.Frame) (t : Store) → let x = exit_at (F.cases top.function top.point) v in Crosses P (cross top below x top.result t (F.succ top.function top.point x)) result (record { frames = frame_of P new.top ∷ below; store = t }))
+        → new.below.items ≡ items → new.top.point < length (point_list P) → (place_of P new.top.point).function ≡ (place_of P frames.top.point).function → new.top.base ≡ frames.top.base
+        → Moves P (turn F (standing_of P frames s)) result new t'
+    gives_on v t' e new result crosses same point fn base =
+        let o = valued P f (live_below P items) _ does v t' acted e in
+        crosses_on (exit_at (F.cases top.function top.point) v) top.result o.store t' (turned ∙ ap (follow F top (below_of P items)) o.is) o.like new same point fn base result (crosses (below_of P items) o.store)
 
     pub pushes_on : (p b : ℕ) (t' : FlatStore) → does ≡ pushes p b t' → (new : Frames) → new.top ≡ record { point = p; result = None; base = b } → new.below.items ≡ items ++ frames.top ∷ [] → GoesTo P (turn F (standing_of P frames s)) None new t'
     pushes_on p b t' e new is below_is =
@@ -196,8 +215,11 @@ module _ (P : ProgramTree) where
   is_call g (evaluates y) m d h e = let x : ⊥ = cc in absurd x
   is_call g (initialises owner t init) m d h e = let x : ⊥ = cc in absurd x
   is_call g (branches y) m d h e = let x : ⊥ = cc in absurd x
+  is_call g (switches y) m d h e = let x : ⊥ = cc in absurd x
   is_call g (returns None) m d h e = let x : ⊥ = cc in absurd x
   is_call g (returns (Some a)) m d h e = let x : ⊥ = cc in absurd x
+  is_call g jumps m d h e = let x : ⊥ = cc in absurd x
+  is_call g (halts y) m d h e = let x : ⊥ = cc in absurd x
   is_call g (calls c) m d h e = let same : h.0 ≡ d = let both = sym h.1 ∙ e in cc in (c, refl, subst (IsFlatCall P g c) same h.2)
 
   no_stop : (f : the.Frame) (below : List the.Frame) (x : ExitTree) (r : Option ℤ) (s t : Store) (status : Status) (o : Option PointTree) → cross f below x r s o ≡ the.stops status t → ⊥

@@ -1,5 +1,5 @@
 -- What a graph's answers say of where ways out lead.
-use Rattle.std.proofs.Common.{◌≡◌, ◌<◌, ◌∙◌, ℕ, length, Option, Some, None, refl, sym, ap}
+use Rattle.std.proofs.Common.{◌≡◌, ◌<◌, ◌∙◌, ℕ, ℤ, List, ◌∷◌, length, Option, Some, None, refl, sym, ap}
 use Rattle.std.specs.Option.{option_map, IfNone}
 use Rattle.csub_objects.specs.Types.{Name}
 use Rattle.csub_semantics.specs.Syntax.{ProgramTree}
@@ -8,7 +8,12 @@ use Rattle.csub_semantics.specs.Flows.{Edge, point_list, edge_list, flow_of}
 use Rattle.csub_semantics.specs.Numbers.{Site, site, site_at, edge_at}
 use Rattle.csub_flat.specs.Sites.{place_of, LeadsNowhere}
 use Rattle.csub_flat.proofs.LawsSites.{place_is}
-use Rattle.csub_machine.specs.Ways.{LeadsTo}
+use Rattle.csub_flat.specs.Ways.{edge_along, LeadsTo}
+use Rattle.csub_flat.specs.declared.choices.Step.{Step}
+use Rattle.csub_semantics.specs.Acts.{Store}
+use Rattle.csub_semantics.specs.Runs as the
+use Rattle.csub_machine.specs.declared.frames.Frame.{Frame}
+use Rattle.csub_machine.specs.Standings.{frame_of}
 
 no_way : (f : Name) (o : Option PointTree) → ◌≡◌ {A = Option Site} None (option_map (site f) o) → o ≡ None
 no_way f None e = refl
@@ -51,3 +56,17 @@ leads_to P n to edge x h l e g = step ((flow_of P).succ (place_of P n).function 
 pub if_none : {A : Type 0} {X : Type 0} (o : Option A) → X → IfNone o X
 if_none None x = x
 if_none (Some a) x = tt
+
+-- a frame that goes on where a way out leads has crossed its edge
+pub crossed_along : (P : ProgramTree) (top : Frame) (x : ExitTree) (step : Step) (r : Option ℤ) (below : List the.Frame) (s : Store) → LeadsTo P top.point x step
+    → let here = place_of P top.point in
+    let onward : Frame = record { point = step.to; result = r; base = top.base } in
+    the.cross (frame_of P top) below x r s ((flow_of P).succ here.function here.point x) ≡ the.goes (edge_at P step.edge) (record { frames = frame_of P onward ∷ below; store = s })
+crossed_along P top x step r below s l =
+    let Ahead : Name → Option Edge → the.Turn = λ a e. the.goes e (record { frames = record { function = a; point = (place_of P step.to).point; result = r } ∷ below; store = s }) in
+    ap (the.cross (frame_of P top) below x r s) l.leads ∙ ap (λ a. Ahead a (Some (edge_along P top.point x))) (sym l.function)
+    ∙ ap (Ahead (place_of P step.to).function) (sym l.crosses)
+
+pub lost_along : (P : ProgramTree) (top : Frame) (x : ExitTree) (r : Option ℤ) (below : List the.Frame) (s : Store) → LeadsNowhere P top.point x
+    → let here = place_of P top.point in the.cross (frame_of P top) below x r s ((flow_of P).succ here.function here.point x) ≡ the.lost
+lost_along P top x r below s none = ap (the.cross (frame_of P top) below x r s) none

@@ -5,20 +5,12 @@ ghost use Rattle.csub_semantics.specs.Flows.{point_list};
 ghost use Rattle.flow_graph.specs.Graph.{IsGraphOf};
 ghost use Rattle.csub_semantics.specs.Syntax.{program_tree};
 ghost use Rattle.csub_flat.specs.Sites.{LeadsNowhere};
-ghost use Rattle.csub_machine.specs.Ways.{LeadsTo};
+ghost use Rattle.csub_flat.specs.Ways.{LeadsTo};
 
 use csub_core::Program;
+use csub_flat::Step;
 use csub_semantics::ExitLabel;
 use flow_graph::Graph;
-
-/// Where a way out leads to: the number of the point, and that of the edge.
-#[derive(Clone, Copy, Debug, PartialEq, Eq)]
-pub struct Step {
-    /// The number of the point.
-    pub to: u32,
-    /// The number of the edge.
-    pub edge: u32,
-}
 
 /// Where a way out of a point leads to; `None` where the point has no such way out.
 pub fn step_along(program: &Program, graph: &Graph, point: u32, exit: &ExitLabel) -> Option<Step>

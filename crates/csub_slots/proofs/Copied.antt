@@ -8,18 +8,19 @@ use Rattle.csub_objects.specs.Types.{element_type, member_type, find_member, fin
 use Rattle.csub_objects.specs.Paths.{Inside, inside_at, moved}
 use Rattle.csub_semantics.specs.Trees.{NamedPlace, variable, element_place, member_place, NamedExpr, Variable, object, temporary, global_owner, local_owner}
 use Rattle.csub_semantics.specs.Trees.{constant, reading, unary_operation, conversion, stepping, operation, conjunction, disjunction, choice}
-use Rattle.csub_semantics.specs.Trees.{assignment, update, input_byte, output_byte}
+use Rattle.csub_semantics.specs.Trees.{assignment, update, input_byte, output_byte, formatted, NamedExprs, no_expr, more_exprs}
 use Rattle.csub_semantics.specs.Syntax.{LocalTree, FunctionTree}
 use Rattle.csub_semantics.specs.Cells.{Root, global_root, local_root, temp_root, type_of, of_frame}
 use Rattle.csub_validity.specs.Valid.{objects_of, place_type, IsNumberAt}
 use Rattle.csub_flat.specs.Frames.{plain, objects_size, place_in, temporary_place, frame_place}
 use Rattle.csub_flat.specs.Trees.{FlatVariable, frame_slot, global_slot, FlatPart, FlatPlace}
-use Rattle.csub_flat.specs.Flatten.{slot_or, temp_slot, form_of, part_of, cell_or, element_part, member_part, flat_variable, flat_place, flattened}
-use Rattle.csub_flat.specs.Fits.{HasPlace, FitsPlace, FitsExpr}
+use Rattle.csub_flat.specs.Flatten.{slot_or, temp_slot, form_of, part_of, cell_or, element_part, member_part, flat_variable, flat_place, flattened, flattened_row}
+use Rattle.csub_flat.specs.Fits.{HasPlace, FitsPlace, FitsExpr, FitExprs}
 use Rattle.csub_flat.proofs.LawsSized.{part_found, place_sized}
 use Rattle.csub_slots.specs.Layout.{live_size, live}
 use Rattle.csub_slots.proofs.Evals.{LikePlace, like_variable, like_element, like_member, LikeExpr, like_constant, like_reading, like_unary, like_conversion}
-use Rattle.csub_slots.proofs.Evals.{like_stepping, like_operation, like_conjunction, like_disjunction, like_choice, like_assignment, like_update, like_input, like_output}
+use Rattle.csub_slots.proofs.Evals.{like_stepping, like_operation, like_conjunction, like_disjunction, like_choice, like_assignment, like_update, like_input, like_output, like_formatted}
+use Rattle.csub_slots.proofs.Evals.{LikeRow, like_none, like_more}
 use Rattle.csub_slots.proofs.Memories.{IsWhole, SameVariable, same_frame, same_global, SameElement, same_element, SameMember, same_member}
 
 module _ (gs : List LocalTree) where
@@ -130,3 +131,8 @@ module _ (gs : List LocalTree) (f : FunctionTree) (below : List FunctionTree) wh
     expr_flat (update p op k e) (n, h, g) = let q = number_at (place_type p) n in like_update q.2 (place_flat p q.0 h q.1) (expr_flat e g)
     expr_flat input_byte h = like_input
     expr_flat (output_byte e) h = like_output (expr_flat e h)
+    expr_flat (formatted pieces es) (few, h) = like_formatted (row_flat es h)
+
+    row_flat : (es : NamedExprs) → FitExprs gs f es → LikeRow IsNumber Same SameElement SameMember es (flattened_row gs f es)
+    row_flat no_expr h = like_none
+    row_flat (more_exprs e rest) (h, g) = like_more (expr_flat e h) (row_flat rest g)

@@ -10,9 +10,11 @@ use Rattle.csub_types.specs.declared.trap.Trap.{Trap}
 use Rattle.csub_types.specs.declared.trap.Trap.TheVariants.{Flood, Bounds}
 use Rattle.csub_types.specs.Kinds.{convert, promote}
 use Rattle.csub_types.specs.Arithmetic.{unary, binary}
-use Rattle.csub_semantics.specs.Trees.{PlaceTree, variable, element_place, member_place, ExprTree, constant, reading, unary_operation, conversion, stepping, operation, conjunction, disjunction, choice, assignment, update, input_byte, output_byte}
-use Rattle.csub_semantics.specs.Memory.{State, Answer, value, trapped, Memory, then_do, given, found, get_byte, put_byte, low_byte, most_output}
-use Rattle.csub_semantics.specs.Evaluation.{right_operand, computed, step_by, step_value, is_index, fetch, indexed, store, step, locate, eval}
+use Rattle.csub_semantics.specs.Trees.{PlaceTree, variable, element_place, member_place, ExprTree, constant, reading, unary_operation, conversion, stepping, operation, conjunction, disjunction, choice, assignment, update, input_byte, output_byte, formatted, ExprTrees, no_expr, more_exprs}
+use Rattle.csub_semantics.specs.Memory.{State, Answer, value, trapped, Memory, then_do, given, found, get_byte, put_byte, put_bytes, low_byte, most_output}
+use Rattle.csub_semantics.specs.Evaluation.{right_operand, computed, step_by, step_value, is_index, fetch, indexed, store, step, locate, eval, eval_all}
+use Rattle.csub_semantics.specs.declared.expression.Piece.{Piece}
+use Rattle.csub_semantics.specs.Formats.{text_of}
 use Rattle.csub_slots.specs.Like.{LikeState}
 
 -- answers with values and states that are alike
@@ -48,6 +50,11 @@ module _ {T V I M V' I' M' : Type 0} (N : T → Type 0) (RV : T → V → V' →
       like_update : {op : BinOp} {k : IntKind} {t : T} {p : PlaceTree V I M} {p' : PlaceTree V' I' M'} {e : ExprTree V I M} {e' : ExprTree V' I' M'} → N t → LikePlace t p p' → LikeExpr e e' → LikeExpr (update p op k e) (update p' op k e')
       like_input : LikeExpr input_byte input_byte
       like_output : {e : ExprTree V I M} {e' : ExprTree V' I' M'} → LikeExpr e e' → LikeExpr (output_byte e) (output_byte e')
+      like_formatted : {pieces : List Piece} {es : ExprTrees V I M} {es' : ExprTrees V' I' M'} → LikeRow es es' → LikeExpr (formatted pieces es) (formatted pieces es')
+
+    pub data LikeRow : ExprTrees V I M → ExprTrees V' I' M' → Type 0 where
+      like_none : LikeRow no_expr no_expr
+      like_more : {e : ExprTree V I M} {e' : ExprTree V' I' M'} {rest : ExprTrees V I M} {rest' : ExprTrees V' I' M'} → LikeExpr e e' → LikeRow rest rest' → LikeRow (more_exprs e rest) (more_exprs e' rest')
 
 -- memories that are alike
 pub record LikeMemory {T V I M L C V' I' M' L' C' : Type 0} (N : T → Type 0) (RV : T → V → V' → Type 0) (RI : T → T → I → I' → Type 0) (RM : T → T → M → M' → Type 0) (RL : T → L → L' → Type 0) (RC : C → C' → Type 0) (m : Memory V I M L C) (m' : Memory V' I' M' L' C') : Type 0 where
@@ -101,6 +108,10 @@ module _ {C C' : Type 0} {RC : C → C' → Type 0} where
   like_put_byte b s s' r =
       subst (λ (o : List ℕ). LikeAnswer (λ (x y : Unit {0}). x ≡ y) (LikeState RC) (put_byte b s) (if nat_lt (length o) most_output then value tt (record s' { output = o ++ b ∷ [] }) else trapped Flood s')) r.output
       (like_if (nat_lt (length s.output) most_output) (both_values refl (record { input = r.input; output = refl; cells = r.cells })) (both_trapped r))
+
+  pub like_put_bytes : (bs : List ℕ) (s : State C) (s' : State C') → LikeState RC s s' → LikeAnswer (λ (x y : Unit {0}). x ≡ y) (LikeState RC) (put_bytes bs s) (put_bytes bs s')
+  like_put_bytes [] s s' r = both_values refl r
+  like_put_bytes (b ∷ bs) s s' r = then_same (like_put_byte b s s' r) (λ u x x' q. like_put_bytes bs x x' q)
 
 -- an index is below the count of elements
 index_below : (v : ℤ) (n : ℕ) → is_index v n ≡ true → unsigned_abs v < n
@@ -162,3 +173,10 @@ module _ {T V I M L C V' I' M' L' C' : Type 0} {N : T → Type 0} {RV : T → V 
         (λ l l' x x' i q. then_same (like_fetch t l l' x x' n i q) (λ v y y' z. then_same (like_eval a a' y y' g z) (λ w u u' o. then_same (same_given (binary op (promote k) (convert (promote k) v) (right_operand op (promote k) w)) u u' o) (λ c d d' f. like_store t l l' c d d' n i f))))
     like_eval e e' s s' like_input r = like_get_byte s s' r
     like_eval e e' s s' (like_output {e = a} {e' = a'} h) r = then_same (like_eval a a' s s' h r) (λ v x x' q. then_same (like_put_byte (low_byte v) x x' q) (λ u y y' z. both_values refl z))
+    like_eval e e' s s' (like_formatted {pieces = pieces} {es = es} {es' = es'} h) r =
+        then_same (like_all es es' s s' h r) (λ vs x x' q. then_same (like_put_bytes (text_of pieces vs) x x' q) (λ u y y' z. both_values {x = pos (length (text_of pieces vs))} refl z))
+
+    pub like_all : (es : ExprTrees V I M) (es' : ExprTrees V' I' M') (s : State C) (s' : State C') → LikeRow N RV RI RM es es' → LikeState RC s s' → LikeAnswer (λ (x y : List ℤ). x ≡ y) (LikeState RC) (eval_all m es s) (eval_all m' es' s')
+    like_all es es' s s' like_none r = both_values refl r
+    like_all es es' s s' (like_more {e = e} {e' = e'} {rest = rest} {rest' = rest'} h g) r =
+        then_same (like_eval e e' s s' h r) (λ v x x' q. then_same (like_all rest rest' x x' g q) (λ vs y y' z. both_values refl z))

@@ -9,7 +9,7 @@ use Rattle.csub_semantics.specs.declared.status.Status.{Status}
 use Rattle.csub_semantics.specs.declared.status.Status.TheVariants.{Trap}
 use Rattle.csub_objects.specs.Types.{Name, number_type, MemberTree, IsNumber}
 use Rattle.csub_semantics.specs.Trees.{NamedExpr, NamedArg, value_argument, reading, assignment, variable, object, temporary}
-use Rattle.csub_semantics.specs.Labels.{LabelTree, enters, exits, evaluates, initialises, branches, returns, calls, CallTree, InitTree, one_value}
+use Rattle.csub_semantics.specs.Labels.{LabelTree, enters, exits, evaluates, initialises, branches, switches, returns, jumps, halts, calls, CallTree, InitTree, one_value}
 use Rattle.csub_semantics.specs.Syntax.{LocalTree, FunctionTree, ProgramTree}
 use Rattle.csub_semantics.specs.Points.{ExitTree, next, on_true, on_false}
 use Rattle.csub_semantics.specs.Flows.{function_of}
@@ -25,7 +25,7 @@ use Rattle.csub_flat.specs.Frames.{frame_size, globals_of}
 use Rattle.csub_slots.specs.Memory.{most_slot, flat}
 use Rattle.csub_flat.specs.Flatten.{flat_variable, flattened, flat_parameter, flat_arg, paired, flat_init}
 use Rattle.csub_flat.specs.Fits.{HasParam, FitsExpr, FitsArg, FitsRule, FitsCall, FitsLabel}
-use Rattle.csub_slots.specs.Acts.{FlatStore, FlatOutcome, leaves, pushes, pops, ends, flat_after, flat_argument, flat_arguments, flat_entered, flat_call, flat_leave, flat_exit, flat_act}
+use Rattle.csub_slots.specs.Acts.{FlatStore, FlatOutcome, leaves, gives, pushes, pops, ends, flat_after, flat_argument, flat_arguments, flat_entered, flat_call, flat_leave, flat_exit, flat_act}
 use Rattle.csub_flat.specs.Trees.{FlatArg, FlatCall, FlatLabel}
 use Rattle.csub_flat.specs.Copies.{IsFlatCall, IsFlat}
 use Rattle.csub_flat.proofs.LawsSized.{number_sized}
@@ -38,6 +38,7 @@ use Rattle.csub_slots.proofs.LawsFrames.{enter_stands, leave_stands, entered_sta
 -- outcomes over named cells and over slots that are alike
 pub data LikeOutcome (P : ProgramTree) (f : FunctionTree) (below : List FunctionTree) : the.Outcome → FlatOutcome → Type 0 where
   both_leave : {x : ExitTree} {r : Option ℤ} {s : Store} {s' : FlatStore} → Like (globals_of P) (f ∷ below) s s' → LikeOutcome P f below (the.leaves x r s) (leaves x r s')
+  both_give : {v : ℤ} {s : Store} {s' : FlatStore} → Like (globals_of P) (f ∷ below) s s' → LikeOutcome P f below (the.gives v s) (gives v s')
   both_push : {g : Name} {callee : FunctionTree} {e b : ℕ} {s : Store} {s' : FlatStore} → function_of P g ≡ Some callee → IsEntry P g e → b ≡ live_size (globals_of P) (f ∷ below) → Like (globals_of P) (callee ∷ f ∷ below) s s' → LikeOutcome P f below (the.pushes g s) (pushes e b s')
   both_pop : {r : Option ℤ} {s : Store} {s' : FlatStore} → Like (globals_of P) below s s' → LikeOutcome P f below (the.pops r s) (pops r s')
   both_end : {t : Status} {s : Store} {s' : FlatStore} → SameText s s' → LikeOutcome P f below (the.ends t s) (ends t s')
@@ -158,9 +159,15 @@ module _ (P : ProgramTree) (f : FunctionTree) (below : List FunctionTree) (few :
       subst (λ k. LikeOutcome P f below (act (initialises owner t init) n r s) (flat_act k n base r s')) (sym copy) (init_like owner t init n r s s' same fit like)
   copied_like (branches e) m n r s s' en same fit copy like =
       subst (λ k. LikeOutcome P f below (act (branches e) n r s) (flat_act k n base r s')) (sym copy) (after_same (eval_like (n - 1) e s s' same fit like) (λ v u u' l. branch_like (int_eq v (pos 0)) r u u' l))
+  copied_like (switches e) m n r s s' en same fit copy like =
+      subst (λ k. LikeOutcome P f below (act (switches e) n r s) (flat_act k n base r s')) (sym copy) (after_same (eval_like (n - 1) e s s' same fit like) (λ v u u' l. both_give l))
   copied_like (returns None) m n r s s' en same fit copy like = subst (λ k. LikeOutcome P f below (act (returns None) n r s) (flat_act k n base r s')) (sym copy) (both_leave like)
   copied_like (returns (Some a)) m n r s s' en same fit copy like =
       subst (λ k. LikeOutcome P f below (act (returns (Some a)) n r s) (flat_act k n base r s')) (sym copy) (after_same (eval_like (n - 1) a.value s s' same fit like) (λ v u u' l. both_leave l))
+  copied_like jumps m n r s s' en same fit copy like = subst (λ k. LikeOutcome P f below (act jumps n r s) (flat_act k n base r s')) (sym copy) (both_leave like)
+  copied_like (halts e) m n r s s' en same fit copy like =
+      subst (λ k. LikeOutcome P f below (act (halts e) n r s) (flat_act k n base r s')) (sym copy)
+      (after_same (eval_like (n - 1) e s s' same fit like) (λ v u u' l. both_end (record { input = l.input; output = l.output })))
   copied_like (calls c) m n r s s' en same fit copy like =
       subst (λ k. LikeOutcome P f below (act (calls c) n r s) (flat_act k n base r s')) (sym copy.1) (call_like c copy.0 n s s' en same fit copy.2 like)
 
@@ -181,9 +188,26 @@ module _ (P : ProgramTree) (f : FunctionTree) (below : List FunctionTree) where
   left o o' x r s' (both_leave {x = y} {r = q} {s = s} {s' = t} l) e =
       let a : y ≡ x = cc in let b : q ≡ r = cc in let c : t ≡ s' = cc in
       record { store = s; is = ap (λ z. the.leaves z q s) a ∙ ap (λ z. the.leaves x z s) b; like = subst (Like (globals_of P) (f ∷ below) s) c l }
+  left o o' x r s' (both_give l) e = let h : ⊥ = cc in absurd h
   left o o' x r s' (both_push d i b l) e = let h : ⊥ = cc in absurd h
   left o o' x r s' (both_pop l) e = let h : ⊥ = cc in absurd h
   left o o' x r s' (both_end l) e = let h : ⊥ = cc in absurd h
+
+  -- a value is given alike
+  pub record Valued (o : the.Outcome) (v : ℤ) (s' : FlatStore) : Type 0 where
+    pub store : Store
+    pub is : o ≡ the.gives v store
+    pub like : Like (globals_of P) (f ∷ below) store s'
+
+  -- where the outcome over slots is that
+  pub valued : (o : the.Outcome) (o' : FlatOutcome) (v : ℤ) (s' : FlatStore) → LikeOutcome P f below o o' → o' ≡ gives v s' → Valued o v s'
+  valued o o' v s' (both_leave l) e = let h : ⊥ = cc in absurd h
+  valued o o' v s' (both_give {v = w} {s = s} {s' = t} l) e =
+      let a : w ≡ v = cc in let b : t ≡ s' = cc in
+      record { store = s; is = ap (λ z. the.gives z s) a; like = subst (Like (globals_of P) (f ∷ below) s) b l }
+  valued o o' v s' (both_push d i b l) e = let h : ⊥ = cc in absurd h
+  valued o o' v s' (both_pop l) e = let h : ⊥ = cc in absurd h
+  valued o o' v s' (both_end l) e = let h : ⊥ = cc in absurd h
 
   -- a frame of the callee comes on top alike
   pub record Pushed (o : the.Outcome) (n b : ℕ) (s' : FlatStore) : Type 0 where
@@ -199,6 +223,7 @@ module _ (P : ProgramTree) (f : FunctionTree) (below : List FunctionTree) where
   -- where the outcome over slots is that
   pub pushed : (o : the.Outcome) (o' : FlatOutcome) (n b : ℕ) (s' : FlatStore) → LikeOutcome P f below o o' → o' ≡ pushes n b s' → Pushed o n b s'
   pushed o o' n b s' (both_leave l) e = let h : ⊥ = cc in absurd h
+  pushed o o' n b s' (both_give l) e = let h : ⊥ = cc in absurd h
   pushed o o' n b s' (both_push {g = g} {callee = k} {e = m} {b = c} {s = s} {s' = t} d i h l) e =
       let p : m ≡ n = cc in let q : c ≡ b = cc in let u : t ≡ s' = cc in
       record { store = s; name = g; callee = k; is = refl; defined = d; entry = subst (IsEntry P g) p i; base = sym q ∙ h; like = subst (Like (globals_of P) (k ∷ f ∷ below) s) u l }
@@ -214,6 +239,7 @@ module _ (P : ProgramTree) (f : FunctionTree) (below : List FunctionTree) where
   -- where the outcome over slots is that
   pub popped : (o : the.Outcome) (o' : FlatOutcome) (r : Option ℤ) (s' : FlatStore) → LikeOutcome P f below o o' → o' ≡ pops r s' → Popped o r s'
   popped o o' r s' (both_leave l) e = let h : ⊥ = cc in absurd h
+  popped o o' r s' (both_give l) e = let h : ⊥ = cc in absurd h
   popped o o' r s' (both_push d i b l) e = let h : ⊥ = cc in absurd h
   popped o o' r s' (both_pop {r = q} {s = s} {s' = t} l) e =
       let b : q ≡ r = cc in let c : t ≡ s' = cc in
@@ -229,6 +255,7 @@ module _ (P : ProgramTree) (f : FunctionTree) (below : List FunctionTree) where
   -- where the outcome over slots is that
   pub ended : (o : the.Outcome) (o' : FlatOutcome) (t : Status) (s' : FlatStore) → LikeOutcome P f below o o' → o' ≡ ends t s' → Ended o t s'
   ended o o' t s' (both_leave l) e = let h : ⊥ = cc in absurd h
+  ended o o' t s' (both_give l) e = let h : ⊥ = cc in absurd h
   ended o o' t s' (both_push d i b l) e = let h : ⊥ = cc in absurd h
   ended o o' t s' (both_pop l) e = let h : ⊥ = cc in absurd h
   ended o o' t s' (both_end {t = u} {s = s} {s' = v} l) e =

@@ -4,15 +4,17 @@ use Rattle.std.proofs.lemmas.Bool.{leb-false}
 use Rattle.csub_types.specs.Kinds.{convert}
 use Rattle.csub_semantics.specs.declared.label.EndRule.{EndRule}
 use Rattle.csub_semantics.specs.declared.status.Status.TheVariants.{Exit, Trap}
-use Rattle.csub_semantics.specs.Trees.{reading, variable, NamedArg}
+use Rattle.csub_semantics.specs.Trees.{NamedPlace, NamedExpr, NamedExprs, NamedArg, variable, element_place, member_place, value_argument}
+use Rattle.csub_semantics.specs.Trees.{constant, reading, unary_operation, conversion, stepping, operation, conjunction, disjunction, choice}
+use Rattle.csub_semantics.specs.Trees.{assignment, update, input_byte, output_byte, formatted, no_expr, more_exprs, expr_count}
 use Rattle.csub_semantics.specs.Points.{next, on_true, on_false}
 use Rattle.csub_semantics.specs.Evaluation.{eval}
-use Rattle.csub_flat.specs.Trees.{FlatVariable, FlatCall, FlatLabel, goes_on, leaves_by, does, tests, answers, enters_callee}
+use Rattle.csub_flat.specs.Trees.{FlatVariable, FlatArg, FlatCall, FlatLabel, goes_on, leaves_by, does, tests, chooses, answers, halts, enters_callee}
 use Rattle.csub_slots.specs.Memory.{flat}
-use Rattle.std.proofs.lemmas.List.Elements.{All-head, All-tail}
+use Rattle.std.proofs.lemmas.List.Elements.{All-nil, All-cons, All-head, All-tail}
 use Rattle.csub_types.specs.declared.trap.Trap.TheVariants.{Depth}
 use Rattle.csub_objects.specs.Types.{MemberTree}
-use Rattle.csub_semantics.specs.Labels.{LabelTree, enters, exits, evaluates, initialises, branches, returns, calls}
+use Rattle.csub_semantics.specs.Labels.{LabelTree, enters, exits, evaluates, initialises, branches, switches, returns, jumps, halts, calls, InitTree, one_value}
 use Rattle.csub_semantics.specs.Syntax.{LocalTree, FunctionTree, ProgramTree}
 use Rattle.csub_semantics.specs.Memory.{Answer, value, trapped, low_byte}
 use Rattle.csub_semantics.specs.Acts.{most_frames}
@@ -21,11 +23,11 @@ use Rattle.csub_validity.specs.Valid.{IsValid, most_parameters}
 use Rattle.csub_flat.proofs.LawsSites.{found_has}
 use Rattle.csub_slots.specs.Layout.{empty, live_size}
 use Rattle.csub_flat.specs.Frames.{objects_size, frame_size, globals_of}
-use Rattle.csub_flat.specs.Fits.{FitsLabel, FitsCall}
-use Rattle.csub_slots.specs.Acts.{FlatStore, FlatOutcome, leaves, pushes, pops, ends, flat_after, flat_arguments, flat_entered, flat_exit, flat_act}
-use Rattle.csub_flat.specs.Flatten.{paired}
+use Rattle.csub_flat.specs.Fits.{FitsPlace, FitsExpr, FitExprs, FitsArg, FitsInit, FitsLabel, FitsCall}
+use Rattle.csub_slots.specs.Acts.{FlatStore, FlatOutcome, leaves, gives, pushes, pops, ends, flat_after, flat_arguments, flat_entered, flat_exit, flat_act}
+use Rattle.csub_flat.specs.Flatten.{flat_place, flattened, flattened_row, flat_parameter, flat_init, paired}
 use Rattle.csub_flat.specs.Copies.{IsFlatCall, IsFlat}
-use Rattle.csub_slots.specs.States.{FitsMost}
+use Rattle.csub_slots.specs.States.{FewAtPlace, FewValues, FewInRow, FitsMost}
 
 -- live frames have room for the greatest each
 pub live_room : (gs : List LocalTree) (fs : List FunctionTree) (most : ℕ) → All (λ f. frame_size f ≤ most) fs → live_size gs fs ≤ objects_size gs + length fs * most
@@ -41,6 +43,51 @@ paired_few gs f g [] args = omega arith
 paired_few gs f g (p ∷ params) [] = omega arith
 paired_few gs f g (p ∷ params) (a ∷ args) = let h = paired_few gs f g params args in omega arith
 
+module _ (gs : List LocalTree) (f : FunctionTree) where
+  row_count : (es : NamedExprs) → expr_count (flattened_row gs f es) ≡ expr_count es
+  row_count no_expr = refl
+  row_count (more_exprs e rest) = ap (λ n. n + 1) (row_count rest)
+
+  -- what fits has few values, and so has its flat copy
+  mutual
+    place_few : (p : NamedPlace) → FitsPlace gs f p → FewAtPlace (flat_place gs f p)
+    place_few (variable v) h = tt
+    place_few (element_place u p e) h = (place_few p h.0, expr_few e h.1)
+    place_few (member_place a p) h = place_few p h
+
+    expr_few : (e : NamedExpr) → FitsExpr gs f e → FewValues (flattened gs f e)
+    expr_few (constant k v) h = tt
+    expr_few (reading p) h = place_few p h.1
+    expr_few (unary_operation op k a) h = expr_few a h
+    expr_few (conversion k a) h = expr_few a h
+    expr_few (stepping op p) h = place_few p h.1
+    expr_few (operation op k a b) h = (expr_few a h.0, expr_few b h.1)
+    expr_few (conjunction a b) h = (expr_few a h.0, expr_few b h.1)
+    expr_few (disjunction a b) h = (expr_few a h.0, expr_few b h.1)
+    expr_few (choice k c a b) h = (expr_few c h.0, expr_few a h.1, expr_few b h.2)
+    expr_few (assignment p e) h = (place_few p h.1, expr_few e h.2)
+    expr_few (update p op k e) h = (place_few p h.1, expr_few e h.2)
+    expr_few input_byte h = tt
+    expr_few (output_byte e) h = expr_few e h
+    expr_few (formatted pieces es) h = let few = h.0 in let same = row_count es in (omega arith, row_few es h.1)
+
+    row_few : (es : NamedExprs) → FitExprs gs f es → FewInRow (flattened_row gs f es)
+    row_few no_expr h = tt
+    row_few (more_exprs e rest) h = (expr_few e h.0, row_few rest h.1)
+
+  abbrev HasFew : FlatArg → Type 0
+  HasFew a = FewValues a.value
+
+  args_few : (g : FunctionTree) (params : List MemberTree) (args : List NamedArg) → All (FitsArg gs f) args → All HasFew (paired gs f g params args)
+  args_few g [] args h = All-nil HasFew
+  args_few g (p ∷ params) [] h = All-nil HasFew
+  args_few g (p ∷ params) (value_argument e ∷ args) h =
+      let rest = args_few g params args (All-tail (FitsArg gs f) (value_argument e) args h) in
+      All-cons HasFew (record { param = flat_parameter g p; value = flattened gs f e }) (paired gs f g params args) (expr_few e (All-head (FitsArg gs f) (value_argument e) args h)) rest
+
+  init_few : (owner : _) (t : _) (init : InitTree) → FitsInit gs f init → FewValues (flat_init gs f owner t init)
+  init_few owner t (one_value e) h = (tt, expr_few e h)
+
 module _ (P : ProgramTree) (f : FunctionTree) (most : ℕ) (valid : IsValid P) (sizes : All (λ f. frame_size f ≤ most) P.functions) where
   call_most : (c : _) (d : FlatCall) → FitsCall P f c → IsFlatCall P f c d → FitsMost most (enters_callee d)
   call_most c d fit copy =
@@ -50,22 +97,28 @@ module _ (P : ProgramTree) (f : FunctionTree) (most : ℕ) (valid : IsValid P) (
       let few = paired_few (globals_of P) f copy.callee c.params c.args in
       let args = ap length copy.args in
       let e = copy.size in
-      (omega arith, omega arith)
+      let values = args_few (globals_of P) f copy.callee c.params c.args fit.args in
+      (omega arith, omega arith, subst (λ (args : List FlatArg). All (λ a. FewValues a.value) args) (sym copy.args) values)
 
-  -- a call of a valid program has a frame no larger than the greatest, and at most 16 arguments
+  -- a call of a valid program has a frame no larger than the greatest, and at most 16 arguments; no `printf` has more than
+  -- 8 values
   pub fits_most : (l : LabelTree) (m : FlatLabel) → FitsLabel P f l → IsFlat P f l m → FitsMost most m
   fits_most enters m fit copy = subst (FitsMost most) (sym copy) tt
   fits_most (exits rule) m fit copy = subst (FitsMost most) (sym copy) tt
-  fits_most (evaluates e) m fit copy = subst (FitsMost most) (sym copy) tt
-  fits_most (initialises owner t init) m fit copy = subst (FitsMost most) (sym copy) tt
-  fits_most (branches e) m fit copy = subst (FitsMost most) (sym copy) tt
+  fits_most (evaluates e) m fit copy = subst (FitsMost most) (sym copy) (expr_few (globals_of P) f e fit)
+  fits_most (initialises owner t init) m fit copy = subst (FitsMost most) (sym copy) (init_few (globals_of P) f owner t init fit.2)
+  fits_most (branches e) m fit copy = subst (FitsMost most) (sym copy) (expr_few (globals_of P) f e fit)
+  fits_most (switches e) m fit copy = subst (FitsMost most) (sym copy) (expr_few (globals_of P) f e fit)
   fits_most (returns None) m fit copy = subst (FitsMost most) (sym copy) tt
-  fits_most (returns (Some a)) m fit copy = subst (FitsMost most) (sym copy) tt
+  fits_most (returns (Some a)) m fit copy = subst (FitsMost most) (sym copy) (expr_few (globals_of P) f a.value fit)
+  fits_most jumps m fit copy = subst (FitsMost most) (sym copy) tt
+  fits_most (halts e) m fit copy = subst (FitsMost most) (sym copy) (expr_few (globals_of P) f e fit)
   fits_most (calls c) m fit copy = subst (FitsMost most) (sym copy.1) (call_most c copy.0 fit copy.2)
 
 -- only where fewer than 256 frames stand does one come on top
 abbrev pub PushesBelow : ℕ → FlatOutcome → Type 0
 PushesBelow n (leaves x r s) = Unit {0}
+PushesBelow n (gives v s) = Unit {0}
 PushesBelow n (pushes e b s) = n < most_frames
 PushesBelow n (pops r s) = Unit {0}
 PushesBelow n (ends t s) = Unit {0}
@@ -92,7 +145,9 @@ act_few goes_on n base r s = tt
 act_few (leaves_by rule v) n base r s = exit_few n rule v base r s
 act_few (does e) n base r s = after_few n (eval (flat base) e s) (λ v t. leaves next r t) (λ v t. tt)
 act_few (tests e) n base r s = after_few n (eval (flat base) e s) (λ v t. leaves (if int_eq v (pos 0) then on_false else on_true) r t) (λ v t. tt)
+act_few (chooses e) n base r s = after_few n (eval (flat base) e s) gives (λ v t. tt)
 act_few (answers k e) n base r s = after_few n (eval (flat base) e s) (λ v t. leaves next (Some (convert k v)) t) (λ v t. tt)
+act_few (halts e) n base r s = after_few n (eval (flat base) e s) (λ v t. ends (Exit (low_byte v)) t) (λ v t. tt)
 act_few (enters_callee c) n base r s =
     after_few n (flat_arguments base c.args s) (λ vs t. if nat_le most_frames n then ends (Trap Depth) t else pushes c.entry (length t.cells) (record t { cells = flat_entered (length t.cells) c.args vs (t.cells ++ replicate c.size empty) }))
     (λ vs t. depth_few n c.entry (length t.cells) t _ (nat_le most_frames n) refl)

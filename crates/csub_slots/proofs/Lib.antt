@@ -13,3 +13,4 @@ mod Evals
 mod Memories
 mod Copied
 mod Fills
+mod Texts

@@ -14,7 +14,8 @@ use Rattle.csub_semantics.specs.Memory.{State, Answer, value, trapped, then_do, 
 use Rattle.csub_semantics.specs.Evaluation.{eval}
 use Rattle.csub_semantics.specs.Acts.{most_frames}
 use Rattle.csub_slots.specs.Layout.{Slot, empty, holding}
-use Rattle.csub_flat.specs.Trees.{FlatVariable, variable_form, FlatArg, FlatCall, FlatLabel, goes_on, leaves_by, does, tests, answers, enters_callee}
+use Rattle.csub_flat.specs.Trees.{FlatVariable, variable_form, FlatArg, FlatCall, FlatLabel, goes_on, leaves_by, does, tests, chooses, answers}
+use Rattle.csub_flat.specs.Trees.{halts, enters_callee}
 use Rattle.csub_slots.specs.Memory.{flat_spot, flat}
 
 -- input left, output so far and slots
@@ -25,6 +26,8 @@ FlatStore = State (List Slot)
 pub data FlatOutcome : Type 0 where
   -- control leaves along a way out; the frame has this result from now on
   leaves : ExitTree → Option ℤ → FlatStore → FlatOutcome
+  -- the value of a `switch`, which decides its way out
+  gives : ℤ → FlatStore → FlatOutcome
   -- a frame at this entry comes on top, whose slots begin there
   pushes : ℕ → ℕ → FlatStore → FlatOutcome
   -- the top frame goes, with its result
@@ -78,7 +81,9 @@ flat_act goes_on n base r s = leaves next r s
 flat_act (leaves_by rule v) n base r s = flat_exit rule v base r s
 flat_act (does e) n base r s = flat_after (eval (flat base) e s) (λ v t. leaves next r t)
 flat_act (tests e) n base r s = flat_after (eval (flat base) e s) (λ v t. leaves (if int_eq v (pos 0) then on_false else on_true) r t)
+flat_act (chooses e) n base r s = flat_after (eval (flat base) e s) gives
 flat_act (answers k e) n base r s = flat_after (eval (flat base) e s) (λ v t. leaves next (Some (convert k v)) t)
+flat_act (halts e) n base r s = flat_after (eval (flat base) e s) (λ v t. ends (Exit (low_byte v)) t)
 flat_act (enters_callee c) n base r s = flat_call c n base s
 
 -- a result goes into the temporary's slot

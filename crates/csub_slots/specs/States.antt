@@ -1,15 +1,19 @@
 -- What a store of the code stands for, and what acts of the code answer.
-use Rattle.std.specs.Prelude.{ℕ, ℤ, ◌≡◌, ◌≤◌, length, map, drop, Result, Ok, Err}
+use Rattle.std.specs.Prelude.{ℕ, ℤ, ◌≡◌, ◌≤◌, length, map, drop, All, Result, Ok, Err}
 use Rattle.csub_types.specs.declared.trap.Trap.{Trap}
+use Rattle.csub_semantics.specs.Trees.{variable, element_place, member_place, constant, reading, unary_operation, conversion, stepping, operation}
+use Rattle.csub_semantics.specs.Trees.{conjunction, disjunction, choice, assignment, update, input_byte, output_byte, formatted}
+use Rattle.csub_semantics.specs.Trees.{no_expr, more_exprs, expr_count}
 use Rattle.csub_semantics.specs.Memory.{Answer, value, trapped}
 use Rattle.csub_semantics.specs.Points.{exit_tree}
 use Rattle.csub_semantics.specs.declared.status.Status.TheVariants.{Trap as TrapStatus}
-use Rattle.csub_flat.specs.Trees.{FlatLabel, goes_on, leaves_by, does, tests, answers, enters_callee}
+use Rattle.csub_validity.specs.Valid.{most_values}
+use Rattle.csub_flat.specs.Trees.{FlatPlace, FlatExpr, FlatExprs, FlatLabel, goes_on, leaves_by, does, tests, chooses, answers, halts, enters_callee}
 use Rattle.csub_slots.specs.Acts as the
 use Rattle.csub_slots.specs.Acts.{FlatStore}
 use Rattle.csub_slots.specs.declared.store.Store.{Store}
 use Rattle.csub_slots.specs.declared.act.Outcome.{Outcome}
-use Rattle.csub_slots.specs.declared.act.Outcome.TheVariants.{Leaves, Pushes, Pops, Ends}
+use Rattle.csub_slots.specs.declared.act.Outcome.TheVariants.{Leaves, Gives as GivesValue, Pushes, Pops, Ends}
 use Rattle.csub_slots.specs.Seen.{slot_seen}
 
 -- what a store stands for: the input from the place on, what was written, and the slots
@@ -37,16 +41,47 @@ pub record Keeps (old new : Store) : Type 0 where
 -- the same outcome, with the store that is left
 abbrev pub Acts : the.FlatOutcome → Result Outcome Trap → FlatStore → Type 0
 Acts outcome (Ok (Leaves x r)) s = outcome ≡ the.leaves (exit_tree x) r s
+Acts outcome (Ok (GivesValue v)) s = outcome ≡ the.gives v s
 Acts outcome (Ok (Pushes e b)) s = outcome ≡ the.pushes e b s
 Acts outcome (Ok (Pops r)) s = outcome ≡ the.pops r s
 Acts outcome (Ok (Ends t)) s = outcome ≡ the.ends t s
 Acts outcome (Err t) s = outcome ≡ the.ends (TrapStatus t) s
 
--- a call's frame is no larger than the greatest, and it has at most 16 arguments
+abbrev mutual
+  -- no `printf` in a place has more values than one may have
+  pub FewAtPlace : FlatPlace → Type 0
+  FewAtPlace (variable v) = Unit {0}
+  FewAtPlace (element_place part p e) = FewAtPlace p × FewValues e
+  FewAtPlace (member_place part p) = FewAtPlace p
+
+  -- nor in an expression
+  pub FewValues : FlatExpr → Type 0
+  FewValues (constant k v) = Unit {0}
+  FewValues (reading p) = FewAtPlace p
+  FewValues (unary_operation op k a) = FewValues a
+  FewValues (conversion k a) = FewValues a
+  FewValues (stepping op p) = FewAtPlace p
+  FewValues (operation op k a b) = FewValues a × FewValues b
+  FewValues (conjunction a b) = FewValues a × FewValues b
+  FewValues (disjunction a b) = FewValues a × FewValues b
+  FewValues (choice k c a b) = FewValues c × FewValues a × FewValues b
+  FewValues (assignment p e) = FewAtPlace p × FewValues e
+  FewValues (update p op k e) = FewAtPlace p × FewValues e
+  FewValues input_byte = Unit {0}
+  FewValues (output_byte e) = FewValues e
+  FewValues (formatted pieces es) = (expr_count es ≤ most_values) × FewInRow es
+
+  pub FewInRow : FlatExprs → Type 0
+  FewInRow no_expr = Unit {0}
+  FewInRow (more_exprs e rest) = FewValues e × FewInRow rest
+
+-- a call's frame is no larger than the greatest, and it has at most 16 arguments; no `printf` has more than 8 values
 abbrev pub FitsMost : ℕ → FlatLabel → Type 0
-FitsMost most (enters_callee c) = (c.size ≤ most) × (length c.args ≤ 16)
+FitsMost most (enters_callee c) = (c.size ≤ most) × (length c.args ≤ 16) × All (λ a. FewValues a.value) c.args
 FitsMost most goes_on = Unit {0}
 FitsMost most (leaves_by rule v) = Unit {0}
-FitsMost most (does e) = Unit {0}
-FitsMost most (tests e) = Unit {0}
-FitsMost most (answers k e) = Unit {0}
+FitsMost most (does e) = FewValues e
+FitsMost most (tests e) = FewValues e
+FitsMost most (chooses e) = FewValues e
+FitsMost most (answers k e) = FewValues e
+FitsMost most (halts e) = FewValues e

@@ -1,11 +1,14 @@
 //! The acts of flat labels. Nothing here takes memory.
-ghost use Rattle.std.specs.Prelude.{ℕ, ◌≡◌, ◌+◌, ◌*◌, ◌<◌, ◌≤◌, ◌++◌, [], ◌∷◌, length, map, take, replicate, vec_len, vec_capacity};
+ghost use Rattle.std.specs.Prelude.{ℕ, ◌≡◌, ◌+◌, ◌*◌, ◌<◌, ◌≤◌, ◌++◌, [], ◌∷◌, length, map, take, All, replicate, vec_len, vec_capacity};
 ghost use Rattle.csub_semantics.specs.declared.label.EndRule.{EndRule as Rule};
+ghost use Rattle.csub_semantics.specs.declared.status.Status.TheVariants.{Exit};
+ghost use Rattle.csub_semantics.specs.Memory.{low_byte};
+ghost use Rattle.csub_slots.specs.declared.act.Outcome.TheVariants.{Ends};
 ghost use Rattle.csub_slots.specs.Layout as layout;
 ghost use Rattle.csub_slots.specs.Acts.{flat_act, flat_call, flat_exit, flat_arguments, flat_entered, flat_result};
 ghost use Rattle.csub_flat.specs.Seen.{variable_seen, arg_seen, call_seen, label_seen};
 ghost use Rattle.csub_slots.specs.Seen.{slot_seen};
-ghost use Rattle.csub_slots.specs.States.{state_of, Gives, Acts, Keeps, FitsMost};
+ghost use Rattle.csub_slots.specs.States.{state_of, Gives, Acts, Keeps, FewValues, FitsMost};
 
 use crate::eval::{eval, fetch, put_at};
 use crate::slot::Slot;
@@ -23,6 +26,8 @@ const MOST_FRAMES: u32 = 256;
 pub enum Outcome {
     /// Control leaves along a way out; the frame has this result from now on.
     Leaves(ExitLabel, Option<i64>),
+    /// The value of a `switch`, which decides its way out.
+    Gives(i64),
     /// A frame comes on top, at this entry, with its slots from a base on.
     Pushes(u32, u32),
     /// The top frame goes, with its result.
@@ -62,12 +67,27 @@ pub fn act(
             };
             Ok(Outcome::Leaves(exit, answer))
         }
+        FlatLabel::Switch(expr) => {
+            let value = eval(store, base, expr)?;
+            Ok(Outcome::Gives(value))
+        }
         FlatLabel::Return(kind, expr) => {
             let given = eval(store, base, expr)?;
             Ok(Outcome::Leaves(ExitLabel::Next, Some(convert(*kind, given))))
         }
+        FlatLabel::Halt(expr) => {
+            let value = eval(store, base, expr)?;
+            Ok(end_with(value))
+        }
         FlatLabel::Call(call) => act_call(store, call, count, base),
     }
+}
+
+/// The end of the run with the low 8 bits of a value (C11 7.22.4.4).
+fn end_with(value: i64) -> Outcome
+    ensures { result ≡ Ends (Exit (low_byte value)) }
+{
+    Outcome::Ends(Status::Exit(value.rem_euclid(256) as u8))
 }
 
 /// The act at the end of a function.
@@ -94,7 +114,7 @@ fn act_exit(
         },
         EndRule::Start => {
             let value = fetch(store, stand(base as usize, first))?;
-            return Ok(Outcome::Ends(Status::Exit(value.rem_euclid(256) as u8)));
+            return Ok(end_with(value));
         }
     };
     leave(store, base);
@@ -116,6 +136,7 @@ fn act_call(store: &mut Store, call: &FlatCall, count: u32, base: u32) -> Result
     requires room { length store.old.slots.items ≤ store.old.sizes.globals + count * store.old.sizes.most }
     requires size { call.now.size ≤ store.old.sizes.most }
     requires args { length (map arg_seen call.now.args.items) ≤ 16 }
+    requires values { All (λ a. FewValues a.value) (map arg_seen call.now.args.items) }
     ensures value { Acts (flat_call (call_seen call.now) count base (state_of store.old)) result (state_of store.new) }
     ensures input { store.new.input.items ≡ store.old.input.items }
     ensures sizes { store.new.sizes ≡ store.old.sizes }
@@ -131,7 +152,8 @@ fn act_call(store: &mut Store, call: &FlatCall, count: u32, base: u32) -> Result
 
 /// What the arguments of a call give to its parameters, from left to right, goes into the store's values.
 fn eval_args(store: &mut Store, base: u32, args: &[FlatArg]) -> Result<(), Trap>
-    requires { length (map arg_seen args.now) ≤ 16 }
+    requires few { length (map arg_seen args.now) ≤ 16 }
+    requires each { All (λ a. FewValues a.value) (map arg_seen args.now) }
     ensures value { Gives (λ _. store.new.values.items) (flat_arguments base (map arg_seen args.now) (state_of store.old)) result (state_of store.new) }
     ensures input { store.new.input.items ≡ store.old.input.items }
     ensures sizes { store.new.sizes ≡ store.old.sizes }

@@ -1,26 +1,29 @@
 //! What expressions give, over slots. Nothing here takes memory.
-ghost use Rattle.std.specs.Prelude.{ℕ, ◌≡◌, map, pos, slice_index_or, slice_set, Ok};
+ghost use Rattle.std.specs.Prelude.{ℕ, ◌≡◌, ◌≤◌, [], length, map, All, slice_index_or, slice_set, Ok};
 ghost use Rattle.csub_types.specs.Kinds.{promote, convert};
 ghost use Rattle.csub_types.specs.Arithmetic.{unary, binary};
-ghost use Rattle.csub_semantics.specs.Memory.{value, then_do, get_byte, put_byte, low_byte};
+ghost use Rattle.csub_semantics.specs.Trees.{formatted, exprs_of};
+ghost use Rattle.csub_semantics.specs.Memory.{value, then_do, get_byte};
 ghost use Rattle.csub_semantics.specs.Evaluation as the;
-ghost use Rattle.csub_semantics.specs.Evaluation.{right_operand, is_nonzero, locate, eval, fetch};
+ghost use Rattle.csub_semantics.specs.Evaluation.{right_operand, is_nonzero, locate, eval, eval_all, fetch};
 ghost use Rattle.csub_slots.specs.Layout as layout;
 ghost use Rattle.csub_slots.specs.Memory.{flat, spots};
 ghost use Rattle.csub_flat.specs.Seen.{place_seen, expr_seen};
 ghost use Rattle.csub_slots.specs.Seen.{slot_seen, spot_seen};
-ghost use Rattle.csub_slots.specs.States.{state_of, Gives, same, nothing, Keeps};
+ghost use Rattle.csub_slots.specs.States.{state_of, Gives, same, Keeps, FewAtPlace, FewValues};
 
+use crate::output::{write_format, write_low};
 use crate::slot::Slot;
 use crate::spot::{Spot, element, member, stand};
 use crate::store::Store;
+use arrayvec::ArrayVec;
 use csub_flat::{FlatExpr, FlatPlace};
-use csub_semantics::{BinOp, IntKind, StepOp, Trap, UnaryOp};
+use csub_semantics::{BinOp, IntKind, Piece, StepOp, Trap, UnaryOp};
 use csub_types::arithmetic::{binary, unary};
 use csub_types::kind::{convert, promote};
 
-/// How many bytes a run may write.
-const MOST_OUTPUT: usize = 16_384;
+/// The most values of a `printf`.
+const MOST_VALUES: usize = 8;
 
 /// An operation in a kind, to which its operands are converted first.
 fn compute(op: BinOp, kind: IntKind, left: i64, right: i64) -> Result<i64, Trap>
@@ -84,29 +87,6 @@ fn next_byte(store: &mut Store) -> i64
     }
 }
 
-/// Writes a byte, for which there is room; past 16,384 bytes it is the trap `flood`.
-fn write_byte(store: &mut Store, byte: u8) -> Result<(), Trap>
-    ensures value { Gives nothing (put_byte byte (state_of store.old)) result (state_of store.new) }
-    ensures kept { Keeps store.old store.new }
-{
-    if store.output.len() < MOST_OUTPUT {
-        store.output.push(byte).unwrap();
-        Ok(())
-    } else {
-        Err(Trap::Flood)
-    }
-}
-
-/// Writes the low 8 bits of a number, and gives them as an unsigned byte.
-fn write_low(store: &mut Store, number: i64) -> Result<i64, Trap>
-    ensures value { Gives same (then_do (put_byte (low_byte number) (state_of store.old)) (λ x u. value (pos (low_byte number)) u)) result (state_of store.new) }
-    ensures kept { Keeps store.old store.new }
-{
-    let byte = number.rem_euclid(256) as u8;
-    write_byte(store, byte)?;
-    Ok(i64::from(byte))
-}
-
 /// The number at a spot, in the kind that is declared there; one that was never written is the trap `unset`.
 pub fn fetch(store: &Store, spot: Spot) -> Result<i64, Trap>
     ensures { Gives same (fetch spots (spot_seen spot) (state_of store.now)) result (state_of store.now) }
@@ -148,6 +128,7 @@ fn step(store: &mut Store, op: StepOp, spot: Spot) -> Result<i64, Trap>
 /// Where a place is for the frame at a base; an index comes behind the place that it stands on.
 #[cycle(expressions)]
 fn locate(store: &mut Store, base: u32, place: &FlatPlace) -> Result<Spot, Trap>
+    requires { FewAtPlace (place_seen place.now) }
     ensures value { Gives spot_seen (locate (flat base) (place_seen place.now) (state_of store.old)) result (state_of store.new) }
     ensures kept { Keeps store.old store.new }
 {
@@ -168,6 +149,7 @@ fn locate(store: &mut Store, base: u32, place: &FlatPlace) -> Result<Spot, Trap>
 /// What an expression gives for the frame at a base (C11 6.5).
 #[cycle(expressions)]
 pub fn eval(store: &mut Store, base: u32, expr: &FlatExpr) -> Result<i64, Trap>
+    requires { FewValues (expr_seen expr.now) }
     ensures value { Gives same (eval (flat base) (expr_seen expr.now) (state_of store.old)) result (state_of store.new) }
     ensures kept { Keeps store.old store.new }
 {
@@ -223,12 +205,52 @@ pub fn eval(store: &mut Store, base: u32, expr: &FlatExpr) -> Result<i64, Trap>
             let value = eval(store, base, inner)?;
             write_low(store, value)
         }
+        FlatExpr::Printf(pieces, exprs) => eval_format(store, base, pieces, exprs),
     }
+}
+
+/// What `printf` gives: it evaluates all its values, and then writes (C11 7.21.6.3).
+#[cycle(expressions)]
+fn eval_format(
+    store: &mut Store,
+    base: u32,
+    pieces: &[Piece],
+    exprs: &[FlatExpr],
+) -> Result<i64, Trap>
+    requires few { length exprs.now ≤ 8 }
+    requires each { All FewValues (map expr_seen exprs.now) }
+    ensures value { Gives same (eval (flat base) (formatted pieces.now (exprs_of (map expr_seen exprs.now))) (state_of store.old)) result (state_of store.new) }
+    ensures kept { Keeps store.old store.new }
+{
+    let mut values = ArrayVec::new();
+    eval_values(store, base, exprs, &mut values)?;
+    write_format(store, pieces, values.as_slice())
+}
+
+/// What expressions give, from left to right.
+#[cycle(expressions)]
+fn eval_values(
+    store: &mut Store,
+    base: u32,
+    exprs: &[FlatExpr],
+    values: &mut ArrayVec<i64, MOST_VALUES>,
+) -> Result<(), Trap>
+    requires few { length exprs.now ≤ 8 }
+    requires empty { values.old.items ≡ [] }
+    requires each { All FewValues (map expr_seen exprs.now) }
+    ensures value { Gives (λ _. values.new.items) (eval_all (flat base) (exprs_of (map expr_seen exprs.now)) (state_of store.old)) result (state_of store.new) }
+    ensures kept { Keeps store.old store.new }
+{
+    for expr in exprs {
+        values.push(eval(store, base, expr)?);
+    }
+    Ok(())
 }
 
 /// What an expression gives, converted to a kind.
 #[cycle(expressions)]
 fn eval_as(store: &mut Store, base: u32, kind: IntKind, expr: &FlatExpr) -> Result<i64, Trap>
+    requires { FewValues (expr_seen expr.now) }
     ensures value { Gives same (then_do (eval (flat base) (expr_seen expr.now) (state_of store.old)) (λ w u. value (convert kind w) u)) result (state_of store.new) }
     ensures kept { Keeps store.old store.new }
 {
@@ -239,6 +261,7 @@ fn eval_as(store: &mut Store, base: u32, kind: IntKind, expr: &FlatExpr) -> Resu
 /// Whether what an expression gives isn't 0, as 1 or 0.
 #[cycle(expressions)]
 fn eval_truth(store: &mut Store, base: u32, expr: &FlatExpr) -> Result<i64, Trap>
+    requires { FewValues (expr_seen expr.now) }
     ensures value { Gives same (then_do (eval (flat base) (expr_seen expr.now) (state_of store.old)) (λ w u. value (is_nonzero w) u)) result (state_of store.new) }
     ensures kept { Keeps store.old store.new }
 {

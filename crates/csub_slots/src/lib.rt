@@ -13,12 +13,13 @@
 //! Proofs above cite `proofs/LawsActs`: the act of a flat copy is like the act of its label over named cells, where no
 //! more slots are live than can be numbered;
 //! `proofs/LawsFrames`: how frames come and go, and where results go; `proofs/LawsBegins`: the slots at the beginning of a
-//! run stand for its first cells; and `proofs/LawsBounds`: what bounds frames, arguments and slots.
+//! run stand for its first cells; and `proofs/LawsBounds`: what bounds frames, arguments, values of a `printf` and slots.
 #![tactic(auto)]
 
 pub mod act;
 mod begin;
 mod eval;
+mod output;
 mod slot;
 mod spot;
 mod store;

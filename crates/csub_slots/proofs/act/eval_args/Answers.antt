@@ -1,7 +1,12 @@
 use Rattle.std.proofs.Common.{rules}
-use Rattle.csub_slots.specs.States.{state_of}
+use Rattle.csub_flat.specs.Seen.{arg_seen}
+use Rattle.csub_flat.proofs.LawsRows.{mapped_has}
+use Rattle.csub_slots.specs.States.{state_of, FewValues}
 use Rattle.csub_slots.proofs.Fills.{args_more}
 use Rattle.csub_slots.proofs.act.eval_args.Goals as goal
+
+pub eval-requires : goal.eval-requires
+eval-requires c = mapped_has (λ a. FewValues a.value) arg_seen c.args.args.now c.loop-arg.arg-index c.arg-item.result c.requires.each c.loop-arg-test.true c.arg-item.is
 
 pub loop-arg-preserved : goal.loop-arg-preserved
 loop-arg-preserved c = record {
