@@ -9,12 +9,12 @@ use Rattle.csub_semantics.specs.declared.label.EndRule.TheVariants.{Nothing, Val
 use Rattle.csub_semantics.specs.declared.status.Status.TheVariants.{Trap}
 use Rattle.csub_objects.specs.Types.{number_kind, MemberTree}
 use Rattle.csub_semantics.specs.Trees.{NamedArg, value_argument, reading, assignment, variable, object, temporary}
-use Rattle.csub_semantics.specs.Labels.{LabelTree, enters, exits, evaluates, initialises, branches, returns, calls, AnswerTree, CallTree, one_value}
+use Rattle.csub_semantics.specs.Labels.{LabelTree, enters, exits, evaluates, initialises, branches, switches, returns, jumps, halts, calls, AnswerTree, CallTree, one_value}
 use Rattle.csub_semantics.specs.Memory.{Answer}
 use Rattle.csub_semantics.specs.Cells.{Root, Content, entered}
 use Rattle.csub_semantics.specs.Acts.{Store, Outcome, pushes, ends, after_value, argument_content, argument_contents, most_frames, act_exit, act_return, act_call, act}
 use Rattle.call_walk.specs.Shared.{Agree}
-use Rattle.call_walk.specs.Locality.{HasFrames, CoversArg, CoversAnswer, CoversLabel, SameOutcome, both_leave, both_push, both_pop, both_end, ActsAreLocal}
+use Rattle.call_walk.specs.Locality.{HasFrames, CoversArg, CoversAnswer, CoversLabel, SameOutcome, both_leave, both_give as both_decide, both_push, both_pop, both_end, ActsAreLocal}
 use Rattle.call_walk.proofs.Agreeing.{IsInside, AreInside, number_inside, agree_dropped, agree_entered}
 use Rattle.call_walk.proofs.Evaluating.{SameAnswer, both_give, both_trap, then_same, same_eval}
 
@@ -63,7 +63,10 @@ module _ (S : Root → Bool) (frames : HasFrames S) where
   same_act (initialises owner t (one_value e)) covers n r s s' agree =
       after_same (same_eval S frames (n - 1) (assignment (variable (object owner t)) e) s s' covers agree) (λ v u u' q z. both_leave z)
   same_act (branches e) covers n r s s' agree = after_same (same_eval S frames (n - 1) e s s' covers agree) (λ v t t' q z. both_leave z)
+  same_act (switches e) covers n r s s' agree = after_same (same_eval S frames (n - 1) e s s' covers agree) (λ v t t' q z. both_decide z)
   same_act (returns answer) covers n r s s' agree = same_return answer n r s s' covers agree
+  same_act jumps covers n r s s' agree = both_leave agree
+  same_act (halts e) covers n r s s' agree = after_same (same_eval S frames (n - 1) e s s' covers agree) (λ v t t' q z. both_end z)
   same_act (calls c) covers n r s s' agree = same_call c n s s' covers agree
 
 pub acts_are_local : ActsAreLocal

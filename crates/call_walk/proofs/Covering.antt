@@ -9,23 +9,23 @@ use Rattle.std.proofs.lemmas.Bool.{and_from}
 use Rattle.std.proofs.lemmas.List.Elements.{All-nil, All-cons, All-head, All-tail, recursion_from_All}
 use Rattle.std.specs.Cmp.Rules.{signed_items}
 use Rattle.csub_validity.specs.declared.role.Role.{Role}
-use Rattle.csub_validity.specs.declared.role.Role.TheVariants.{Whole, Test, Effect}
+use Rattle.csub_validity.specs.declared.role.Role.TheVariants.{Whole, Test, Switch, Effect}
 use Rattle.csub_objects.specs.Types.{Name, TypeTree, type_eq, MemberTree}
 use Rattle.csub_semantics.specs.Types.{name_eq, GlobalTree}
-use Rattle.csub_semantics.specs.Globals.{owner_names, variable_names, place_names, expr_names, arg_names, init_names, label_names, global_of, named_globals}
-use Rattle.csub_semantics.specs.Trees.{OwnerTree, global_owner, local_owner, Variable, object, temporary, NamedPlace, variable, element_place, member_place, NamedExpr, constant, reading, unary_operation, conversion, stepping, operation, conjunction, disjunction, choice, assignment, update, input_byte, output_byte, NamedArg, value_argument}
-use Rattle.csub_semantics.specs.Labels.{LabelTree, enters, exits, evaluates, initialises, branches, returns, calls, PointLabel, CallTree, AnswerTree, InitTree, one_value}
+use Rattle.csub_semantics.specs.Globals.{owner_names, variable_names, place_names, expr_names, exprs_names, arg_names, init_names, label_names, global_of, named_globals}
+use Rattle.csub_semantics.specs.Trees.{OwnerTree, global_owner, local_owner, Variable, object, temporary, NamedPlace, variable, element_place, member_place, NamedExpr, constant, reading, unary_operation, conversion, stepping, operation, conjunction, disjunction, choice, assignment, update, input_byte, output_byte, formatted, NamedExprs, no_expr, more_exprs, NamedArg, value_argument}
+use Rattle.csub_semantics.specs.Labels.{LabelTree, enters, exits, evaluates, initialises, branches, switches, returns, jumps, halts, calls, PointLabel, CallTree, AnswerTree, InitTree, one_value}
 use Rattle.csub_semantics.specs.Syntax.{LocalTree, FunctionTree, ProgramTree}
 use Rattle.csub_semantics.specs.Points.{PointTree}
 use Rattle.csub_semantics.specs.Flows.{Flow, flow_of}
 use Rattle.csub_semantics.specs.Cells.{Root, global_root, local_root, temp_root}
-use Rattle.csub_validity.specs.Valid.{Scope, scope_of, IsObject, IsVariable, IsPlace, IsExpr, AreArgs, IsCall, IsAnswer, IsInitialised, IsLast, IsValid}
+use Rattle.csub_validity.specs.Valid.{Scope, scope_of, IsObject, IsVariable, IsPlace, IsExpr, AreExprs, AreArgs, IsCall, IsAnswer, IsInitialised, IsLast, IsValid}
 use Rattle.program_laws.proofs.LawsFlows.{labelled_at}
 use Rattle.program_laws.proofs.LawsNames.{same_name}
 use Rattle.program_laws.proofs.LawsGlobals.{Among, among_left, among_right, named_is_listed, type_itself}
 use Rattle.program_laws.proofs.LawsNodes.{MayStand}
 use Rattle.call_walk.specs.Shared.{declared_alike, shared}
-use Rattle.call_walk.specs.Locality.{CoversOwner, CoversVariable, CoversPlace, CoversExpr, CoversArg, CoversAnswer, CoversInit, CoversLabel}
+use Rattle.call_walk.specs.Locality.{CoversOwner, CoversVariable, CoversPlace, CoversExpr, CoversExprs, CoversArg, CoversAnswer, CoversInit, CoversLabel}
 use Rattle.call_walk.proofs.EveryLabel.{every_label}
 
 -- the roots of all frames, and those of the globals of a list
@@ -75,6 +75,11 @@ module _ (S T : Root → Bool) where
     more_expr (update p op k e) more h = (more_place p (first_more (place_names p) (expr_names e) more) h.0, more_expr e (later_more (place_names p) (expr_names e) more) h.1)
     more_expr input_byte more h = tt
     more_expr (output_byte e) more h = more_expr e more h
+    more_expr (formatted pieces es) more h = more_exprs_of es more h
+
+    more_exprs_of : (es : NamedExprs) → More (exprs_names es) → CoversExprs S es → CoversExprs T es
+    more_exprs_of no_expr more h = tt
+    more_exprs_of (more_exprs e rest) more h = (more_expr e (first_more (expr_names e) (exprs_names rest) more) h.0, more_exprs_of rest (later_more (expr_names e) (exprs_names rest) more) h.1)
 
   more_arg : (a : NamedArg) → More (arg_names a) → CoversArg S a → CoversArg T a
   more_arg (value_argument e) more h = more_expr e more h
@@ -94,8 +99,11 @@ module _ (S T : Root → Bool) where
   covers_more (evaluates e) more h = more_expr e more h
   covers_more (initialises owner t init) more h = (more_owner owner (first_more (owner_names owner) (init_names init) more) h.0, more_init init (later_more (owner_names owner) (init_names init) more) h.1)
   covers_more (branches e) more h = more_expr e more h
+  covers_more (switches e) more h = more_expr e more h
   covers_more (returns None) more h = tt
   covers_more (returns (Some a)) more h = more_expr a.value more h
+  covers_more jumps more h = tt
+  covers_more (halts e) more h = more_expr e more h
   covers_more (calls c) more h = more_args c.args more h
 
 -- the roots of all frames, and those of the globals that are declared
@@ -145,6 +153,11 @@ module _ (gs : List GlobalTree) (sc : Scope) (same : sc.globals ≡ gs) (k : ℕ
     valid_expr (update p op kind e) h = (valid_place p h.2, valid_expr e h.3)
     valid_expr input_byte h = tt
     valid_expr (output_byte e) h = valid_expr e h
+    valid_expr (formatted pieces es) h = valid_exprs es h.1
+
+    valid_exprs : (es : NamedExprs) → AreExprs sc k es → CoversExprs S es
+    valid_exprs no_expr h = tt
+    valid_exprs (more_exprs e rest) h = (valid_expr e h.0, valid_exprs rest h.1)
 
   valid_args : (params : List MemberTree) (args : List NamedArg) → AreArgs sc k params args → All (CoversArg S) args
   valid_args [] [] h = All-nil (CoversArg S)
@@ -170,12 +183,17 @@ module _ (gs : List GlobalTree) (sc : Scope) (same : sc.globals ≡ gs) (k : ℕ
     valid_whole f (evaluates e) h = valid_expr e h
     valid_whole f (initialises owner t init) h = valid_init f owner t init h
     valid_whole f (returns answer) h = valid_answer f.result answer h
+    valid_whole f (halts e) h = valid_expr e h
     valid_whole f (calls c) h = valid_call f.temps c h
     valid_whole f _ h = absurd h
 
     valid_test : (f : FunctionTree) (l : LabelTree) → IsLast P f sc Test k l → CoversLabel S l
     valid_test f (branches e) h = valid_expr e h
     valid_test f _ h = absurd h
+
+    valid_switch : (f : FunctionTree) (l : LabelTree) → IsLast P f sc Switch k l → CoversLabel S l
+    valid_switch f (switches e) h = valid_expr e h
+    valid_switch f _ h = absurd h
 
     valid_effect : (f : FunctionTree) (l : LabelTree) → IsLast P f sc Effect k l → CoversLabel S l
     valid_effect f (evaluates e) h = valid_expr e h
@@ -186,6 +204,7 @@ module _ (gs : List GlobalTree) (sc : Scope) (same : sc.globals ≡ gs) (k : ℕ
 valid_label : (P : ProgramTree) (f : FunctionTree) (role : Role) (l : LabelTree) → MayStand P f role l → CoversLabel (declared P.globals) l
 valid_label P f Whole l m = valid_whole P.globals (scope_of P f m.within.part) refl m.stage P f l m.last
 valid_label P f Test l m = valid_test P.globals (scope_of P f m.within.part) refl m.stage P f l m.last
+valid_label P f Switch l m = valid_switch P.globals (scope_of P f m.within.part) refl m.stage P f l m.last
 valid_label P f Effect l m = valid_effect P.globals (scope_of P f m.within.part) refl m.stage P f l m.last
 
 -- a label of a program lists the globals that its tree names
@@ -200,7 +219,7 @@ pub label_lists : (P : ProgramTree) → IsValid P → (f : Name) (p : PointTree)
 label_lists P valid f p l e =
     let at = labelled_at P f p l e in
     let tree = at.stands.node.label in
-    let covers = every_label P (CoversLabel (declared P.globals)) tt (λ rule. tt) (valid_label P) valid f p at.stands in
+    let covers = every_label P (CoversLabel (declared P.globals)) tt (λ rule. tt) tt (valid_label P) valid f p at.stands in
     subst (λ (m : PointLabel). CoversLabel (listed m.globals) m.tree) at.is
     (covers_more (declared P.globals) (listed (named_globals P.globals tree)) tree (declared_listed P.globals tree) covers)
 

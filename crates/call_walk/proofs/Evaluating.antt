@@ -9,13 +9,14 @@ use Rattle.csub_types.specs.declared.trap.Trap.TheVariants.{Flood}
 use Rattle.csub_types.specs.Kinds.{convert, promote}
 use Rattle.csub_types.specs.Arithmetic.{unary, binary}
 use Rattle.csub_objects.specs.Types.{TypeTree, number_type, array_type, struct_type, loose_type}
-use Rattle.csub_semantics.specs.Trees.{global_owner, local_owner, Variable, object, temporary, NamedPlace, variable, element_place, member_place, NamedExpr, constant, reading, unary_operation, conversion, stepping, operation, conjunction, disjunction, choice, assignment, update, input_byte, output_byte}
-use Rattle.csub_semantics.specs.Memory.{Answer, value, trapped, then_do, given, found, get_byte, most_output, put_byte, low_byte}
-use Rattle.csub_semantics.specs.Evaluation.{right_operand, computed, step_by, step_value, fetch, is_index, indexed, locate, store, step, eval}
+use Rattle.csub_semantics.specs.Trees.{global_owner, local_owner, Variable, object, temporary, NamedPlace, variable, element_place, member_place, NamedExpr, constant, reading, unary_operation, conversion, stepping, operation, conjunction, disjunction, choice, assignment, update, input_byte, output_byte, formatted, NamedExprs, no_expr, more_exprs}
+use Rattle.csub_semantics.specs.Memory.{Answer, value, trapped, then_do, given, found, get_byte, most_output, put_byte, put_bytes, low_byte}
+use Rattle.csub_semantics.specs.Formats.{text_of}
+use Rattle.csub_semantics.specs.Evaluation.{right_operand, computed, step_by, step_value, fetch, is_index, indexed, locate, store, step, eval, eval_all}
 use Rattle.csub_semantics.specs.Cells.{Root, root_of, Cell, cell_of, type_of, Spot, referred, stand_at, Content, number, reference, number_in, named}
 use Rattle.csub_semantics.specs.Acts.{Store}
 use Rattle.call_walk.specs.Shared.{Agree}
-use Rattle.call_walk.specs.Locality.{HasFrames, CoversVariable, CoversPlace, CoversExpr}
+use Rattle.call_walk.specs.Locality.{HasFrames, CoversVariable, CoversPlace, CoversExpr, CoversExprs}
 use Rattle.call_walk.proofs.Agreeing.{number_inside, agree_written}
 
 -- both give one value, which passes Q, or one trap, and their stores are related
@@ -114,6 +115,10 @@ module _ (S : Root → Bool) (frames : HasFrames S) (h : ℕ) where
       subst (λ (o : List ℕ). SameAnswer IsAny (Agree S) (put_byte b s) (if nat_lt (length o) most_output then value tt (record s' { output = o ++ b ∷ [] }) else trapped Flood s')) agree.output
       (same_if (nat_lt (length s.output) most_output) (both_give tt (record { cells = agree.cells; refers = agree.refers; refers' = agree.refers'; input = agree.input; output = refl })) (both_trap agree))
 
+  same_put_bytes : (bs : List ℕ) (s s' : Store) → Agree S s s' → SameAnswer IsAny (Agree S) (put_bytes bs s) (put_bytes bs s')
+  same_put_bytes [] s s' agree = both_give tt agree
+  same_put_bytes (b ∷ bs) s s' agree = then_same (same_put_byte b s s' agree) (λ x t t' q r. same_put_bytes bs t t' r)
+
   -- an element has the root of its array
   same_indexed : (u : Unit {0}) (l : Spot) (v : ℤ) (s s' : Store) → IsIn l → Agree S s s' → SameAnswer IsIn (Agree S) (indexed (named h) u l v s) (indexed (named h) u l v s')
   same_indexed u l v s s' inside agree = same_if (is_index v l.length) (both_give inside agree) (both_trap agree)
@@ -152,3 +157,11 @@ module _ (S : Root → Bool) (frames : HasFrames S) (h : ℕ) where
     same_eval input_byte s s' covers agree = same_get_byte s s' agree
     same_eval (output_byte e) s s' covers agree =
         then_same (same_eval e s s' covers agree) (λ v t t' q r. then_same (same_put_byte (low_byte v) t t' r) (λ x u u' o z. both_give tt z))
+    same_eval (formatted pieces es) s s' covers agree =
+        then_same (same_eval_all es s s' covers agree)
+        (λ vs t t' q r. then_same (same_put_bytes (text_of pieces vs) t t' r) (λ x u u' o z. both_give tt z))
+
+    same_eval_all : (es : NamedExprs) (s s' : Store) → CoversExprs S es → Agree S s s' → SameAnswer IsAny (Agree S) (eval_all (named h) es s) (eval_all (named h) es s')
+    same_eval_all no_expr s s' covers agree = both_give tt agree
+    same_eval_all (more_exprs e rest) s s' covers agree =
+        then_same (same_eval e s s' covers.0 agree) (λ v t t' q r. then_same (same_eval_all rest t t' covers.1 r) (λ vs u u' o z. both_give tt z))

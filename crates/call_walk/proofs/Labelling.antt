@@ -1,17 +1,21 @@
 -- Numbers of labels, when the book of labels grows and when two are compared.
-use Rattle.std.proofs.Common.{◌≡◌, ◌<◌, ◌↔◌, ℕ, ◌++◌, ◌∷◌, [], List, length, get_or, Some, sym, ap, ◌∙◌, subst, ◌⊎◌, inl, inr, arith}
+use Rattle.std.proofs.Common.{◌≡◌, ◌<◌, ◌↔◌, ℕ, ◌++◌, ◌∷◌, [], List, Bor, length, get_or, map, Option, Some, None, option_map, refl, sym, ap, ◌∙◌, ◌⊎◌, inl, inr, arith}
 use Rattle.std.specs.Prelude.{slice_get}
-use Rattle.std.proofs.lemmas.Option.{slice_get-get_or, same_Some}
+use Rattle.std.proofs.lemmas.List.{length-map}
+use Rattle.std.proofs.lemmas.Option.{slice_get-get_or, slice_get-map, same_Some}
 use Rattle.csub_objects.specs.Types.{Name}
-use Rattle.csub_semantics.specs.Labels.{PointLabel}
+use Rattle.csub_semantics.specs.declared.label.Label.{Label}
+use Rattle.csub_semantics.specs.Types.{GlobalTree}
+use Rattle.csub_semantics.specs.Labels.{PointLabel, label_tree}
 use Rattle.csub_semantics.specs.Points.{PointTree}
 use Rattle.csub_semantics.specs.Syntax.{ProgramTree}
 use Rattle.csub_semantics.specs.Flows.{flow_of}
-use Rattle.csub_semantics.specs.Numbers.{site}
+use Rattle.csub_semantics.specs.Numbers.{Site, site, site_at}
 use Rattle.csub_semantics.specs.Books.{SameLabel}
-use Rattle.edge_label.specs.Numbers.{KeepsNumbers}
+use Rattle.edge_label.specs.Numbers.{HasNumber, HaveNumbers, KeepsNumbers, whole}
+use Rattle.edge_label.proofs.LawsNumbers.{HaveNumbers-length, HaveNumbers-at}
 use Rattle.flow_graph.specs.Graph.{Tables, IsGraphOf, point_count}
-use Rattle.call_walk.specs.LabelRows.{IsNumbered, AreNumbered}
+use Rattle.call_walk.specs.LabelRows.{IsNumbered, AreNumbered, AreLabelsOf}
 use Rattle.call_walk.specs.Moments.{AreAt}
 use Rattle.call_walk.proofs.Indexed.{get_push}
 
@@ -22,15 +26,39 @@ numbered_kept book book' g n number keeps h = record { label = h.label; has = ke
 pub row_kept : (book book' : List PointLabel) (row : List ℕ) (g : Tables) → KeepsNumbers book book' → AreNumbered book row g → AreNumbered book' row g
 row_kept book book' row g keeps h = record { points = h.points; each = λ n number at. numbered_kept book book' g n number keeps (h.each n number at) }
 
--- one number more behind a row
-pub row_push : (book book' : List PointLabel) (row : List ℕ) (g : Tables) (last : ℕ) → KeepsNumbers book book' → IsNumbered book' g (length row) last
-    → ((n number : ℕ) → slice_get row n ≡ Some number → IsNumbered book g n number)
-    → (n number : ℕ) → slice_get (row ++ last ∷ []) n ≡ Some number → IsNumbered book' g n number
-row_push book book' row g last keeps this before n number at = pick (get_push row last n number at)
+-- one label more behind those of the points so far
+pub labels_push : (g : Tables) (labels : List (Bor Label)) (last : Bor Label)
+    → ((P : ProgramTree) (s : Site) → IsGraphOf g P → site_at P (length labels) ≡ Some s → (flow_of P).label s.function s.point ≡ Some (whole P.globals (label_tree last.now)))
+    → ((n : ℕ) (label : Bor Label) (P : ProgramTree) (s : Site) → slice_get labels n ≡ Some label → IsGraphOf g P → site_at P n ≡ Some s → (flow_of P).label s.function s.point ≡ Some (whole P.globals (label_tree label.now)))
+    → (n : ℕ) (label : Bor Label) (P : ProgramTree) (s : Site) → slice_get (labels ++ last ∷ []) n ≡ Some label → IsGraphOf g P → site_at P n ≡ Some s
+    → (flow_of P).label s.function s.point ≡ Some (whole P.globals (label_tree label.now))
+labels_push g labels last this before n label P s at ok there = pick (get_push labels last n label at)
   where
-    pick : (slice_get row n ≡ Some number) ⊎ ((n ≡ length row) × (number ≡ last)) → IsNumbered book' g n number
-    pick (inl h) = numbered_kept book book' g n number keeps (before n number h)
-    pick (inr h) = subst (λ k. IsNumbered book' g k number) (sym h.0) (subst (λ k. IsNumbered book' g (length row) k) (sym h.1) this)
+    pick : (slice_get labels n ≡ Some label) ⊎ ((n ≡ length labels) × (label ≡ last)) → (flow_of P).label s.function s.point ≡ Some (whole P.globals (label_tree label.now))
+    pick (inl h) = before n label P s h ok there
+    pick (inr h) = this P s ok (ap (site_at P) (sym h.0) ∙ there) ∙ ap (λ (l : Bor Label). Some (whole P.globals (label_tree l.now))) (sym h.1)
+
+-- the numbers of a book for the labels of a graph's points are those of the points
+pub row_numbered : (book : List PointLabel) (row : List ℕ) (g : Tables) (labels : List (Bor Label)) (globals : List GlobalTree) → AreLabelsOf g labels
+    → ((P : ProgramTree) → IsGraphOf g P → globals ≡ P.globals) → HaveNumbers book row (map (λ (label : Bor Label). whole globals (label_tree label.now)) labels) → AreNumbered book row g
+row_numbered book row g labels globals are its have = record {
+  points = HaveNumbers-length book row (map whole_of labels) have ∙ length-map labels whole_of ∙ are.points;
+  each = λ n number at. numbered n number (HaveNumbers-at book row (map whole_of labels) have n number at);
+}
+  where
+    whole_of : Bor Label → PointLabel
+    whole_of label = whole globals (label_tree label.now)
+
+    numbered : (n number : ℕ) → (label : PointLabel) × (slice_get (map whole_of labels) n ≡ Some label) × HasNumber book number label → IsNumbered book g n number
+    numbered n number found = pick (slice_get labels n) refl (sym (slice_get-map whole_of labels n) ∙ found.1)
+      where
+        pick : (o : Option (Bor Label)) → slice_get labels n ≡ o → option_map whole_of o ≡ Some found.0 → IsNumbered book g n number
+        pick None at is = absurd cc
+        pick (Some label) at is = record {
+          label = found.0;
+          has = found.2;
+          labelled = λ P s ok there. are.each n label P s at ok there ∙ ap (λ gs. Some (whole gs (label_tree label.now))) (sym (its P ok)) ∙ is;
+        }
 
 -- the number that a row has for a point
 pub number_at : (book : List PointLabel) (row : List ℕ) (g : Tables) (n : ℕ) → AreNumbered book row g → n < point_count g → IsNumbered book g n (get_or row n 0)

@@ -6,8 +6,9 @@ use Rattle.csub_objects.specs.Types.{Name}
 use Rattle.csub_semantics.specs.Trees.{OwnerTree, global_owner, local_owner, Variable, object, temporary, NamedPlace, variable, element_place}
 use Rattle.csub_semantics.specs.Trees.{member_place, NamedExpr, constant}
 use Rattle.csub_semantics.specs.Trees.{reading, unary_operation, conversion, stepping, operation, conjunction, disjunction, choice, assignment}
-use Rattle.csub_semantics.specs.Trees.{update, input_byte, output_byte, NamedArg, value_argument}
-use Rattle.csub_semantics.specs.Labels.{LabelTree, enters, exits, evaluates, initialises, branches, returns, calls, AnswerTree, InitTree, one_value}
+use Rattle.csub_semantics.specs.Trees.{update, input_byte, output_byte, formatted, NamedExprs, no_expr, more_exprs, NamedArg, value_argument}
+use Rattle.csub_semantics.specs.Labels.{LabelTree, enters, exits, evaluates, initialises, branches, switches, returns, jumps, halts, calls}
+use Rattle.csub_semantics.specs.Labels.{AnswerTree, InitTree, one_value}
 use Rattle.csub_semantics.specs.Points.{ExitTree}
 use Rattle.csub_semantics.specs.Cells.{Root, global_root, local_root, temp_root}
 use Rattle.csub_semantics.specs.Acts.{Store, Outcome, leaves, gives, pushes, pops, ends, act}
@@ -48,6 +49,11 @@ module _ (S : Root → Bool) where
     CoversExpr (update p op k e) = CoversPlace p × CoversExpr e
     CoversExpr input_byte = Unit {0}
     CoversExpr (output_byte e) = CoversExpr e
+    CoversExpr (formatted pieces es) = CoversExprs es
+
+    pub CoversExprs : NamedExprs → Type 0
+    CoversExprs no_expr = Unit {0}
+    CoversExprs (more_exprs e rest) = CoversExpr e × CoversExprs rest
 
   abbrev pub CoversArg : NamedArg → Type 0
   CoversArg (value_argument e) = CoversExpr e
@@ -65,7 +71,10 @@ module _ (S : Root → Bool) where
   CoversLabel (evaluates e) = CoversExpr e
   CoversLabel (initialises owner t init) = CoversOwner owner × CoversInit init
   CoversLabel (branches e) = CoversExpr e
+  CoversLabel (switches e) = CoversExpr e
   CoversLabel (returns answer) = CoversAnswer answer
+  CoversLabel jumps = Unit {0}
+  CoversLabel (halts e) = CoversExpr e
   CoversLabel (calls c) = All CoversArg c.args
 
 -- two acts come out the same but for their stores, which are related

@@ -8,9 +8,10 @@ ghost use Rattle.csub_semantics.specs.Books.{SameLabel};
 ghost use Rattle.edge_label.specs.Numbers.{KeepsNumbers};
 ghost use Rattle.flow_graph.specs.Graph.{IsGraphOf, point_count};
 ghost use Rattle.call_walk.specs.Moments.{AreAt};
-ghost use Rattle.call_walk.specs.LabelRows.{AreNumbered, AreLabelled};
+ghost use Rattle.call_walk.specs.LabelRows.{AreNumbered, AreLabelled, AreLabelsOf};
 
-use edge_label::{LabelBook, NamedGlobals, Steps};
+use csub_semantics::Label;
+use edge_label::{LabelBook, Steps};
 use flow_graph::Graph;
 use std::alloc::{AllocError, Global};
 use std::sync::ledger::Ledger;
@@ -41,13 +42,19 @@ pub fn number_labels(
     ensures row { IfOk result (λ row. AreNumbered book.new row.items graph.now) }
     ensures keeps { OnOk result (KeepsNumbers book.old book.new) }
 {
-    let globals = NamedGlobals::new(alloc, graph.globals())?;
-    let mut row = Vec::new(alloc);
+    let labels = list_labels(alloc, graph)?;
+    book.intern_all(&labels, graph.globals())
+}
+
+/// The trees of the labels of a graph's points. An `Err` is want of memory.
+fn list_labels(alloc: Global, graph: &Graph) -> Result<Vec<&Label>, AllocError>
+    ensures { IfOk result (λ labels. AreLabelsOf graph.now labels.items) }
+{
+    let mut labels = Vec::new(alloc);
     for point in 0..graph.points() {
-        let number = book.intern_named(graph.label_at(point), &globals)?;
-        row.push(number)?;
+        labels.push(graph.label_at(point))?;
     }
-    Ok(row)
+    Ok(labels)
 }
 
 /// Whether an old point and a new one have equal labels, by their numbers. It counts one step.

@@ -1,13 +1,15 @@
 -- Books of labels over the table and the codes that they keep.
-use Rattle.std.proofs.Common.{◌≡◌, ◌<◌, ◌≤◌, ℕ, zero, suc, List, [], ◌∷◌, ◌++◌, Bool, length, map, Vec, sym, ap, subst, ◌∙◌, inl, inr, arith, slice_get, length-append, Some}
+use Rattle.std.proofs.Common.{◌≡◌, ◌≤◌, ℕ, zero, suc, List, [], ◌∷◌, ◌++◌, Bool, length, map, Vec, refl, sym, ap, ap₂, subst, ◌∙◌, inl, inr, arith, slice_get, length-append, Some}
+use Rattle.std.specs.Prelude.{Result, Ok, Err, IfOk, OnErr}
 use Rattle.std.specs.declared.alloc.Global.{Global}
-use Rattle.std.proofs.lemmas.Option.{slice_get_within, same_Some}
+use Rattle.std.proofs.lemmas.List.{map-append}
+use Rattle.std.proofs.lemmas.Option.{same_Some}
 use Rattle.csub_semantics.specs.Types.{GlobalTree}
 use Rattle.csub_semantics.specs.Labels.{PointLabel}
-use Rattle.edge_label.specs.Numbers.{HasNumber, KeepsNumbers, AddsOnly, HasEachOnce}
-use Rattle.edge_label.specs.Tables.{Extends, IsCode, label_in, IsBook}
+use Rattle.edge_label.specs.Numbers.{HasNumber, HaveNumbers, KeepsNumbers, AddsOnly, HasEachOnce}
+use Rattle.edge_label.specs.Tables.{Extends, IsCode, label_in, IsBook, IsInterned, Grows}
 use Rattle.edge_label.proofs.CodeLemmas.{Keys, codes, Inserted, Distinct, StandsAt, inserted, one_number}
-use Rattle.edge_label.proofs.TableLemmas.{label_read, one_code, still_labels, still_written}
+use Rattle.edge_label.proofs.TableLemmas.{head_tail, label_read, one_code, still_labels, still_written}
 
 -- the labels of a set of codes
 abbrev pub labels : List GlobalTree → Keys → List PointLabel
@@ -39,25 +41,65 @@ pub grown_book : (table new : List GlobalTree) (lists : List (List ℕ)) → Ext
 grown_book table new lists grown once book = record { once = once book.once; written = still_written table new grown lists book.written }
 
 -- what an insertion of a label's code leaves
-pub record IsInterned (table new : List GlobalTree) (keys new_keys : Keys) (n : ℕ) (label : PointLabel) : Type 0 where
-  pub book : IsBook new (codes new_keys)
-  pub number : HasNumber (labels new new_keys) n label
-  pub only : (m : ℕ) → HasNumber (labels new new_keys) m label → m ≡ n
-  pub adds_only : AddsOnly (labels table keys) (labels new new_keys) label
-  pub given : n < length (labels new new_keys)
-
-pub interned : (there : Bool) (table new : List GlobalTree) (keys new_keys : Keys) (n : ℕ) (value : Vec ℕ Global) (label : PointLabel) → IsBook table (codes keys)
-    → Extends table new → (HasEachOnce table → HasEachOnce new) → Inserted there keys new_keys value → Distinct new_keys → StandsAt new_keys n value → IsCode new label value.items
-    → IsInterned table new keys new_keys n label
-interned there table new keys new_keys n value label before grown once e distinct stands is =
-    let book = grown_book table new (codes keys) grown once before in
-    let alone = one_code new book.once in
-    let after = inserted (IsCode new) (label_in new) (label_read new) alone there keys new_keys n value label book.written e stands is in
-    let written = after.written in
+pub interned : (there : Bool) (table : List GlobalTree) (keys new_keys : Keys) (n : ℕ) (value : Vec ℕ Global) (label : PointLabel) → IsBook table (codes keys)
+    → Inserted there keys new_keys value → Distinct new_keys → StandsAt new_keys n value → IsCode table label value.items → IsInterned table (codes keys) (codes new_keys) n label
+interned there table keys new_keys n value label book e distinct stands is =
+    let alone = one_code table book.once in
+    let after = inserted (IsCode table) (label_in table) (label_read table) alone there keys new_keys n value label book.written e stands is in
     record {
-      book = record { once = book.once; written = written };
+      book = record { once = book.once; written = after.written };
       number = after.number;
-      only = λ m has. one_number (IsCode new) (label_in new) (label_read new) alone new_keys distinct written m n label has after.number;
-      adds_only = subst (λ (old : List PointLabel). AddsOnly old (labels new new_keys) label) (still_labels table new grown (codes keys) before.written) after.adds_only;
-      given = slice_get_within (labels new new_keys) n label after.number;
+      only = λ m has. one_number (IsCode table) (label_in table) (label_read table) alone new_keys distinct after.written m n label has after.number;
+      adds_only = after.adds_only;
     }
+
+-- numbers stay where the book grows
+numbers_stay : (old new : List PointLabel) (numbers : List ℕ) (given : List PointLabel) → KeepsNumbers old new → HaveNumbers old numbers given → HaveNumbers new numbers given
+numbers_stay old new [] [] keeps_old have = refl
+numbers_stay old new [] (l ∷ given) keeps_old have = absurd cc
+numbers_stay old new (n ∷ numbers) [] keeps_old have = absurd cc
+numbers_stay old new (n ∷ numbers) (l ∷ given) keeps_old have =
+    let both = head_tail _ _ _ _ have in
+    ap₂ (λ x xs. x ∷ xs) (keeps_old n l both.0) (numbers_stay old new numbers given keeps_old both.1)
+
+-- a label more and its number
+pub one_more : (old new : List PointLabel) (numbers : List ℕ) (given : List PointLabel) (n : ℕ) (label : PointLabel) → KeepsNumbers old new → HaveNumbers old numbers given → HasNumber new n label
+    → HaveNumbers new (numbers ++ n ∷ []) (given ++ label ∷ [])
+one_more old new numbers given n label keeps_old have has =
+    map-append (slice_get new) numbers (n ∷ []) ∙ ap₂ (λ x y. x ++ y) (numbers_stay old new numbers given keeps_old have) (ap (λ o. o ∷ []) has) ∙ sym (map-append Some given (label ∷ []))
+
+-- the same for the labels of codes
+pub more_codes : (table : List GlobalTree) (first second third : List (List ℕ)) (n : ℕ) (label : PointLabel) → Grows table first second → IsInterned table second third n label → Grows table first third
+more_codes table first second third n label before after = record {
+  book = after.book;
+  keeps = λ m l has. keeps _ _ label after.adds_only m l (before.keeps m l has);
+}
+
+pub one_more_code : (table : List GlobalTree) (codes new : List (List ℕ)) (numbers : List ℕ) (given : List PointLabel) (n : ℕ) (label : PointLabel) → IsInterned table codes new n label
+    → HaveNumbers (map (label_in table) codes) numbers given → HaveNumbers (map (label_in table) new) (numbers ++ n ∷ []) (given ++ label ∷ [])
+one_more_code table codes new numbers given n label after have = one_more _ _ numbers given n label (keeps _ _ label after.adds_only) have after.number
+
+-- what holds after a success and after a failure holds
+pub at_either : {X E : Type 0} (r : Result X E) (P : X → Type 0) {Q R : Type 0} → IfOk r P → OnErr r Q → ((x : X) → P x → R) → (Q → R) → R
+at_either (Ok x) P ok err good bad = good x ok
+at_either (Err e) P ok err good bad = bad err
+
+-- a book over a table that has grown, and after insertions of codes
+module _ (table new : List GlobalTree) (keys : Keys) (grown : Extends table new) (once : HasEachOnce table → HasEachOnce new) (book : IsBook table (codes keys)) where
+  pub still_book : IsBook new (codes keys)
+  still_book = grown_book table new (codes keys) grown once book
+
+  pub same_labels : labels new keys ≡ labels table keys
+  same_labels = still_labels table new grown (codes keys) book.written
+
+  pub unchanged : (new_keys : Keys) → new_keys ≡ keys → labels new new_keys ≡ labels table keys
+  unchanged new_keys same = ap (labels new) same ∙ same_labels
+
+  pub unchanged_book : (new_keys : Keys) → new_keys ≡ keys → IsBook new (codes new_keys)
+  unchanged_book new_keys same = subst (λ ks. IsBook new (codes ks)) (sym same) still_book
+
+  pub adds : (new_keys : Keys) (n : ℕ) (label : PointLabel) → IsInterned new (codes keys) (codes new_keys) n label → AddsOnly (labels table keys) (labels new new_keys) label
+  adds new_keys n label is = subst (λ (old : List PointLabel). AddsOnly old (labels new new_keys) label) same_labels is.adds_only
+
+  pub keeps_all : (new_keys : Keys) → Grows new (codes keys) (codes new_keys) → KeepsNumbers (labels table keys) (labels new new_keys)
+  keeps_all new_keys is = subst (λ (old : List PointLabel). KeepsNumbers old (labels new new_keys)) same_labels is.keeps

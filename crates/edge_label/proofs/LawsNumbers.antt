@@ -1,8 +1,9 @@
 -- Numbers of a book.
 use Rattle.std.proofs.Common.{◌≡◌, ◌⊎◌, ◌↔◌, inl, inr, ◌<◌, ℕ, zero, suc, List, [], ◌∷◌, ◌++◌, length, refl, sym, ap, subst, ◌∙◌, slice_get, Some, arith}
+use Rattle.std.proofs.lemmas.List.{length-map}
 use Rattle.std.proofs.lemmas.Option.{slice_get_within, same_Some}
 use Rattle.csub_semantics.specs.Labels.{PointLabel}
-use Rattle.edge_label.specs.Numbers.{HasNumber, KeepsNumbers, AddsOnly, HasEachOnce}
+use Rattle.edge_label.specs.Numbers.{HasNumber, HaveNumbers, KeepsNumbers, AddsOnly, HasEachOnce}
 
 -- a label's number was given
 pub HasNumber-given : (book : List PointLabel) (n : ℕ) (label : PointLabel) → HasNumber book n label → n < length book
@@ -19,6 +20,21 @@ KeepsNumbers-refl book = λ n label has. has
 
 pub KeepsNumbers-trans : (first second third : List PointLabel) → KeepsNumbers first second → KeepsNumbers second third → KeepsNumbers first third
 KeepsNumbers-trans first second third before after = λ n label has. after n label (before n label has)
+
+-- as many numbers as labels, and each label with its own
+pub HaveNumbers-length : (book : List PointLabel) (numbers : List ℕ) (labels : List PointLabel) → HaveNumbers book numbers labels → length numbers ≡ length labels
+HaveNumbers-length book numbers labels have = sym (length-map numbers (slice_get book)) ∙ ap length have ∙ length-map labels Some
+
+pub HaveNumbers-at : (book : List PointLabel) (numbers : List ℕ) (labels : List PointLabel) → HaveNumbers book numbers labels → (i n : ℕ) → slice_get numbers i ≡ Some n
+    → (label : PointLabel) × (slice_get labels i ≡ Some label) × HasNumber book n label
+HaveNumbers-at book [] labels have i n at = absurd cc
+HaveNumbers-at book (m ∷ numbers) [] have i n at = absurd cc
+HaveNumbers-at book (m ∷ numbers) (label ∷ labels) have zero n at =
+    let here : slice_get book m ≡ Some label = cc in
+    (label, refl, ap (slice_get book) (sym (same_Some m n at)) ∙ here)
+HaveNumbers-at book (m ∷ numbers) (label ∷ labels) have (suc i) n at =
+    let rest : HaveNumbers book numbers labels = cc in
+    HaveNumbers-at book numbers labels rest i n at
 
 -- numbers of one book are equal exactly where the whole labels are equal
 pub equal_numbers : (book : List PointLabel) → HasEachOnce book → (i j : ℕ) (x y : PointLabel) → HasNumber book i x → HasNumber book j y → (i ≡ j) ↔ (x ≡ y)

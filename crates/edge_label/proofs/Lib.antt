@@ -2,5 +2,5 @@ pub mod LawsNumbers
 mod CodeLemmas
 mod NameLemmas
 mod BookLemmas
-mod PlaceLemmas
+mod IndexLemmas
 mod TableLemmas

@@ -8,7 +8,8 @@ use Rattle.std.specs.Ordering.{match_ordering}
 use Rattle.std.specs.BTreeSet.{insert_key}
 use Rattle.std.proofs.lemmas.List.{drop_more}
 use Rattle.csub_objects.specs.Types.{Name}
-use Rattle.csub_semantics.specs.Globals.{ordered}
+use Rattle.csub_semantics.specs.Trees.{NamedExpr, exprs_of}
+use Rattle.csub_semantics.specs.Globals.{expr_names, exprs_names, ordered}
 
 -- two lists of names, one after the other
 pub ordered_append : (xs ys before : List Name) → ordered before (xs ++ ys) ≡ ordered (ordered before xs) ys
@@ -35,3 +36,8 @@ next_names tree names xs x i before set within is e =
     let rest = flat_map names (map tree (drop (i + 1) xs)) in
     ap (λ new. ordered new rest) e ∙ sym (ordered_append (names (tree x)) rest before)
     ∙ ap (λ ys. ordered before (flat_map names (map tree ys))) (ap (λ y. y ∷ drop (i + 1) xs) is ∙ sym (drop_more xs i x within))
+
+-- the names in a row of expressions
+pub exprs_names-list : (es : List NamedExpr) → exprs_names (exprs_of es) ≡ flat_map expr_names es
+exprs_names-list [] = refl
+exprs_names-list (e ∷ es) = ap (λ ns. expr_names e ++ ns) (exprs_names-list es)

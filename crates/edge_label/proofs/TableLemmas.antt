@@ -15,17 +15,13 @@ use Rattle.edge_label.specs.Tables.{Extends, AreNumbers, AppendsNumbers, globals
 pub Extends-refl : (table : List GlobalTree) → Extends table table
 Extends-refl table = ([], sym (append-nil table))
 
-pub Extends-trans : (first second third : List GlobalTree) → Extends first second → Extends second third → Extends first third
-Extends-trans first second third before after =
-    (before.0 ++ after.0, after.1 ∙ ap (λ t. t ++ after.0) before.1 ∙ append_assoc first before.0 after.0)
-
 -- a global keeps its number
-kept : (table more : List GlobalTree) (n : ℕ) (global : GlobalTree) → slice_get table n ≡ Some global → slice_get (table ++ more) n ≡ Some global
+pub kept : (table more : List GlobalTree) (n : ℕ) (global : GlobalTree) → slice_get table n ≡ Some global → slice_get (table ++ more) n ≡ Some global
 kept [] more n global e = absurd cc
 kept (g ∷ table) more zero global e = e
 kept (g ∷ table) more (suc n) global e = kept table more n global e
 
-head_tail : {X : Type 0} (x y : X) (xs ys : List X) → ◌≡◌ {A = List X} (x ∷ xs) (y ∷ ys) → (x ≡ y) × (xs ≡ ys)
+pub head_tail : {X : Type 0} (x y : X) (xs ys : List X) → ◌≡◌ {A = List X} (x ∷ xs) (y ∷ ys) → (x ≡ y) × (xs ≡ ys)
 head_tail x y xs ys e = (cc, cc)
 
 numbers_kept : (table more : List GlobalTree) (numbers : List ℕ) (globals : List GlobalTree) → AreNumbers table numbers globals → AreNumbers (table ++ more) numbers globals
@@ -42,9 +38,6 @@ AppendsNumbers-extends table new globals a b grown appends = record {
   appended = appends.appended;
   are = subst (λ t. AreNumbers t appends.numbers globals) (sym grown.1) (numbers_kept table grown.0 appends.numbers globals appends.are);
 }
-
-pub AppendsNumbers-none : (table : List GlobalTree) (a : List ℕ) → AppendsNumbers table [] a a
-AppendsNumbers-none table a = record { numbers = []; appended = sym (append-nil a); are = refl }
 
 -- the numbers of some globals, and behind them those of more
 pub AppendsNumbers-both : (table first second : List GlobalTree) (a b c : List ℕ) → AppendsNumbers table first a b → AppendsNumbers table second b c → AppendsNumbers table (first ++ second) a c
@@ -123,14 +116,13 @@ Extends-added old new global (inl e) = ([], e ∙ sym (append-nil old))
 Extends-added old new global (inr e) = (global ∷ [], e)
 
 -- the numbers of the globals of some names, and of one more name
-pub numbers_of_next : {X : Type 0} (bytes : X → Name) (globals table new : List GlobalTree) (done : List X) (name : X) (a b c : List ℕ) → Extends table new
-    → AppendsNumbers table (globals_of globals (map bytes done)) a b → AppendsNumbers new (globals_of globals (bytes name ∷ [])) b c
-    → AppendsNumbers new (globals_of globals (map bytes (done ++ name ∷ []))) a c
-numbers_of_next bytes globals table new done name a b c grown before after =
+pub numbers_of_next : {X : Type 0} (bytes : X → Name) (globals table : List GlobalTree) (done : List X) (name : X) (a b c : List ℕ)
+    → AppendsNumbers table (globals_of globals (map bytes done)) a b → AppendsNumbers table (globals_of globals (bytes name ∷ [])) b c
+    → AppendsNumbers table (globals_of globals (map bytes (done ++ name ∷ []))) a c
+numbers_of_next bytes globals table done name a b c before after =
     let names : globals_of globals (map bytes (done ++ name ∷ [])) ≡ globals_of globals (map bytes done) ++ globals_of globals (bytes name ∷ []) =
     ap (globals_of globals) (map-append bytes done (name ∷ [])) ∙ globals_of-append globals (map bytes done) (bytes name ∷ []) in
-    subst (λ gs. AppendsNumbers new gs a c) (sym names)
-    (AppendsNumbers-both new _ _ a b c (AppendsNumbers-extends table new _ a b grown before) after)
+    subst (λ gs. AppendsNumbers table gs a c) (sym names) (AppendsNumbers-both table _ _ a b c before after)
 
 -- names that are gone over, and those that are left
 pub names_step : {X Y : Type 0} (f : X → Name) (g : Y → Name) (done : List X) (x : X) (y : Y) (left rest : List Y) (names : List Name)

@@ -1,6 +1,6 @@
 -- The code of a label: a list of numbers from which the label can be read back. A tree begins with the number of its
 -- constructor, a text and a list with their length; so no code is the beginning of another one.
-use Rattle.std.specs.Prelude.{ℕ, ℤ, pos, negsuc, List, [], ◌∷◌, ◌++◌, length, Option, Some, None}
+use Rattle.std.specs.Prelude.{ℕ, ◌+◌, ℤ, pos, negsuc, List, [], ◌∷◌, ◌++◌, length, Option, Some, None}
 use Rattle.std.specs.List.{flat_map}
 use Rattle.csub_text.specs.declared.operator.UnaryOp.{UnaryOp}
 use Rattle.csub_text.specs.declared.operator.UnaryOp.TheVariants.{Plus, Minus, Not, Flip}
@@ -10,6 +10,8 @@ use Rattle.csub_text.specs.declared.operator.BinOp.{BinOp}
 use Rattle.csub_text.specs.declared.operator.BinOp.TheVariants.{Mul, Div, Rem, Add, Sub, Shl, Shr, Lt, Gt, Le, Ge, Eq, Ne, BitAnd, BitXor, BitOr}
 use Rattle.csub_types.specs.declared.kind.IntKind.{IntKind}
 use Rattle.csub_types.specs.declared.kind.IntKind.TheVariants.{Char, Int, Unsigned}
+use Rattle.csub_semantics.specs.declared.expression.Piece.{Piece}
+use Rattle.csub_semantics.specs.declared.expression.Piece.TheVariants.{Byte, Signed, Plain, Letter}
 use Rattle.csub_semantics.specs.declared.label.EndRule.{EndRule}
 use Rattle.csub_semantics.specs.declared.label.EndRule.TheVariants as rule
 use Rattle.csub_objects.specs.Types.{Name, TypeTree, number_type, array_type, struct_type, loose_type}
@@ -17,9 +19,10 @@ use Rattle.csub_objects.specs.Types.{MemberTree, MemberTrees, no_member, more_me
 use Rattle.csub_semantics.specs.Types.{GlobalTree}
 use Rattle.csub_semantics.specs.Trees.{variable, element_place, member_place, constant, reading, unary_operation, conversion, stepping, operation}
 use Rattle.csub_semantics.specs.Trees.{conjunction, disjunction, choice, assignment, update, input_byte, output_byte, value_argument}
+use Rattle.csub_semantics.specs.Trees.{formatted, NamedExprs, no_expr, more_exprs}
 use Rattle.csub_semantics.specs.Trees.{OwnerTree, global_owner, local_owner, Variable, object, temporary, NamedPlace, NamedExpr, NamedArg}
 use Rattle.csub_semantics.specs.Labels.{AnswerTree, CallTree, InitTree, one_value, LabelTree, enters, exits, evaluates, initialises, branches}
-use Rattle.csub_semantics.specs.Labels.{returns, calls, PointLabel}
+use Rattle.csub_semantics.specs.Labels.{switches, returns, jumps, halts, calls, PointLabel}
 
 abbrev pub number_code : ℕ → List ℕ
 number_code n = n ∷ []
@@ -77,6 +80,16 @@ operator_number BitAnd = 13
 operator_number BitXor = 14
 operator_number BitOr = 15
 
+-- a piece of a format: first the conversions, then the bytes
+abbrev pub piece_number : Piece → ℕ
+piece_number Signed = 0
+piece_number Plain = 1
+piece_number Letter = 2
+piece_number (Byte b) = b + 3
+
+abbrev pub piece_code : Piece → List ℕ
+piece_code piece = piece_number piece ∷ []
+
 abbrev pub rule_number : EndRule → ℕ
 rule_number rule.Nothing = 0
 rule_number rule.Value = 1
@@ -126,6 +139,11 @@ abbrev mutual
   expr_code (stepping op place) = 10 ∷ step_number op ∷ place_code place
   expr_code (assignment place e) = 11 ∷ (place_code place ++ expr_code e)
   expr_code (update place op kind e) = 12 ∷ operator_number op ∷ kind_number kind ∷ (place_code place ++ expr_code e)
+  expr_code (formatted pieces es) = 13 ∷ (list_code piece_code pieces ++ exprs_code es)
+
+  pub exprs_code : NamedExprs → List ℕ
+  exprs_code no_expr = 0 ∷ []
+  exprs_code (more_exprs e rest) = 1 ∷ (expr_code e ++ exprs_code rest)
 
 abbrev pub arg_code : NamedArg → List ℕ
 arg_code (value_argument e) = 0 ∷ expr_code e
@@ -149,6 +167,9 @@ label_code (branches e) = 3 ∷ expr_code e
 label_code (returns answer) = 4 ∷ option_code answer_code answer
 label_code (calls call) = 5 ∷ call_code call
 label_code (initialises owner ctype init) = 6 ∷ (owner_code owner ++ (type_code ctype ++ init_code init))
+label_code (switches e) = 7 ∷ expr_code e
+label_code jumps = 8 ∷ []
+label_code (halts e) = 9 ∷ expr_code e
 
 abbrev pub global_code : GlobalTree → List ℕ
 global_code global = name_code global.name ++ (type_code global.ctype ++ list_code integer_code global.initial)

@@ -1,6 +1,6 @@
 pub mod Codes
+pub mod Indices
 pub mod Numbers
-pub mod Places
 pub mod ReadBack
 pub mod Readers
 pub mod Stored

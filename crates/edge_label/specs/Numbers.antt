@@ -1,5 +1,5 @@
 -- Books of labels. A book is seen as the list of its labels, in the order of their numbers.
-use Rattle.std.specs.Prelude.{◌≡◌, ◌⊎◌, ℕ, List, [], ◌∷◌, ◌++◌, Some, slice_get}
+use Rattle.std.specs.Prelude.{◌≡◌, ◌⊎◌, ℕ, List, [], ◌∷◌, ◌++◌, Some, map, slice_get}
 use Rattle.csub_semantics.specs.Types.{GlobalTree}
 use Rattle.csub_semantics.specs.Labels.{LabelTree, PointLabel}
 use Rattle.csub_semantics.specs.Globals.{named_globals}
@@ -7,6 +7,10 @@ use Rattle.csub_semantics.specs.Globals.{named_globals}
 -- the book has this number for this label
 abbrev pub HasNumber : List PointLabel → ℕ → PointLabel → Type 0
 HasNumber book n label = slice_get book n ≡ Some label
+
+-- the book has these numbers for these labels
+abbrev pub HaveNumbers : List PointLabel → List ℕ → List PointLabel → Type 0
+HaveNumbers book numbers labels = map (slice_get book) numbers ≡ map Some labels
 
 -- no number changes its label
 abbrev pub KeepsNumbers : List PointLabel → List PointLabel → Type 0

@@ -10,6 +10,8 @@ use Rattle.csub_text.specs.declared.operator.BinOp.{BinOp}
 use Rattle.csub_text.specs.declared.operator.BinOp.TheVariants.{Mul, Div, Rem, Add, Sub, Shl, Shr, Lt, Gt, Le, Ge, Eq, Ne, BitAnd, BitXor, BitOr}
 use Rattle.csub_types.specs.declared.kind.IntKind.{IntKind}
 use Rattle.csub_types.specs.declared.kind.IntKind.TheVariants.{Char, Int, Unsigned}
+use Rattle.csub_semantics.specs.declared.expression.Piece.{Piece}
+use Rattle.csub_semantics.specs.declared.expression.Piece.TheVariants.{Byte, Signed, Plain, Letter}
 use Rattle.csub_semantics.specs.declared.label.EndRule.{EndRule}
 use Rattle.csub_semantics.specs.declared.label.EndRule.TheVariants as rule
 use Rattle.csub_objects.specs.Types.{Name, TypeTree, number_type, array_type, struct_type, loose_type}
@@ -17,15 +19,16 @@ use Rattle.csub_objects.specs.Types.{MemberTree, MemberTrees, no_member, more_me
 use Rattle.csub_semantics.specs.Types.{GlobalTree}
 use Rattle.csub_semantics.specs.Trees.{variable, element_place, member_place, constant, reading, unary_operation, conversion, stepping, operation}
 use Rattle.csub_semantics.specs.Trees.{conjunction, disjunction, choice, assignment, update, input_byte, output_byte, value_argument}
+use Rattle.csub_semantics.specs.Trees.{formatted, NamedExprs, no_expr, more_exprs}
 use Rattle.csub_semantics.specs.Trees.{OwnerTree, global_owner, local_owner, Variable, object, temporary, NamedPlace, NamedExpr, NamedArg}
 use Rattle.csub_semantics.specs.Labels.{AnswerTree, CallTree, InitTree, one_value, LabelTree, enters, exits, evaluates, initialises, branches}
-use Rattle.csub_semantics.specs.Labels.{returns, calls, PointLabel}
+use Rattle.csub_semantics.specs.Labels.{switches, returns, jumps, halts, calls, PointLabel}
 use Rattle.edge_label.specs.Codes.{number_code, integer_code, name_code, list_code, option_code, kind_number, kind_code, unary_number, step_number}
-use Rattle.edge_label.specs.Codes.{operator_number, rule_number, type_code, members_code, member_code, owner_code, variable_code}
-use Rattle.edge_label.specs.Codes.{place_code, expr_code, arg_code, answer_code, call_code, init_code, label_code, global_code, point_code}
+use Rattle.edge_label.specs.Codes.{operator_number, piece_code, rule_number, type_code, members_code, member_code, owner_code, variable_code}
+use Rattle.edge_label.specs.Codes.{place_code, expr_code, exprs_code, arg_code, answer_code, call_code, init_code, label_code, global_code, point_code}
 use Rattle.edge_label.specs.Readers.{Reader, then, read_number, read_integer, read_name, read_times, read_list, read_option, read_kind, read_unary}
-use Rattle.edge_label.specs.Readers.{read_step, read_operator, read_rule, read_type_levels, read_members_levels, read_type, read_member}
-use Rattle.edge_label.specs.Readers.{read_owner, read_variable, read_place_levels, read_expr_levels}
+use Rattle.edge_label.specs.Readers.{read_step, read_operator, piece_of, read_piece, read_rule, read_type_levels, read_members_levels, read_type, read_member}
+use Rattle.edge_label.specs.Readers.{read_owner, read_variable, read_place_levels, read_expr_levels, read_exprs_levels}
 use Rattle.edge_label.specs.Readers.{read_expr, read_arg, read_answer, read_call, read_init, read_tree, read_global, read_label, coded_global, label_of}
 
 -- what a reader and the one behind it give
@@ -90,6 +93,15 @@ operator_back BitAnd s = refl
 operator_back BitXor s = refl
 operator_back BitOr s = refl
 
+piece_back : (piece : Piece) (s : List ℕ) → read_piece (piece_code piece ++ s) ≡ (piece, s)
+piece_back Signed s = then_back _ _ refl refl
+piece_back Plain s = then_back _ _ refl refl
+piece_back Letter s = then_back _ _ refl refl
+piece_back (Byte b) s = then_back _ _ refl (ap (λ n. (piece_of n, s)) three)
+  where
+    three : b + 3 ≡ suc (suc (suc b))
+    three = omega arith
+
 rule_back : (r : EndRule) (s : List ℕ) → read_rule (rule_number r ∷ s) ≡ (r, s)
 rule_back rule.Nothing s = refl
 rule_back rule.Value s = refl
@@ -147,7 +159,7 @@ variable_back : (v : Variable) (s : List ℕ) → read_variable (variable_code v
 variable_back (object owner ctype) s = then_append _ _ (owner_code owner) (type_code ctype) s (owner_back owner) (then_back _ _ (type_back ctype s) refl)
 variable_back (temporary number kind) s = then_back _ _ refl (then_back _ _ (kind_back kind s) refl)
 
--- no place and no expression have more levels than their code has numbers
+-- no place, no expression and no expressions have more levels than their code has numbers
 mutual
   place_levels_back : (p : NamedPlace) (n : ℕ) (s : List ℕ) → length (place_code p) < n
       → read_place_levels n (place_code p ++ s) ≡ (p, s)
@@ -202,7 +214,20 @@ mutual
       (then_back _ _ (expr_levels_back e n s (omega (arith, both))) refl)))
   expr_levels_back input_byte (suc n) s h = refl
   expr_levels_back (output_byte e) (suc n) s h = then_back _ _ (expr_levels_back e n s (omega arith)) refl
+  expr_levels_back (formatted pieces es) (suc n) s h =
+      let falls : length (exprs_code es) < n = omega (arith, length-append (list_code piece_code pieces) (exprs_code es)) in
+      then_append _ _ (list_code piece_code pieces) (exprs_code es) s (list_back piece_code read_piece piece_back pieces)
+      (then_back _ _ (exprs_levels_back es n s falls) refl)
   expr_levels_back e zero s h = absurd (omega arith)
+
+  exprs_levels_back : (es : NamedExprs) (n : ℕ) (s : List ℕ) → length (exprs_code es) < n
+      → read_exprs_levels n (exprs_code es ++ s) ≡ (es, s)
+  exprs_levels_back no_expr (suc n) s h = refl
+  exprs_levels_back (more_exprs e rest) (suc n) s h =
+      let both = length-append (expr_code e) (exprs_code rest) in
+      then_append _ _ (expr_code e) (exprs_code rest) s (λ t. expr_levels_back e n t (omega (arith, both)))
+      (then_back _ _ (exprs_levels_back rest n s (omega (arith, both))) refl)
+  exprs_levels_back es zero s h = absurd (omega arith)
 
 expr_back : (e : NamedExpr) (s : List ℕ) → read_expr (expr_code e ++ s) ≡ (e, s)
 unfolding read_expr
@@ -238,6 +263,9 @@ tree_back (calls call) s = then_back _ _ (call_back call s) refl
 tree_back (initialises owner ctype init) s =
     then_append _ _ (owner_code owner) (type_code ctype ++ init_code init) s (owner_back owner)
     (then_append _ _ (type_code ctype) (init_code init) s (type_back ctype) (then_back _ _ (init_back init s) refl))
+tree_back (switches e) s = then_back _ _ (expr_back e s) refl
+tree_back jumps s = refl
+tree_back (halts e) s = then_back _ _ (expr_back e s) refl
 
 pub global_back : (global : GlobalTree) (s : List ℕ) → read_global (global_code global ++ s) ≡ (global, s)
 global_back global s =

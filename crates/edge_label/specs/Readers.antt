@@ -9,6 +9,8 @@ use Rattle.csub_text.specs.declared.operator.BinOp.{BinOp}
 use Rattle.csub_text.specs.declared.operator.BinOp.TheVariants.{Mul, Div, Rem, Add, Sub, Shl, Shr, Lt, Gt, Le, Ge, Eq, Ne, BitAnd, BitXor, BitOr}
 use Rattle.csub_types.specs.declared.kind.IntKind.{IntKind}
 use Rattle.csub_types.specs.declared.kind.IntKind.TheVariants.{Char, Int, Unsigned}
+use Rattle.csub_semantics.specs.declared.expression.Piece.{Piece}
+use Rattle.csub_semantics.specs.declared.expression.Piece.TheVariants.{Byte, Signed, Plain, Letter}
 use Rattle.csub_semantics.specs.declared.label.EndRule.{EndRule}
 use Rattle.csub_semantics.specs.declared.label.EndRule.TheVariants as rule
 use Rattle.csub_objects.specs.Types.{Name, TypeTree, number_type, array_type, struct_type, loose_type}
@@ -16,9 +18,10 @@ use Rattle.csub_objects.specs.Types.{MemberTree, MemberTrees, no_member, more_me
 use Rattle.csub_semantics.specs.Types.{GlobalTree}
 use Rattle.csub_semantics.specs.Trees.{variable, element_place, member_place, constant, reading, unary_operation, conversion, stepping, operation}
 use Rattle.csub_semantics.specs.Trees.{conjunction, disjunction, choice, assignment, update, input_byte, output_byte, value_argument}
+use Rattle.csub_semantics.specs.Trees.{formatted, NamedExprs, no_expr, more_exprs}
 use Rattle.csub_semantics.specs.Trees.{OwnerTree, global_owner, local_owner, Variable, object, temporary, NamedPlace, NamedExpr, NamedArg}
 use Rattle.csub_semantics.specs.Labels.{AnswerTree, CallTree, InitTree, one_value, LabelTree, enters, exits, evaluates, initialises, branches}
-use Rattle.csub_semantics.specs.Labels.{returns, calls, PointLabel}
+use Rattle.csub_semantics.specs.Labels.{switches, returns, jumps, halts, calls, PointLabel}
 
 -- a reader takes a value off the front of a list, and gives what is left
 abbrev pub Reader : Type 0 → Type 0
@@ -69,6 +72,15 @@ read_operator =
     by_number (just Mul ∷ just Div ∷ just Rem ∷ just Add ∷ just Sub ∷ just Shl ∷ just Shr ∷ just Lt ∷ just Gt ∷ just Le ∷ just Ge
     ∷ just Eq ∷ just Ne ∷ just BitAnd ∷ just BitXor ∷ just BitOr ∷ []) Mul
 
+abbrev pub piece_of : ℕ → Piece
+piece_of zero = Signed
+piece_of (suc zero) = Plain
+piece_of (suc (suc zero)) = Letter
+piece_of (suc (suc (suc b))) = Byte b
+
+abbrev pub read_piece : Reader Piece
+read_piece = then read_number (λ n. just (piece_of n))
+
 abbrev pub read_rule : Reader EndRule
 read_rule = by_number (just rule.Nothing ∷ just rule.Value ∷ just rule.Main ∷ just rule.Start ∷ []) rule.Nothing
 
@@ -109,7 +121,7 @@ read_variable =
     ∷ then read_number (λ number. then read_kind (λ kind. just (temporary number kind)))
     ∷ []) (temporary 0 Char)
 
--- a place and an expression of at most so many levels
+-- a place and an expression of at most so many levels, and so expressions, where those behind the first are a level below
 abbrev mutual
   pub read_place_levels : ℕ → Reader NamedPlace
   read_place_levels zero = just (variable (temporary 0 Char))
@@ -138,7 +150,15 @@ abbrev mutual
       ∷ then (read_place_levels n) (λ place. then (read_expr_levels n) (λ e. just (assignment place e)))
       ∷ then read_operator (λ op. then read_kind (λ kind.
       then (read_place_levels n) (λ place. then (read_expr_levels n) (λ e. just (update place op kind e)))))
+      ∷ then (read_list read_piece) (λ pieces. then (read_exprs_levels n) (λ es. just (formatted pieces es)))
       ∷ []) input_byte
+
+  pub read_exprs_levels : ℕ → Reader NamedExprs
+  read_exprs_levels zero = just no_expr
+  read_exprs_levels (suc n) =
+      by_number (just no_expr
+      ∷ then (read_expr_levels n) (λ e. then (read_exprs_levels n) (λ rest. just (more_exprs e rest)))
+      ∷ []) no_expr
 
 -- no expression has more levels than its code has numbers, so one more is enough
 unfoldable pub read_expr : Reader NamedExpr
@@ -168,6 +188,9 @@ read_tree =
     ∷ then (read_option read_answer) (λ answer. just (returns answer))
     ∷ then read_call (λ call. just (calls call))
     ∷ then read_owner (λ owner. then read_type (λ ctype. then read_init (λ init. just (initialises owner ctype init))))
+    ∷ then read_expr (λ e. just (switches e))
+    ∷ just jumps
+    ∷ then read_expr (λ e. just (halts e))
     ∷ []) enters
 
 abbrev pub read_global : Reader GlobalTree

@@ -6,7 +6,7 @@ use Rattle.csub_semantics.specs.Labels.{PointLabel}
 use Rattle.csub_semantics.specs.Globals.{found_first}
 use Rattle.edge_label.specs.Codes.{label_code}
 use Rattle.edge_label.specs.Readers.{read_tree}
-use Rattle.edge_label.specs.Numbers.{HasEachOnce}
+use Rattle.edge_label.specs.Numbers.{HasNumber, KeepsNumbers, AddsOnly, HasEachOnce}
 
 -- numbers stay, and there may be more
 abbrev pub Extends : List GlobalTree → List GlobalTree → Type 0
@@ -39,3 +39,15 @@ IsCode table label code = AppendsNumbers table label.globals (label_code label.t
 pub record IsBook (table : List GlobalTree) (codes : List (List ℕ)) : Type 0 where
   pub once : HasEachOnce table
   pub written : All (λ code. IsCode table (label_in table code) code) codes
+
+-- the label has this number, and no other, among the codes and at most one more
+pub record IsInterned (table : List GlobalTree) (codes new : List (List ℕ)) (n : ℕ) (label : PointLabel) : Type 0 where
+  pub book : IsBook table new
+  pub number : HasNumber (map (label_in table) new) n label
+  pub only : (m : ℕ) → HasNumber (map (label_in table) new) m label → m ≡ n
+  pub adds_only : AddsOnly (map (label_in table) codes) (map (label_in table) new) label
+
+-- the codes are those of a book in which no number has changed its label
+pub record Grows (table : List GlobalTree) (codes new : List (List ℕ)) : Type 0 where
+  pub book : IsBook table new
+  pub keeps : KeepsNumbers (map (label_in table) codes) (map (label_in table) new)

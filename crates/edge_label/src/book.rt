@@ -1,12 +1,13 @@
 //! Labels with their numbers.
-ghost use Rattle.std.specs.Prelude.{◌≡◌, ◌↔◌, ◌+◌, ◌<◌, ◌≤◌, [], IsTrue, IfOk, OnOk, OnErr, length, map, ℕ};
-ghost use Rattle.csub_semantics.specs.Types.{global_tree};
+ghost use Rattle.std.specs.Prelude.{◌≡◌, ◌↔◌, ◌+◌, ◌<◌, ◌≤◌, List, [], IsTrue, IfOk, OnOk, OnErr, length, map, ℕ};
+ghost use Rattle.csub_semantics.specs.Types.{GlobalTree, global_tree};
 ghost use Rattle.csub_semantics.specs.Labels.{label_tree, PointLabel};
-ghost use Rattle.edge_label.specs.Numbers.{HasNumber, KeepsNumbers, AddsOnly, whole};
+ghost use Rattle.edge_label.specs.Numbers.{HasNumber, HaveNumbers, KeepsNumbers, AddsOnly, whole};
+ghost use Rattle.edge_label.specs.Indices.{IsIndex};
+ghost use Rattle.edge_label.specs.Tables.{label_in, IsBook, IsInterned, Grows};
 
-use crate::globals::NamedGlobals;
 use crate::steps::Steps;
-use crate::table::{GlobalTable, code_of};
+use crate::table::{GlobalNumbers, GlobalTable, code_of, number_all};
 use csub_semantics::{GlobalVar, Label};
 use indexmap::IndexSet;
 use std::alloc::{AllocError, Global};
@@ -52,8 +53,7 @@ impl LabelBook {
     /// has, or the next one. An `Err` is want of memory or of numbers, of which there are 2^32 - 1; the labels are then
     /// as before.
     ///
-    /// It goes over all of the globals once. Whoever numbers more than one label makes the index of the globals first,
-    /// and calls [`LabelBook::intern_named`].
+    /// It goes over the contents of all globals. Whoever numbers more than one label calls [`LabelBook::intern_all`].
     pub fn intern(&mut self, label: &Label, globals: &[GlobalVar]) -> Result<u32, AllocError>
         ensures number { IfOk result (λ n. HasNumber self.new n (whole (map global_tree globals.now) (label_tree label.now))) }
         ensures only { IfOk result (λ n. (m : ℕ) → HasNumber self.new m (whole (map global_tree globals.now) (label_tree label.now)) → m ≡ n) }
@@ -63,31 +63,23 @@ impl LabelBook {
         ensures grows { length self.old ≤ length self.new }
         ensures err { OnErr result (self.new ≡ self.old) }
     {
-        let named = NamedGlobals::new(self.alloc, globals)?;
-        self.intern_named(label, &named)
+        let numbers = number_all(self.alloc, &mut self.globals, globals)?;
+        intern_code(self.alloc, &mut self.codes, label, &numbers)
     }
 
-    /// As [`LabelBook::intern`], where the globals stand in an index: a look-up there for each name of a global in the
-    /// label, and a pass over the contents of the globals that are found.
-    pub fn intern_named(
+    /// The numbers of the whole labels of a program, in the order of the labels, as [`LabelBook::intern`] gives them: a
+    /// pass over the contents of the globals, and a look-up for each name of a global in a label. At an `Err` some of the
+    /// labels may have got a number.
+    pub fn intern_all(
         &mut self,
-        label: &Label,
-        globals: &NamedGlobals<'_>,
-    ) -> Result<u32, AllocError>
-        ensures number { IfOk result (λ n. HasNumber self.new n (whole globals.now (label_tree label.now))) }
-        ensures only { IfOk result (λ n. (m : ℕ) → HasNumber self.new m (whole globals.now (label_tree label.now)) → m ≡ n) }
-        ensures given { IfOk result (λ n. n < length self.new) }
-        ensures keeps { OnOk result (KeepsNumbers self.old self.new) }
-        ensures adds { OnOk result (AddsOnly self.old self.new (whole globals.now (label_tree label.now))) }
-        ensures grows { length self.old ≤ length self.new }
-        ensures err { OnErr result (self.new ≡ self.old) }
+        labels: &[&Label],
+        globals: &[GlobalVar],
+    ) -> Result<Vec<u32>, AllocError>
+        ensures numbers { IfOk result (λ row. HaveNumbers self.new row.items (map (λ label. whole (map global_tree globals.now) (label_tree label.now)) labels.now)) }
+        ensures keeps { KeepsNumbers self.old self.new }
     {
-        if self.codes.len() >= 4_294_967_295 {
-            return Err(AllocError);
-        }
-        let code = code_of(self.alloc, &mut self.globals, label, globals)?;
-        let (number, _) = self.codes.insert_full(code)?;
-        Ok(number as u32)
+        let numbers = number_all(self.alloc, &mut self.globals, globals)?;
+        intern_codes(self.alloc, &mut self.codes, labels, &numbers)
     }
 
     /// Whether two numbers that this book gave have equal labels. It counts one step, and takes no memory.
@@ -101,4 +93,47 @@ impl LabelBook {
         steps.tick();
         a == b
     }
+}
+
+/// The number of the code of a whole label: the one that it has, or the next one. An `Err` is want of memory or of
+/// numbers; the codes are then as before.
+fn intern_code(
+    alloc: Global,
+    codes: &mut IndexSet<Vec<u64>>,
+    label: &Label,
+    numbers: &GlobalNumbers<'_>,
+) -> Result<u32, AllocError>
+    ensures interned { IfOk result (λ n. (table globals : List GlobalTree) → IsIndex table globals numbers.now.by_name.entries →
+        IsBook table (map (λ code. code.items) codes.old.keys) →
+        IsInterned table (map (λ code. code.items) codes.old.keys) (map (λ code. code.items) codes.new.keys) n (whole globals (label_tree label.now))) }
+    ensures err { OnErr result (codes.new.keys ≡ codes.old.keys) }
+{
+    if codes.len() >= 4_294_967_295 {
+        return Err(AllocError);
+    }
+    let code = code_of(alloc, label, numbers)?;
+    let (number, _) = codes.insert_full(code)?;
+    Ok(number as u32)
+}
+
+/// The numbers of the codes of whole labels, in the order of the labels. An `Err` is want of memory or of numbers.
+fn intern_codes(
+    alloc: Global,
+    codes: &mut IndexSet<Vec<u64>>,
+    labels: &[&Label],
+    numbers: &GlobalNumbers<'_>,
+) -> Result<Vec<u32>, AllocError>
+    ensures numbers { IfOk result (λ row. (table globals : List GlobalTree) → IsIndex table globals numbers.now.by_name.entries →
+        IsBook table (map (λ code. code.items) codes.old.keys) →
+        HaveNumbers (map (label_in table) (map (λ code. code.items) codes.new.keys)) row.items (map (λ label. whole globals (label_tree label.now)) labels.now)) }
+    ensures grows { (table globals : List GlobalTree) → IsIndex table globals numbers.now.by_name.entries →
+        IsBook table (map (λ code. code.items) codes.old.keys) →
+        Grows table (map (λ code. code.items) codes.old.keys) (map (λ code. code.items) codes.new.keys) }
+{
+    let mut row = Vec::new(alloc);
+    for label in labels {
+        let number = intern_code(alloc, codes, label, numbers)?;
+        row.push(number)?;
+    }
+    Ok(row)
 }

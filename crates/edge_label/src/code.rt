@@ -3,13 +3,13 @@ ghost use Rattle.std.specs.Prelude.{◌≡◌, ◌++◌, ◌∷◌, [], OnOk, ma
 ghost use Rattle.csub_objects.specs.Types.{members_of};
 ghost use Rattle.csub_objects.specs.Meaning.{type_tree, member_tree};
 ghost use Rattle.csub_semantics.specs.Types.{global_tree};
-ghost use Rattle.csub_semantics.specs.Trees.{constant, reading, stepping, variable, object, temporary, owner_tree, place_tree, expr_tree, arg_tree};
+ghost use Rattle.csub_semantics.specs.Trees.{constant, reading, stepping, variable, object, temporary, owner_tree, place_tree, expr_tree, formatted, exprs_of, arg_tree};
 ghost use Rattle.csub_semantics.specs.Labels.{answer_tree, call_tree, init_tree, label_tree};
-ghost use Rattle.edge_label.specs.Codes.{integer_code, name_code, list_code, option_code, number_code, kind_code, kind_number, unary_number, step_number, operator_number, rule_number, type_code, members_code, member_code, owner_code, place_code, expr_code, arg_code, answer_code, call_code, init_code, label_code, global_code};
+ghost use Rattle.edge_label.specs.Codes.{integer_code, name_code, list_code, option_code, number_code, kind_code, kind_number, unary_number, step_number, operator_number, piece_number, piece_code, rule_number, type_code, members_code, member_code, owner_code, place_code, expr_code, exprs_code, arg_code, answer_code, call_code, init_code, label_code, global_code};
 
 use csub_semantics::{
-    Answer, BinOp, CType, CallLabel, EndRule, GlobalVar, IntKind, Label, Member, Owner, Place,
-    RArg, RExpr, RInit, StepOp, UnaryOp,
+    Answer, BinOp, CType, CallLabel, EndRule, GlobalVar, IntKind, Label, Member, Owner, Piece,
+    Place, RArg, RExpr, RInit, StepOp, UnaryOp,
 };
 use std::alloc::AllocError;
 
@@ -23,14 +23,8 @@ pub fn push_label(out: &mut Vec<u64>, label: &Label) -> Result<(), AllocError>
             out.push(1)?;
             out.push(rule_number(*rule))?;
         }
-        Label::Eval(expr) => {
-            out.push(2)?;
-            push_expr(out, expr)?;
-        }
-        Label::Branch(expr) => {
-            out.push(3)?;
-            push_expr(out, expr)?;
-        }
+        Label::Eval(expr) => push_behind(out, 2, expr)?,
+        Label::Branch(expr) => push_behind(out, 3, expr)?,
         Label::Return(answer) => {
             out.push(4)?;
             push_answer(out, answer)?;
@@ -45,6 +39,9 @@ pub fn push_label(out: &mut Vec<u64>, label: &Label) -> Result<(), AllocError>
             push_type(out, ctype)?;
             push_init(out, init)?;
         }
+        Label::Switch(expr) => push_behind(out, 7, expr)?,
+        Label::Goto => out.push(8)?,
+        Label::Halt(expr) => push_behind(out, 9, expr)?,
     }
     Ok(())
 }
@@ -216,6 +213,7 @@ fn push_expr(out: &mut Vec<u64>, expr: &RExpr) -> Result<(), AllocError>
         }
         RExpr::Getchar => Ok(out.push(3)?),
         RExpr::Putchar(byte) => push_behind(out, 4, byte),
+        RExpr::Printf(pieces, values) => push_printf(out, pieces, values),
         RExpr::Unary(op, kind, operand) => {
             push_operand(out, 5, unary_number(*op), *kind, operand)
         }
@@ -245,6 +243,37 @@ fn push_expr(out: &mut Vec<u64>, expr: &RExpr) -> Result<(), AllocError>
             push_expr(out, value)
         }
     }
+}
+
+/// Appends the code of a `printf`.
+#[cycle(expressions)]
+fn push_printf(out: &mut Vec<u64>, pieces: &[Piece], values: &[RExpr]) -> Result<(), AllocError>
+    ensures { OnOk result (out.new.items ≡ out.old.items ++ expr_code (formatted pieces.now (exprs_of (map expr_tree values.now)))) }
+{
+    out.push(13)?;
+    push_pieces(out, pieces)?;
+    push_exprs(out, values)
+}
+
+/// Appends the code of the values of a format.
+#[cycle(expressions)]
+fn push_exprs(out: &mut Vec<u64>, exprs: &[RExpr]) -> Result<(), AllocError>
+    ensures { OnOk result (out.new.items ≡ out.old.items ++ exprs_code (exprs_of (map expr_tree exprs.now))) }
+{
+    for expr in exprs {
+        push_behind(out, 1, expr)?;
+    }
+    Ok(out.push(0)?)
+}
+
+fn push_pieces(out: &mut Vec<u64>, pieces: &[Piece]) -> Result<(), AllocError>
+    ensures { OnOk result (out.new.items ≡ out.old.items ++ list_code piece_code pieces.now) }
+{
+    out.push(pieces.len() as u64)?;
+    for piece in pieces {
+        out.push(piece_number(*piece))?;
+    }
+    Ok(())
 }
 
 /// Appends a number and a kind, and behind them the code of an expression.
@@ -397,6 +426,17 @@ fn kind_number(kind: IntKind) -> u64
         IntKind::Char => 0,
         IntKind::Int => 1,
         IntKind::Unsigned => 2,
+    }
+}
+
+fn piece_number(piece: Piece) -> u64
+    ensures { result ≡ piece_number piece }
+{
+    match piece {
+        Piece::Signed => 0,
+        Piece::Plain => 1,
+        Piece::Letter => 2,
+        Piece::Byte(byte) => u64::from(byte) + 3,
     }
 }
 

@@ -40,8 +40,10 @@ fn add_label<'a>(set: &mut NameSet<'a>, label: &'a Label) -> Result<(), AllocErr
     ensures { OnOk result (set.new ≡ ordered set.old (label_names (label_tree label.now))) }
 {
     match label {
-        Label::Entry | Label::Exit(_) | Label::Return(None) => Ok(()),
-        Label::Eval(expr) | Label::Branch(expr) => add_expr(set, expr),
+        Label::Entry | Label::Exit(_) | Label::Return(None) | Label::Goto => Ok(()),
+        Label::Eval(expr) | Label::Branch(expr) | Label::Switch(expr) | Label::Halt(expr) => {
+            add_expr(set, expr)
+        }
         Label::Return(Some(answer)) => add_expr(set, &answer.value),
         Label::Call(call) => add_args(set, &call.args),
         Label::Init(owner, _, init) => {
@@ -86,6 +88,7 @@ fn add_expr<'a>(set: &mut NameSet<'a>, expr: &'a RExpr) -> Result<(), AllocError
         RExpr::Unary(_, _, operand) | RExpr::Cast(_, operand) | RExpr::Putchar(operand) => {
             add_expr(set, operand)
         }
+        RExpr::Printf(_, values) => add_exprs(set, values),
         RExpr::Binary(_, _, left, right) | RExpr::And(left, right) | RExpr::Or(left, right) => {
             add_expr(set, left)?;
             add_expr(set, right)
@@ -100,6 +103,16 @@ fn add_expr<'a>(set: &mut NameSet<'a>, expr: &'a RExpr) -> Result<(), AllocError
             add_expr(set, value)
         }
     }
+}
+
+#[cycle(expressions)]
+fn add_exprs<'a>(set: &mut NameSet<'a>, exprs: &'a [RExpr]) -> Result<(), AllocError>
+    ensures { OnOk result (set.new ≡ ordered set.old (flat_map expr_names (map expr_tree exprs.now))) }
+{
+    for expr in exprs {
+        add_expr(set, expr)?;
+    }
+    Ok(())
 }
 
 #[cycle(expressions)]

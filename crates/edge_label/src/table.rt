@@ -1,17 +1,18 @@
 //! Globals with their numbers, and the codes of labels over them.
-ghost use Rattle.std.specs.Prelude.{◌≡◌, [], ◌∷◌, Some, IfOk, OnOk, map, option_map, slice_get};
-ghost use Rattle.csub_semantics.specs.Types.{global_tree};
+ghost use Rattle.std.specs.Prelude.{◌≡◌, List, [], ◌∷◌, ◌++◌, Some, IfOk, OnOk, map, slice_get};
+ghost use Rattle.csub_semantics.specs.Types.{GlobalTree, global_tree};
 ghost use Rattle.csub_semantics.specs.Labels.{label_tree};
 ghost use Rattle.csub_semantics.specs.Globals.{globals_of};
 ghost use Rattle.edge_label.specs.Numbers.{HasEachOnce, whole};
+ghost use Rattle.edge_label.specs.Indices.{IsIndex};
 ghost use Rattle.edge_label.specs.Tables.{Extends, AppendsNumbers, IsCode};
 
 use crate::code::{push_global, push_label};
-use crate::globals::NamedGlobals;
 use crate::names::{NameSet, global_names};
 use csub_semantics::{GlobalVar, Label};
 use indexmap::IndexSet;
 use std::alloc::{AllocError, Global};
+use std::collections::HashMap;
 use std::marker::Model;
 
 /// Globals with their numbers, which are given from 0 on. Contracts see the list of the globals.
@@ -19,6 +20,13 @@ use std::marker::Model;
 pub struct GlobalTable {
     alloc: Global,
     codes: IndexSet<Vec<u64>>,
+}
+
+/// Numbers of globals, each by the global's name.
+#[derive(Drop)]
+pub struct GlobalNumbers<'a> {
+    /// The numbers by the names.
+    pub by_name: HashMap<&'a [u8], u64>,
 }
 
 impl Model for GlobalTable {
@@ -60,57 +68,86 @@ impl GlobalTable {
     }
 }
 
-/// The code of a whole label over a table, to which those of the label's globals are added that it lacks. An `Err` is
-/// want of memory; some of these may be there then.
-pub fn code_of(
+/// The numbers of globals by their names: of two with one name the first counts. An `Err` is want of memory; the table
+/// may have some more of the globals then.
+pub fn number_all<'a>(
     alloc: Global,
     table: &mut GlobalTable,
-    label: &Label,
-    globals: &NamedGlobals<'_>,
-) -> Result<Vec<u64>, AllocError>
-    ensures code { IfOk result (λ code. IsCode table.new (whole globals.now (label_tree label.now)) code.items) }
+    globals: &'a [GlobalVar],
+) -> Result<GlobalNumbers<'a>, AllocError>
+    ensures numbers { IfOk result (λ numbers. IsIndex table.new (map global_tree globals.now) numbers.by_name.entries) }
     ensures grows { Extends table.old table.new }
     ensures once { HasEachOnce table.old → HasEachOnce table.new }
+{
+    let mut numbers = GlobalNumbers {
+        by_name: HashMap::new(alloc),
+    };
+    for global in globals {
+        add_number(table, &mut numbers, global)?;
+    }
+    Ok(numbers)
+}
+
+/// Adds the number of one more global, unless its name has one.
+fn add_number<'a>(
+    table: &mut GlobalTable,
+    numbers: &mut GlobalNumbers<'a>,
+    global: &'a GlobalVar,
+) -> Result<(), AllocError>
+    ensures numbers { OnOk result ((before : List GlobalTree) → IsIndex table.old before numbers.old.by_name.entries → IsIndex table.new (before ++ global_tree global.now ∷ []) numbers.new.by_name.entries) }
+    ensures grows { Extends table.old table.new }
+    ensures once { HasEachOnce table.old → HasEachOnce table.new }
+{
+    let name = global.name.bytes();
+    if numbers.by_name.contains_key(name) {
+        return Ok(());
+    }
+    let number = table.number(global)?;
+    numbers.by_name.insert(name, number)?;
+    Ok(())
+}
+
+/// The code of a whole label, by the numbers of the globals. An `Err` is want of memory.
+pub fn code_of(
+    alloc: Global,
+    label: &Label,
+    numbers: &GlobalNumbers<'_>,
+) -> Result<Vec<u64>, AllocError>
+    ensures { IfOk result (λ code. (table globals : List GlobalTree) → IsIndex table globals numbers.now.by_name.entries →
+        IsCode table (whole globals (label_tree label.now)) code.items) }
 {
     let names = global_names(alloc, label)?;
     let mut code = Vec::new(alloc);
     push_label(&mut code, label)?;
-    push_numbers(&mut code, table, &names, globals)?;
+    push_numbers(&mut code, &names, numbers)?;
     Ok(code)
 }
 
 /// Appends the numbers of the globals of these names, each once, in the order of the names. An `Err` is want of memory.
 fn push_numbers(
     code: &mut Vec<u64>,
-    table: &mut GlobalTable,
     names: &NameSet<'_>,
-    globals: &NamedGlobals<'_>,
+    numbers: &GlobalNumbers<'_>,
 ) -> Result<(), AllocError>
-    ensures numbers { OnOk result (AppendsNumbers table.new (globals_of globals.now names.now) code.old.items code.new.items) }
-    ensures grows { Extends table.old table.new }
-    ensures once { HasEachOnce table.old → HasEachOnce table.new }
+    ensures { OnOk result ((table globals : List GlobalTree) → IsIndex table globals numbers.now.by_name.entries →
+        AppendsNumbers table (globals_of globals names.now) code.old.items code.new.items) }
 {
     for name in &names.names {
-        push_number(code, table, name, globals)?;
+        push_number(code, name, numbers)?;
     }
     Ok(())
 }
 
 fn push_number(
     code: &mut Vec<u64>,
-    table: &mut GlobalTable,
     name: &[u8],
-    globals: &NamedGlobals<'_>,
+    numbers: &GlobalNumbers<'_>,
 ) -> Result<(), AllocError>
-    ensures numbers { OnOk result (AppendsNumbers table.new (globals_of globals.now (name.now ∷ [])) code.old.items code.new.items) }
-    ensures grows { Extends table.old table.new }
-    ensures once { HasEachOnce table.old → HasEachOnce table.new }
+    ensures { OnOk result ((table globals : List GlobalTree) → IsIndex table globals numbers.now.by_name.entries →
+        AppendsNumbers table (globals_of globals (name.now ∷ [])) code.old.items code.new.items) }
 {
-    match globals.find(name) {
+    match numbers.by_name.get(name) {
         None => Ok(()),
-        Some(global) => {
-            let number = table.number(global)?;
-            Ok(code.push(number)?)
-        }
+        Some(number) => Ok(code.push(*number)?),
     }
 }

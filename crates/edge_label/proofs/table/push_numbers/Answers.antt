@@ -1,21 +1,19 @@
 use Rattle.std.proofs.Common.{◌≡◌, ◌++◌, map, ap, sym, subst, refl, ◌∙◌, append-nil}
 use Rattle.csub_semantics.specs.Globals.{globals_of}
 use Rattle.edge_label.specs.Tables.{AppendsNumbers}
-use Rattle.edge_label.proofs.TableLemmas.{numbers_of_next, names_step, Extends-trans}
+use Rattle.edge_label.proofs.TableLemmas.{numbers_of_next, names_step}
 use Rattle.edge_label.proofs.table.push_numbers.Goals as goal
 
 pub loop-name-preserved : goal.loop-name-preserved
 loop-name-preserved c = record {
   names = names_step (λ name. name.now.now) (λ name. name.now) c.loop-name.yielded c.in-Some.name c.in-Some.name.now c.loop-name.name-iterator c.next.new.self c.args.names.now
       c.loop-name.invariant.names c.in-Some.ensures.steps refl;
-  numbers = numbers_of_next (λ name. name.now.now) c.args.globals.now c.loop-name.table c.push_number.new.table c.loop-name.yielded c.in-Some.name c.args.code.now.items
-      c.loop-name.code.items c.push_number.new.code.items c.in_ok-push_number.ensures.grows c.loop-name.invariant.numbers c.in_ok-push_number.ensures.numbers;
-  grows = Extends-trans c.args.table.now c.loop-name.table c.push_number.new.table c.loop-name.invariant.grows c.in_ok-push_number.ensures.grows;
-  once = λ before. c.in_ok-push_number.ensures.once (c.loop-name.invariant.once before);
+  numbers = λ table globals index. numbers_of_next (λ name. name.now.now) globals table c.loop-name.yielded c.in-Some.name c.args.code.now.items
+      c.loop-name.code.items c.push_number.new.code.items (c.loop-name.invariant.numbers table globals index) (c.in_ok-push_number.ensures table globals index);
 }
 
-pub returns-clause-numbers : goal.returns-clause-numbers
-returns-clause-numbers c =
+pub returns : goal.returns
+returns c = λ table globals index.
     let all = map (λ name. name.now.now) c.loop-name.yielded in
     let names : all ≡ c.args.names.now = sym (append-nil all) ∙ ap (λ left. all ++ map (λ name. name.now) left) (sym c.in-None.ensures.steps.0) ∙ c.loop-name.invariant.names in
-    subst (λ ns. AppendsNumbers c.loop-name.table (globals_of c.args.globals.now ns) c.args.code.now.items c.loop-name.code.items) names c.loop-name.invariant.numbers
+    subst (λ ns. AppendsNumbers table (globals_of globals ns) c.args.code.now.items c.loop-name.code.items) names (c.loop-name.invariant.numbers table globals index)
