@@ -1,4 +1,4 @@
-//! Tests of the first pass over bodies of functions: C text, and the rule that it has to break, with the place and the text
+//! Tests of the first pass over bodies of functions and over whole sources: C text, and the rule that it has to break, with the place and the text
 //! there, by the rules of C11 and of the language. They stand above what they test, since a crate's tests are proved
 //! together with the whole crate.
 #![tactic(auto)]
@@ -19,3 +19,5 @@ mod reading;
 mod sizes;
 #[cfg(test)]
 mod statements;
+#[cfg(test)]
+mod unit;

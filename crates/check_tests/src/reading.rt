@@ -1,4 +1,4 @@
-//! The first rule that a function in C text breaks.
+//! The first rule that a function or a whole source in C text breaks.
 use crate::declared::file_scope;
 use csub_bodies::{Here, check_body};
 use csub_declare::base_type;
@@ -9,6 +9,7 @@ use csub_rules::Fault;
 use csub_scopes::{Counts, Meaning, Scope};
 use csub_tree::{Head, Item, Name, Param, Stmt, TypeName, Unit};
 use csub_types::IntKind;
+use csub_units::check_unit;
 use std::alloc::Global;
 use std::process::Abort;
 use std::test::Fail;
@@ -104,6 +105,9 @@ fn shown(alloc: Global, source: &str, fault: Option<Fault>) -> Result<String, Fa
         }
         text.push(byte as char)?;
     }
+    if start == source.len() {
+        text.push('@')?;
+    }
     Ok(text)
 }
 
@@ -135,6 +139,29 @@ pub fn agrees(
         let source = format!(in alloc; "{head} {{ {plain} }}")?;
         let expected = format!(in alloc; "{rule} {text} {head} {{ {lines} }}")?;
         let found = found(alloc, source.as_str())?;
+        assert!(rt;
+            found.as_str() == expected.as_str(),
+            "{source} gave {found}"
+        );
+    }
+    Ok(())
+}
+
+/// Each row has a part of a source, which stands before this end of it, the rule that the source breaks, which is told at the
+/// `@`, and the text there; or 0 and no text where it breaks none.
+pub fn sources_agree(
+    rt: &impl Abort,
+    alloc: Global,
+    end: &str,
+    rows: &[(&str, u8, &str)],
+) -> Result<(), Fail> {
+    for (items, rule, text) in rows {
+        let plain = unmarked(alloc, items)?;
+        let source = format!(in alloc; "{plain}{end}")?;
+        let expected = format!(in alloc; "{rule} {text} {items}{end}")?;
+        let unit = unit_of(alloc, source.as_str())?;
+        let fault = check_unit(alloc, &unit)?;
+        let found = shown(alloc, source.as_str(), fault)?;
         assert!(rt;
             found.as_str() == expected.as_str(),
             "{source} gave {found}"

@@ -1,5 +1,5 @@
+pub mod LawsGrows
 mod Counted
-mod Grows
 mod Loops
 mod Switching
 mod Trees

@@ -22,7 +22,7 @@ pub struct Here {
 }
 
 /// Whether a name is declared in this block already.
-pub(crate) fn is_declared(here: &Here, name: &[u8]) -> bool
+pub fn is_declared(here: &Here, name: &[u8]) -> bool
     ensures { result ≡ is_declared (here_of here.now) name.now }
 {
     match here.scope.names.find(name) {
@@ -42,7 +42,7 @@ fn local_meaning(number: u32, ctype: Option<CType>) -> Meaning
 }
 
 /// Declares an object of the function.
-pub(crate) fn declare(here: &mut Here, name: &Text, ctype: Option<CType>) -> Result<(), AllocError>
+pub fn declare(here: &mut Here, name: &Text, ctype: Option<CType>) -> Result<(), AllocError>
     ensures { OnOk result (here_of here.new ≡ declaring (here_of here.old) name.now (option_map type_tree ctype)) }
 {
     let count = here.before.count(name.bytes());

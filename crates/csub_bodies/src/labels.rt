@@ -10,7 +10,7 @@ use std::alloc::AllocError;
 
 /// Whether a name stands among others.
 #[tactic(auto, using(crate::proofs::Counted::any_counted))]
-fn stands_in(names: &Counts, name: &[u8]) -> bool
+pub fn stands_in(names: &Counts, name: &[u8]) -> bool
     ensures { result ≡ stands_in name.now names.now }
 {
     names.count(name) > 0

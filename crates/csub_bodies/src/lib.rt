@@ -2,8 +2,10 @@
 //!
 //! What is promised: [`check_statement`] gives the earliest fault of a statement and what is declared behind it, exactly as
 //! `stmt_fault` and `past` of the definitions of rules (`csub_rules`) say; [`check_declaration`] the same of a declaration in
-//! a block, and [`check_body`] of the lines of a function's body, as `body_fault` says. Each takes time in proportion to what
-//! it looks at, save for a hash of each name and each case value. An `Err` is want of memory, or a full count.
+//! a block, and [`check_body`] of the lines of a function's body, as `body_fault` says. [`declare`] declares an object of a
+//! function, as a parameter is one; [`is_declared`] and [`stands_in`] tell whether a name is there already. Each takes time in
+//! proportion to what it looks at, save for a hash of each name and each case value. An `Err` is want of memory, or a full
+//! count.
 #![tactic(auto)]
 
 pub mod body;
@@ -15,7 +17,8 @@ pub mod surroundings;
 mod switch;
 
 pub use body::check_body;
-pub use here::Here;
+pub use here::{Here, declare, is_declared};
+pub use labels::stands_in;
 pub use local::check_declaration;
 pub use statement::check_statement;
 pub use surroundings::Surroundings;

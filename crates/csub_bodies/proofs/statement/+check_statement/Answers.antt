@@ -5,7 +5,7 @@ use Rattle.csub_rules.specs.Here.{Here}
 use Rattle.csub_rules.specs.Past.{past, past_kind, past_lines}
 use Rattle.csub_bodies.specs.Switches.{label_at, seen_of}
 use Rattle.csub_bodies.specs.Views.{here_of, the_surroundings}
-use Rattle.csub_bodies.proofs.Grows.{block_left, for_left}
+use Rattle.csub_bodies.proofs.LawsGrows.{block_left, for_left}
 use Rattle.csub_bodies.proofs.Loops.{lines_past_more, lines_fault_more, labels_more}
 use Rattle.csub_bodies.proofs.Trees.{block_tree, switch_tree, line_of}
 use Rattle.csub_bodies.proofs.statement.+check_statement.Goals.{check_statement-in-None-first, check_statement-in-Some-first+in_ok-start-in-Some-first}

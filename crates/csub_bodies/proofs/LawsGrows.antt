@@ -1,4 +1,4 @@
--- Declarations only come on top, and what a block that is left leaves is what stood before it.
+-- Declarations only come on top, and what a block that is left leaves is what stood before it. Crates above cite these lemmas.
 use Rattle.std.proofs.Common.{◌≡◌, ◌∙◌, refl, sym, ap, arith, ℕ, ◌+◌, ◌-◌, List, [], ◌∷◌, ◌++◌, length, drop, length-append, append_assoc, Option}
 use Rattle.std.proofs.Math.Seq.{drop-append_seam}
 use Rattle.csub_tree.specs.Declarations.{Declarator}

@@ -1,0 +1,15 @@
+pub mod LawsNames
+pub mod LawsObjects
+pub mod LawsStructs
+pub mod LawsEnums
+pub mod LawsHeads
+pub mod LawsItems
+pub mod LawsUnits
+mod Loops
+mod ParamTypes
+mod ConstantLoop
+mod Members
+mod MemberFacts
+mod Leaving
+mod TypesAgree
+mod HeadFaults

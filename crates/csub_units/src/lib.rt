@@ -1,0 +1,25 @@
+//! The rules of the language on items and on whole sources: M2, M3, M4, M9, M10 and M19, and the first pass over them.
+//!
+//! `specs/` says twice which rule is broken: `BrokenObject` and `BrokenItem` have a constructor for each rule and for each
+//! place, and `Files`, `Objects`, `Structs`, `Enums`, `Heads`, `Items` and `Units` say what is declared behind each item, and
+//! compute the fault that is told. What is promised of them, in the contracts of [`laws`]: a fault is a broken rule, no rule
+//! is broken before it, and where there is no fault, no rule is broken.
+//!
+//! [`check_unit`] gives the fault of a whole source as `unit_fault` says, and [`check_item`] that of an item in what is declared
+//! before it, a [`File`]. They take time in proportion to the source and the types that it compares, save for a hash of each
+//! name; an `Err` is want of memory, or a full count.
+#![tactic(auto)]
+
+pub mod enums;
+pub mod file;
+pub mod heads;
+pub mod items;
+pub mod laws;
+pub mod objects;
+pub mod params;
+pub mod structs;
+pub mod unit;
+
+pub use file::File;
+pub use items::check_item;
+pub use unit::check_unit;
