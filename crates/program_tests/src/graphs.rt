@@ -58,7 +58,7 @@ fn small_graph(alloc: Global) -> Result<Graph, Fail> {
 }
 
 /// Whether the edges are those between the points, and each is found by its exit label.
-fn has_edges(graph: &Graph, ends: &[(u32, u32)]) -> bool {
+pub fn has_edges(graph: &Graph, ends: &[(u32, u32)]) -> bool {
     if graph.edges() as usize != ends.len() {
         return false;
     }

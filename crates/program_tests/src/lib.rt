@@ -1,5 +1,5 @@
-//! Tests of programs and of what is made of them: which ones are valid, the graph, the labels, and the reader of small
-//! sources. They build their programs with `program_builders`, in small functions that each make one thing.
+//! Tests of programs and of what is made of them: objects of file scope, the graph, the labels. They build their programs
+//! with `program_builders`, in small functions that each make one thing.
 #![tactic(auto)]
 
 #[cfg(test)]
@@ -9,12 +9,6 @@ mod graphs;
 #[cfg(test)]
 mod labels;
 #[cfg(test)]
-mod parts;
-#[cfg(test)]
-mod places;
-#[cfg(test)]
-mod small_sources;
+mod switches;
 #[cfg(test)]
 mod threads;
-#[cfg(test)]
-mod validity;

@@ -1,5 +1,4 @@
 //! Runs of programs with an object of file scope.
-use crate::shown::run_program;
 use csub_core::{BinOp, Function, IntKind, Program, RStmt, Status};
 use program_builders::expressions::constant;
 use program_builders::functions::{function, void_call_line};
@@ -8,6 +7,7 @@ use program_builders::objects::{
 };
 use program_builders::programs::{main_alone, main_function, with_global, with_main};
 use program_builders::statements::{evaluated, line, one_line, returned};
+use program_runs::run_program;
 use std::alloc::{AllocError, Global};
 use std::test::Fail;
 

@@ -3,6 +3,8 @@
 #![tactic(auto)]
 
 #[cfg(test)]
+mod calls;
+#[cfg(test)]
 mod globals;
 #[cfg(test)]
 mod loops;
@@ -11,8 +13,8 @@ mod operators;
 #[cfg(test)]
 mod parts;
 #[cfg(test)]
-mod shown;
-#[cfg(test)]
 mod stored;
 #[cfg(test)]
 mod turns;
+#[cfg(test)]
+mod whole;

@@ -1,8 +1,8 @@
 //! Runs through loops.
-use crate::shown::run;
 use csub_core::{RStmt, Status};
 use program_builders::expressions::constant;
 use program_builders::statements::{input_test, nested, output_part, returned, written};
+use program_runs::run;
 use std::alloc::{AllocError, Global};
 use std::test::Fail;
 

@@ -1,10 +1,10 @@
 //! What operators, casts and choices give as programs run.
-use crate::shown::run;
 use csub_core::{BinOp, IntKind, RExpr, Status, Trap, UnaryOp};
 use program_builders::expressions::{
     binary, cast, choice, conjunction, constant, constant_of, disjunction, equality, unary,
 };
 use program_builders::statements::{one_line, returned};
+use program_runs::run;
 use std::alloc::{AllocError, Global};
 use std::test::Fail;
 

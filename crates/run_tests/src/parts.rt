@@ -1,5 +1,4 @@
 //! Runs over the elements of arrays and the members of structs.
-use crate::shown::{Shown, run_program};
 use csub_core::{BinOp, CType, IntKind, LocalVar, Owner, Place, RExpr, Status, Text, Trap};
 use csub_objects::array_of;
 use program_builders::expressions::{binary, boxed, constant, output_of};
@@ -9,6 +8,7 @@ use program_builders::parts::{
 };
 use program_builders::programs::{main_alone, main_function, with_global, with_main};
 use program_builders::statements::{evaluated, one_line, returned};
+use program_runs::{Shown, run_program};
 use std::alloc::{AllocError, Global};
 use std::test::Fail;
 
@@ -34,7 +34,7 @@ fn returning(
     let functions = main_alone(alloc, one_line(alloc, returned(alloc, value)?)?)?;
     let global = declared_with(alloc, b"g", ctype, contents)?;
     let program = with_global(alloc, functions, global)?.ok_or("refused")?;
-    run_program(alloc, &program, b"", 100)
+    Ok(run_program(alloc, &program, b"", 100)?)
 }
 
 /// A run of `return value;` beside the table, whose numbers are 10 to 15.

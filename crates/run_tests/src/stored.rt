@@ -1,5 +1,4 @@
 //! Runs that store numbers in objects, and pass them to functions and back.
-use crate::shown::{Shown, run_of};
 use csub_core::{BinOp, CallLabel, Function, IntKind, RExpr, RPart, RStmt, Status, StepOp, Trap};
 use program_builders::expressions::{binary, constant, equality, output, temporary};
 use program_builders::functions::{call, function, one_argument, one_call, void_call_line};
@@ -10,6 +9,7 @@ use program_builders::programs::{main_function, with_main};
 use program_builders::statements::{
     answer, evaluated, input_test, line, line_of, nested, one_line, part, returned,
 };
+use program_runs::{Shown, run_of};
 use std::alloc::{AllocError, Global};
 use std::test::Fail;
 
@@ -71,7 +71,7 @@ fn run_on_x(
     initial: i64,
     expr: Box<RExpr>,
     last: i64,
-) -> Result<Shown, Fail> {
+) -> Result<Shown, AllocError> {
     let body = body_on_x(alloc, kind, initial, expr, last)?;
     run_of(alloc, with_local(alloc, kind, body)?, b"", 100)
 }

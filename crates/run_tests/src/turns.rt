@@ -3,7 +3,6 @@ ghost use Rattle.csub_semantics.specs.Syntax.{program_tree};
 ghost use Rattle.flow_graph.specs.Graph.{IsGraphOf};
 ghost use Rattle.csub_flat.specs.Copies.{IsFlatOf};
 
-use crate::shown::run;
 use csub_core::{BinOp, IntKind, Program, RExpr, RStmt, Status, Trap};
 use csub_flat::{FlatProgram, flatten_program};
 use csub_machine::Machine;
@@ -14,6 +13,7 @@ use program_builders::programs::program;
 use program_builders::statements::{
     input_test, nested, one_line, returned, returned_zero, written,
 };
+use program_runs::run;
 use std::alloc::{AllocError, Global};
 use std::test::Fail;
 

@@ -8,7 +8,7 @@ use std::alloc::{AllocError, Global};
 use std::test::Fail;
 
 /// `work();`, then `putchar(byte);` for each byte, and `return 0;`
-fn calling_lines(alloc: Global, after: &[i64]) -> Result<Vec<RStmt>, AllocError> {
+pub fn calling_lines(alloc: Global, after: &[i64]) -> Result<Vec<RStmt>, AllocError> {
     let mut body = one_line(alloc, void_call_line(alloc, b"work")?)?;
     for byte in after {
         body.push(written(alloc, *byte)?)?;

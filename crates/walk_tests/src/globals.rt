@@ -3,6 +3,7 @@ use crate::walked::{dangerous, walk};
 use csub_core::{Function, GlobalVar, IntKind, RStmt};
 use flow_graph::Graph;
 use program_builders::expressions::constant;
+use program_builders::jumps::switch_on;
 use program_builders::objects::{Object, assignment, declared, global, read};
 use program_builders::programs::{main_alone, with_global};
 use program_builders::statements::{
@@ -104,6 +105,32 @@ fn an_object_that_nothing_names_changes_nothing(rt: HostRuntime) -> Result<(), F
         let walked = walk(alloc, &old, &unnamed(alloc, name, initial)?)?;
         assert!(rt; dangerous(alloc, &walked)?.is_empty());
         assert_eq!(rt; walked.facts.len(), 7);
+    }
+    Ok(())
+}
+
+/// The graph of `int k = initial;` and a `main` of `switch (k) { }` and `return 0;`.
+fn switching_on(alloc: Global, initial: i64) -> Result<Graph, Fail> {
+    let value = read(alloc, k(IntKind::Int))?;
+    let mut body = one_line(alloc, switch_on(alloc, value, Vec::new(alloc)))?;
+    body.push(returned_zero(alloc)?)?;
+    let object = declared(alloc, k(IntKind::Int), &[initial])?;
+    graph_beside(alloc, main_alone(alloc, body)?, object)
+}
+
+// `main` has the entry 3, the `switch` 4, the return 5 and the exit 6. The edge 2 leads to the `switch`, which names `k`.
+#[test]
+fn a_changed_initial_number_reaches_a_switch_on_the_object(rt: HostRuntime) -> Result<(), Fail> {
+    let alloc = rt.alloc();
+    let old = switching_on(alloc, 1)?;
+    for (initial, edges, pairs) in [(1, [].as_slice(), 7), (2, [2].as_slice(), 3)] {
+        let walked = walk(alloc, &old, &switching_on(alloc, initial)?)?;
+        assert_eq!(rt;
+            dangerous(alloc, &walked)?.as_slice(),
+            edges,
+            "at {initial}"
+        );
+        assert_eq!(rt; walked.facts.len(), pairs, "at {initial}");
     }
     Ok(())
 }

@@ -6,6 +6,10 @@ mod calls;
 #[cfg(test)]
 mod globals;
 #[cfg(test)]
+mod jumps;
+#[cfg(test)]
 mod lines;
+#[cfg(test)]
+mod switches;
 #[cfg(test)]
 mod walked;

@@ -1,11 +1,16 @@
-//! What runs of programs show.
+//! Runs of small programs, and what they show: for the tests of runs.
+//!
+//! [`run`] runs a `main` of one body, [`run_of`] functions without objects of file scope, and [`run_program`] a program;
+//! [`shows`] compares what a run shows. An `Err` is want of memory, functions that are no valid program, or an input or a
+//! budget above its limit.
+#![tactic(auto)]
+
 use csub_core::{Function, Program, RStmt, Status};
 use csub_machine::Machine;
 use edge_trace::EdgeRow;
 use flow_graph::Graph;
 use program_builders::programs::{main_function, with_main, without_globals};
 use std::alloc::{AllocError, Global};
-use std::test::Fail;
 
 /// What a run shows.
 #[derive(Drop)]
@@ -20,8 +25,19 @@ pub struct Shown {
     pub crossed: Vec<u32>,
 }
 
+/// Whether a run ended so, after so many turns, with this output and these crossed edges.
+pub fn shows(shown: &Shown, status: Status, turns: u32, output: &[u8], crossed: &[u32]) -> bool {
+    let ended = shown.status == status && shown.turns == turns;
+    ended && shown.output.as_slice() == output && shown.crossed.as_slice() == crossed
+}
+
 /// A run of the program whose `main` has this body and one temporary.
-pub fn run(alloc: Global, body: Vec<RStmt>, input: &[u8], budget: u32) -> Result<Shown, Fail> {
+pub fn run(
+    alloc: Global,
+    body: Vec<RStmt>,
+    input: &[u8],
+    budget: u32,
+) -> Result<Shown, AllocError> {
     let main = main_function(alloc, 1, body)?;
     run_of(alloc, with_main(alloc, main)?, input, budget)
 }
@@ -32,9 +48,11 @@ pub fn run_of(
     functions: Vec<Function>,
     input: &[u8],
     budget: u32,
-) -> Result<Shown, Fail> {
-    let program = without_globals(alloc, functions).ok_or("refused")?;
-    run_program(alloc, &program, input, budget)
+) -> Result<Shown, AllocError> {
+    match without_globals(alloc, functions) {
+        None => Err(AllocError),
+        Some(program) => run_program(alloc, &program, input, budget),
+    }
 }
 
 /// A run of a program.
@@ -43,14 +61,14 @@ pub fn run_program(
     program: &Program,
     input: &[u8],
     budget: u32,
-) -> Result<Shown, Fail> {
+) -> Result<Shown, AllocError> {
     if input.len() > 16_384 || budget > 10_000_000 {
-        return Err(Fail::from("an input or a budget that is too long"));
+        return Err(AllocError);
     }
     let graph = Graph::build(alloc, program)?;
     let mut machine = Machine::new(alloc, program, &graph, input)?;
     let status = machine.run(budget);
-    Ok(shown_by(alloc, &machine, status)?)
+    shown_by(alloc, &machine, status)
 }
 
 /// What a machine shows whose run ended so.
