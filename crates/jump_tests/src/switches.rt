@@ -1,13 +1,12 @@
 //! Runs through switches. A row of bytes spells lines, a byte each: a capital letter is the label of the case with its
 //! number, `*` is `default:`, `!` a `break`, `^` a `continue`, and each other byte is its own output.
-use csub_core::{IntKind, Program, RExpr, RStmt, Status};
-use program_builders::expressions::{cast, constant, input};
+use csub_core::{IntKind, RExpr, RStmt, Status};
+use program_builders::expressions::{cast, input};
 use program_builders::jumps::{case, default_case, switch_on};
-use program_builders::programs::program;
 use program_builders::statements::{
-    input_test, nested, one_line, output_part, returned, returned_zero, written,
+    input_test, nested, one_line, output_part, returned_zero, written,
 };
-use program_runs::{run, run_program, shows};
+use program_runs::{run, shows};
 use std::alloc::{AllocError, Global};
 use std::test::Fail;
 
@@ -290,54 +289,5 @@ fn a_switch_over_an_unsigned_number_has_its_largest_as_a_case(rt: HostRuntime) -
     assert!(rt; takes(alloc, kind, values, b"\xFF", b"a.")?);
     assert!(rt; takes(alloc, kind, values, b"A", b"d.")?);
     assert!(rt; takes(alloc, IntKind::Int, (255, -1), b"", b"b.")?);
-    Ok(())
-}
-
-/// `case value: return value;` at the end of lines.
-fn add_return(alloc: Global, lines: &mut Vec<RStmt>, value: i64) -> Result<(), AllocError> {
-    lines.push(case(value))?;
-    lines.push(returned(alloc, constant(alloc, value)?)?)?;
-    Ok(())
-}
-
-/// The program of a `switch` over the input with 300 such cases, from 298 down to -1.
-fn wide_switch(alloc: Global) -> Result<Program, Fail> {
-    let mut lines = Vec::new(alloc);
-    for place in 0..300 {
-        add_return(alloc, &mut lines, 298 - place)?;
-    }
-    let line = reading_switch(alloc, lines)?;
-    let body = one_line(alloc, Box::into_inner(line))?;
-    Ok(program(alloc, body)?.ok_or("refused")?)
-}
-
-/// Whether a run of a program with an input ends so, after 7 turns that cross these edges beside 0, 1 and 2.
-fn ends_by(
-    alloc: Global,
-    program: &Program,
-    input: &[u8],
-    status: u8,
-    edges: (u32, u32),
-) -> Result<bool, Fail> {
-    let shown = run_program(alloc, program, input, 100)?;
-    let crossed = [0, 1, 2, edges.0, edges.1];
-    Ok(shows(&shown, Status::Exit(status), 7, b"", crossed.as_slice()))
-}
-
-// The edges of the cases are 3 to 302, 303 is that of all other values, and 304 to 603 are those of the returns. The
-// case of a value v has the place 298 - v, counted from 0. The last case is that of the end of the input, -1.
-#[test]
-fn each_of_300_cases_is_taken_by_its_value(rt: HostRuntime) -> Result<(), Fail> {
-    let alloc = rt.alloc();
-    let program = wide_switch(alloc)?;
-    for byte in [0, 1, 2, 64, 127, 128, 200, 254, 255u8] {
-        let place = 298 - u32::from(byte);
-        let edges = (3 + place, 304 + place);
-        assert!(rt;
-            ends_by(alloc, &program, &[byte], byte, edges)?,
-            "at {byte}"
-        );
-    }
-    assert!(rt; ends_by(alloc, &program, b"", 255, (302, 603))?);
     Ok(())
 }

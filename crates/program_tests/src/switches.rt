@@ -114,9 +114,6 @@ fn the_edges_of_cases_stand_in_the_order_of_their_lines(rt: HostRuntime) -> Resu
     let lines = falling_lines(alloc)?;
     let graph = graph_of(alloc, switched(alloc, lines)?)?;
     assert!(rt; has_edges(&graph, EDGES_OF_FALLING.as_slice()));
-    assert!(rt; matches!(graph.edge_at(3).exit, ExitLabel::Case(7)));
-    assert!(rt; matches!(graph.edge_at(4).exit, ExitLabel::Case(-1)));
-    assert!(rt; matches!(graph.edge_at(5).exit, ExitLabel::Case(3)));
     assert_eq!(rt; other_way(alloc, &graph, 4, &[-1, 3, 7])?, Some(7));
     assert_eq!(rt; other_way(alloc, &graph, 4, &[7, -1, 3])?, None);
     Ok(())
