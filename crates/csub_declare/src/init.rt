@@ -1,8 +1,7 @@
 //! Initialisers (C11 6.7.9).
 ghost use Rattle.std.specs.Prelude.{◌≡◌, IfSome, map, option_map};
-ghost use Rattle.csub_objects.specs.Meaning.{member_tree, type_tree};
-ghost use Rattle.csub_objects.specs.Types.{members_of};
-ghost use Rattle.csub_rules.specs.Initialisers.{entries_fault, fills, has_parts, init_fault, lacks_list, member_at, part_type, use_at, value_fault};
+ghost use Rattle.csub_objects.specs.Meaning.{type_tree};
+ghost use Rattle.csub_rules.specs.Initialisers.{entries_fault, fills, init_fault, lacks_list, use_at, value_fault};
 ghost use Rattle.csub_rules.specs.Sorts.{kind_of_type};
 ghost use Rattle.csub_scopes.specs.Meanings.{scope_of};
 ghost use Rattle.csub_tree.specs.Declarations.{init_tree, inits_of};
@@ -11,51 +10,10 @@ ghost use Rattle.csub_check.specs.Seen.{the_use};
 
 use csub_check::sort::is_sorted;
 use csub_check::{Standing, Use, check, check_use};
-use csub_objects::{CType, Member};
+use csub_objects::{CType, has_parts, part_type};
 use csub_rules::{Fault, earlier, fault_if};
 use csub_scopes::Scope;
 use csub_tree::{Expr, Init};
-
-/// The type of member number i.
-#[tactic(auto, using(crate::proofs::Parts::member_at_within, crate::proofs::Parts::member_at_past))]
-fn member_at(members: &[Member], i: usize) -> Option<&CType>
-    ensures { option_map (λ t. type_tree t.now) result ≡ member_at (members_of (map member_tree members.now)) i }
-{
-    if i < members.len() {
-        Some(&members[i].ctype)
-    } else {
-        None
-    }
-}
-
-/// The type of part number i of an object (C11 6.7.9p17).
-fn part_type(ctype: &CType, i: usize) -> Option<&CType>
-    ensures { option_map (λ t. type_tree t.now) result ≡ part_type (type_tree ctype.now) i }
-{
-    match ctype {
-        CType::Num(_) => None,
-        CType::Array(element, length) => {
-            if i < *length as usize {
-                Some(element.ctype())
-            } else {
-                None
-            }
-        }
-        CType::Struct(_, members) => member_at(members.items(), i),
-        CType::Loose(_) => None,
-    }
-}
-
-fn has_parts(ctype: &CType) -> bool
-    ensures { result ≡ has_parts (type_tree ctype.now) }
-{
-    match ctype {
-        CType::Num(_) => false,
-        CType::Array(_, _) => true,
-        CType::Struct(_, _) => true,
-        CType::Loose(_) => false,
-    }
-}
 
 /// What an initialiser's expression stands for: a constant at file scope (C11 6.7.9p4).
 fn use_at(file: bool) -> Use

@@ -5,3 +5,4 @@ pub mod LawsParts
 pub mod LawsThreads
 pub mod LawsTypes
 mod ListLemmas
+mod Numbered

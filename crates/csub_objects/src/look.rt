@@ -1,9 +1,10 @@
 //! The parts of types.
-ghost use Rattle.std.specs.Prelude.{◌≡◌, ◌↔◌, IsTrue, IsSome, IfSome, option_map};
-ghost use Rattle.csub_objects.specs.Meaning.{type_tree};
-ghost use Rattle.csub_objects.specs.Types.{IsCappedSome, IsNumber, array_length, element_type, first_cell, member_type, number_kind};
+ghost use Rattle.std.specs.Prelude.{◌≡◌, ◌↔◌, IsTrue, IsSome, IfSome, map, option_map};
+ghost use Rattle.csub_objects.specs.Meaning.{type_tree, member_tree};
+ghost use Rattle.csub_objects.specs.Parts.{has_parts, member_at, part_type};
+ghost use Rattle.csub_objects.specs.Types.{IsCappedSome, IsNumber, array_length, element_type, first_cell, member_type, members_of, number_kind};
 
-use crate::types::CType;
+use crate::types::{CType, Member};
 use csub_types::IntKind;
 
 /// Whether a type is that of numbers.
@@ -68,5 +69,48 @@ pub fn first_cell(ctype: &CType, name: &[u8]) -> Option<u64>
     match ctype {
         CType::Struct(_, members) => members.first_cell(name),
         _ => None,
+    }
+}
+
+/// The type of member number i of a struct.
+#[tactic(auto, using(crate::proofs::Numbered::member_at_within, crate::proofs::Numbered::member_at_past))]
+fn member_at(members: &[Member], i: usize) -> Option<&CType>
+    ensures { option_map (λ t. type_tree t.now) result ≡ member_at (members_of (map member_tree members.now)) i }
+{
+    if i < members.len() {
+        Some(&members[i].ctype)
+    } else {
+        None
+    }
+}
+
+/// The type of part number i of an object, from 0: an element of an array, or a member of a struct (C11 6.7.9p17);
+/// `None` where it has fewer parts.
+pub fn part_type(ctype: &CType, i: usize) -> Option<&CType>
+    ensures { option_map (λ t. type_tree t.now) result ≡ part_type (type_tree ctype.now) i }
+{
+    match ctype {
+        CType::Num(_) => None,
+        CType::Array(element, length) => {
+            if i < *length as usize {
+                Some(element.ctype())
+            } else {
+                None
+            }
+        }
+        CType::Struct(_, members) => member_at(members.items(), i),
+        CType::Loose(_) => None,
+    }
+}
+
+/// Whether an object of a type has parts: an array or a struct does.
+pub fn has_parts(ctype: &CType) -> bool
+    ensures { result ≡ has_parts (type_tree ctype.now) }
+{
+    match ctype {
+        CType::Num(_) => false,
+        CType::Array(_, _) => true,
+        CType::Struct(_, _) => true,
+        CType::Loose(_) => false,
     }
 }

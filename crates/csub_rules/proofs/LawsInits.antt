@@ -11,7 +11,8 @@ use Rattle.csub_rules.specs.Sorts.{Sort, a_place, a_value, a_void, no_sort, is_s
 use Rattle.csub_rules.specs.ExprSorts.{sort_of}
 use Rattle.csub_rules.specs.Fine.{Fine}
 use Rattle.csub_rules.specs.Uses.{as_number, as_constant, lacks_constant, use_fault}
-use Rattle.csub_rules.specs.Initialisers.{part_type, has_parts, fills, list_misfits, lacks_list, use_at, init_fault, entries_fault}
+use Rattle.csub_objects.specs.Parts.{part_type, has_parts}
+use Rattle.csub_rules.specs.Initialisers.{fills, list_misfits, lacks_list, use_at, init_fault, entries_fault}
 use Rattle.csub_rules.specs.BrokenInit.{EntryAt, this_entry, next_entry, Meets, whole, in_entry, InitBreaks, by_value, m11_value, m11_list}
 use Rattle.csub_rules.specs.BrokenInit.{BrokenInit, FineValue, FineInit, FineEntries}
 use Rattle.csub_rules.proofs.LawsEarlier.{on_left, on_right, tested, neither, no_test}

@@ -12,7 +12,8 @@ use Rattle.csub_rules.specs.ExprSorts.{sort_of}
 use Rattle.csub_rules.specs.Fine.{Fine}
 use Rattle.csub_rules.specs.Uses.{lacks_constant}
 use Rattle.csub_rules.specs.BrokenUse.{BrokenUse}
-use Rattle.csub_rules.specs.Initialisers.{part_type, list_misfits, lacks_list, use_at, init_fault}
+use Rattle.csub_objects.specs.Parts.{part_type}
+use Rattle.csub_rules.specs.Initialisers.{list_misfits, lacks_list, use_at, init_fault}
 
 -- x stands in a list whose first entry has number i, as the one of number n
 pub data EntryAt : ℕ → ℕ → Init → Inits → Type 0 where

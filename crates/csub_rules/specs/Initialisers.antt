@@ -1,32 +1,15 @@
 -- Initialisers (C11 6.7.9) of objects of a type, and the rules on them.
-use Rattle.std.specs.Prelude.{ℕ, zero, suc, ◌+◌, nat_lt, Bool, true, false, Option, Some, None, is_some, not, ◌&&◌, if◌then◌else◌}
+use Rattle.std.specs.Prelude.{ℕ, ◌+◌, Bool, true, Option, Some, None, is_some, not, ◌&&◌, if◌then◌else◌}
 use Rattle.csub_tree.specs.Expressions.{Expr, span_of}
 use Rattle.csub_tree.specs.Declarations.{Init, Inits, One, Listed, NoInits, MoreInits}
-use Rattle.csub_objects.specs.Types.{TypeTree, number_type, array_type, struct_type, loose_type, MemberTrees, no_member, more_members}
+use Rattle.csub_objects.specs.Types.{TypeTree}
+use Rattle.csub_objects.specs.Parts.{part_type, has_parts}
 use Rattle.csub_scopes.specs.Scopes.{Scope}
 use Rattle.csub_rules.specs.declared.fault.Fault.{Fault}
 use Rattle.csub_rules.specs.Faults.{fault_if, ◌or_earlier◌}
 use Rattle.csub_rules.specs.Sorts.{lacks, kind_of_type}
 use Rattle.csub_rules.specs.ExprSorts.{sort_of}
 use Rattle.csub_rules.specs.Uses.{Use, as_number, as_constant, use_fault}
-
-abbrev pub member_at : MemberTrees → ℕ → Option TypeTree
-member_at no_member i = None
-member_at (more_members x t rest) zero = Some t
-member_at (more_members x t rest) (suc i) = member_at rest i
-
--- the type of part number i of an object: an element of an array, or a member of a struct (C11 6.7.9p17)
-abbrev pub part_type : TypeTree → ℕ → Option TypeTree
-part_type (number_type k) i = None
-part_type (array_type t n) i = if nat_lt i n then Some t else None
-part_type (struct_type tag ms) i = member_at ms i
-part_type (loose_type t) i = None
-
-abbrev pub has_parts : TypeTree → Bool
-has_parts (number_type k) = false
-has_parts (array_type t n) = true
-has_parts (struct_type tag ms) = true
-has_parts (loose_type t) = false
 
 -- each entry has a part, the first one that of number i (C11 6.7.9p2)
 abbrev pub fills : TypeTree → ℕ → Inits → Bool
