@@ -3,11 +3,11 @@ use Rattle.std.proofs.Common.{◌≡◌, ◌↔◌, ◌∙◌, ℕ, ◌+◌, Lis
 use Rattle.std.proofs.lemmas.List.Sums.{sum_by-cons}
 use Rattle.csub_objects.specs.declared.types.Member.{Member}
 use Rattle.csub_objects.specs.Meaning.{type_tree, member_tree}
-use Rattle.csub_objects.specs.Types.{cells, IsNumber, IsSized}
+use Rattle.csub_objects.specs.Types.{cells, IsSized}
 use Rattle.csub_semantics.specs.declared.function.LocalVar.{LocalVar}
 use Rattle.csub_semantics.specs.declared.function.Function.{Function}
 use Rattle.csub_semantics.specs.Syntax.{LocalTree, local_tree, function_tree}
-use Rattle.csub_validity.specs.Valid.{parameter_object, AreDeclared, frame_cells}
+use Rattle.csub_validity.specs.Valid.{parameter_object, AreDeclared, IsParameter, frame_cells}
 use Rattle.csub_validity.proofs.LawsLists.{All-of_map}
 use Rattle.csub_core.specs.Checks.{param_cells, local_cells}
 
@@ -31,8 +31,8 @@ objects_sum (p ∷ ps) ls =
 pub frame_sum : (f : Function) → frame_cells (function_tree f) ≡ (sum_by param_cells f.params.items + sum_by local_cells f.locals.items) + f.temps
 frame_sum f = ap (λ n. n + f.temps) (objects_sum f.params.items f.locals.items)
 
-pub AreDeclared-split : (f : Function) → AreDeclared (function_tree f) ↔ (All (λ (p : Member). IsNumber (type_tree p.ctype)) f.params.items × All (λ (v : LocalVar). IsSized (type_tree v.ctype)) f.locals.items)
+pub AreDeclared-split : (f : Function) → AreDeclared (function_tree f) ↔ (All (λ (p : Member). IsParameter (type_tree p.ctype)) f.params.items × All (λ (v : LocalVar). IsSized (type_tree v.ctype)) f.locals.items)
 AreDeclared-split f =
-    let params = All-of_map (λ p. IsNumber p.ctype) member_tree f.params.items in
+    let params = All-of_map (λ p. IsParameter p.ctype) member_tree f.params.items in
     let locals = All-of_map (λ (v : LocalTree). IsSized v.ctype) local_tree f.locals.items in
     (λ h. (params.0 h.params, locals.0 h.locals), λ h. record { params = params.1 h.0; locals = locals.1 h.1 })

@@ -21,6 +21,7 @@ use Rattle.csub_validity.specs.declared.role.Role.TheVariants.{Whole, Test, Swit
 use Rattle.csub_validity.specs.Valid.{Scope, is_declared, value_kind, IsPart, IsLast, AreStmts, no_loop, objects_of, AreOther, labels_of, AreCases}
 use Rattle.csub_validity.specs.Valid.{declares, IsOneOrDeclares, stmt_count, most_entries, frame_cells, most_parameters, BeginsWithStart, IsMain}
 use Rattle.csub_validity.specs.Valid.{most_functions, most_points, most_edges, most_cells, AreOf, AreGlobals, AreDeclared}
+use Rattle.csub_validity.specs.Valid.{AgreeOnTags, structs_in, declared_types}
 use Rattle.csub_core.specs.declared.valid.counts.Measure.{Measure}
 use Rattle.csub_core.specs.declared.valid.counts.Measure.TheVariants.{Points, Edges}
 
@@ -208,3 +209,10 @@ HasLabels f = HasObjects f × AllPairs (λ a b. a ≢ b) (labels_of f)
 
 abbrev pub IsFunction : ProgramTree → FunctionTree → Type 0
 IsFunction P f = HasLabels f × AreStmts P f no_loop f.body
+
+-- what it says of functions and of objects of file scope, and of the tags of structs
+abbrev pub AreDefined : ProgramTree → Type 0
+AreDefined P = IsFramed P × All (IsFunction P) P.functions
+
+abbrev pub HaveAgreedTags : ProgramTree → Type 0
+HaveAgreedTags P = AgreeOnTags (flat_map structs_in (declared_types P))

@@ -8,7 +8,7 @@ ghost use Rattle.csub_semantics.specs.declared.function.Function.{Function};
 ghost use Rattle.csub_semantics.specs.Syntax.{function_tree};
 ghost use Rattle.csub_validity.specs.Valid.{IsValid, most_parameters, most_entries, stmt_count};
 ghost use Rattle.csub_validity.specs.Checks.{tree_of};
-ghost use Rattle.csub_core.specs.Checks.{IsWithinLimits, HasEnds, AreNamed, HasFunctions, IsFramed, IsFunction, HasLabels, HasObjects, HasTypes, IsSmall};
+ghost use Rattle.csub_core.specs.Checks.{IsWithinLimits, HasEnds, AreNamed, HasFunctions, IsFramed, AreDefined, IsFunction, HasLabels, HasObjects, HasTypes, IsSmall};
 
 mod cases;
 mod counts;
@@ -26,8 +26,10 @@ use crate::valid::start::{has_main, has_start};
 use crate::valid::statements::{are_stmts, has_few_stmts};
 use csub_semantics::Function;
 use csub_validity::calls::is_named;
+use csub_validity::names::names_are_own;
 use csub_validity::objects::objects_differ;
 use csub_validity::role::{Definitions, Targets};
+use csub_validity::tags::tags_agree;
 
 /// The most functions beside `#start`.
 const MOST_FUNCTIONS: usize = 500;
@@ -38,9 +40,18 @@ const MOST_PARAMETERS: usize = 16;
 /// Whether the functions and the globals are a valid program. Beside a few passes over the program this takes a
 /// comparison of names for each two functions, for each two globals, for each two objects of a function, for each call
 /// and function, and for each use of an object and object that may be meant. It passes over a function for each of its
-/// labels and each of its `goto`s, and takes a comparison for each two lines of a `switch`.
+/// labels and each of its `goto`s, and takes a comparison for each two lines of a `switch`. At last it compares each two
+/// structs in the types of objects.
 pub(crate) fn is_valid(program: Definitions<'_>) -> bool
     ensures { IsTrue result ↔ IsValid (tree_of program.entry) }
+{
+    names_are_own(program);
+    are_defined(program) && tags_agree(program)
+}
+
+/// Whether the functions and the globals are what those of a valid program are, apart from the tags of structs.
+fn are_defined(program: Definitions<'_>) -> bool
+    ensures { IsTrue result ↔ AreDefined (tree_of program.entry) }
 {
     is_framed(program) && are_functions(program)
 }

@@ -10,13 +10,14 @@ use Rattle.csub_semantics.specs.declared.label.EndRule.TheVariants.{Nothing, Val
 use Rattle.csub_semantics.specs.declared.status.Status.{Status}
 use Rattle.csub_semantics.specs.declared.status.Status.TheVariants.{Exit, Trap}
 use Rattle.csub_objects.specs.Types.{Name, TypeTree, number_kind, MemberTree}
-use Rattle.csub_semantics.specs.Trees.{NamedArg, value_argument, reading, assignment, variable, object, temporary, OwnerTree}
+use Rattle.csub_semantics.specs.Trees.{NamedArg, value_argument, array_argument, reading, variable, temporary, OwnerTree}
 use Rattle.csub_semantics.specs.Labels.{LabelTree, enters, exits, evaluates, initialises, branches, switches, returns, jumps, halts}
-use Rattle.csub_semantics.specs.Labels.{calls, AnswerTree, CallTree, InitTree, one_value}
+use Rattle.csub_semantics.specs.Labels.{calls, AnswerTree, CallTree, InitTree}
 use Rattle.csub_semantics.specs.Points.{ExitTree, next, on_true, on_false}
 use Rattle.csub_semantics.specs.Memory.{State, Answer, value, trapped, then_do, low_byte}
-use Rattle.csub_semantics.specs.Evaluation.{eval}
-use Rattle.csub_semantics.specs.Cells.{Cells, Content, number, named, dropped, entered}
+use Rattle.csub_semantics.specs.Evaluation.{locate, eval}
+use Rattle.csub_semantics.specs.Cells.{Cells, Content, number, reference, Spot, named, dropped, entered}
+use Rattle.csub_semantics.specs.Initialising.{initialise, object_spot}
 
 -- input left, output so far and named cells
 abbrev pub Store : Type 0
@@ -40,9 +41,14 @@ abbrev pub after_value : {X : Type 0} → Answer X Store → (X → Store → Ou
 after_value (value v s) go = go v s
 after_value (trapped t s) go = ends (Trap t) s
 
--- what an argument gives to its parameter, converted to the declared kind (C11 6.5.2.2)
+-- a reference to the array at a place, whose length goes with it
+abbrev pub reference_to : Spot → Content
+reference_to l = reference l.cell l.length
+
+-- what an argument gives to its parameter: a number in the declared kind (C11 6.5.2.2p7), or a reference to an array
 abbrev pub argument_content : ℕ → MemberTree → NamedArg → Store → Answer Content Store
 argument_content h p (value_argument e) s = then_do (eval (named h) e s) (λ v t. value (number (convert (number_kind p.ctype) v)) t)
+argument_content h p (array_argument a) s = then_do (locate (named h) a s) (λ l t. value (reference_to l) t)
 
 -- the arguments of a call, from left to right
 abbrev pub argument_contents : ℕ → List MemberTree → List NamedArg → Store → Answer (List Content) Store
@@ -80,10 +86,9 @@ abbrev pub act_return : Option AnswerTree → ℕ → Option ℤ → Store → O
 act_return None n r s = leaves next r s
 act_return (Some a) n r s = after_value (eval (named (n - 1)) a.value s) (λ v t. leaves next (Some (convert a.kind v)) t)
 
--- an initialiser: a number is initialised as by an assignment (C11 6.7.9p11)
+-- an initialiser of an object
 abbrev pub act_init : OwnerTree → TypeTree → InitTree → ℕ → Option ℤ → Store → Outcome
-act_init owner t (one_value e) n r s =
-    after_value (eval (named (n - 1)) (assignment (variable (object owner t)) e) s) (λ v u. leaves next r u)
+act_init owner t init n r s = after_value (initialise (n - 1) init t (object_spot (n - 1) owner t) s) (λ v u. leaves next r u)
 
 abbrev pub act : LabelTree → ℕ → Option ℤ → Store → Outcome
 act enters n r s = leaves next r s

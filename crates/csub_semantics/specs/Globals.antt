@@ -11,9 +11,9 @@ use Rattle.csub_semantics.specs.Trees.{OwnerTree, global_owner, local_owner, Var
 use Rattle.csub_semantics.specs.Trees.{NamedPlace, variable, element_place, member_place, NamedExpr}
 use Rattle.csub_semantics.specs.Trees.{constant}
 use Rattle.csub_semantics.specs.Trees.{reading, unary_operation, conversion, stepping, operation, conjunction, disjunction, choice, assignment}
-use Rattle.csub_semantics.specs.Trees.{update, input_byte, output_byte, formatted, NamedExprs, no_expr, more_exprs, NamedArg, value_argument}
+use Rattle.csub_semantics.specs.Trees.{update, input_byte, output_byte, formatted, NamedExprs, no_expr, more_exprs, NamedArg, value_argument, array_argument}
 use Rattle.csub_semantics.specs.Labels.{LabelTree, enters, exits, evaluates, initialises, branches, switches, returns}
-use Rattle.csub_semantics.specs.Labels.{jumps, halts, calls, AnswerTree, InitTree, one_value}
+use Rattle.csub_semantics.specs.Labels.{jumps, halts, calls, AnswerTree, InitTree, one_value, listed, InitTrees, no_init, more_inits}
 
 -- the names of the globals in a tree, from left to right
 abbrev pub owner_names : OwnerTree → List Name
@@ -52,9 +52,16 @@ abbrev mutual
 
 abbrev pub arg_names : NamedArg → List Name
 arg_names (value_argument e) = expr_names e
+arg_names (array_argument p) = place_names p
 
-abbrev pub init_names : InitTree → List Name
-init_names (one_value e) = expr_names e
+abbrev mutual
+  pub init_names : InitTree → List Name
+  init_names (one_value e) = expr_names e
+  init_names (listed xs) = inits_names xs
+
+  pub inits_names : InitTrees → List Name
+  inits_names no_init = []
+  inits_names (more_inits x rest) = init_names x ++ inits_names rest
 
 abbrev pub answer_names : Option AnswerTree → List Name
 answer_names None = []

@@ -1,5 +1,5 @@
 -- Labels: what is done at a point. Two statements count as the same exactly where their labels are equal.
-use Rattle.std.specs.Prelude.{ℕ, List, map, Option, Some, None}
+use Rattle.std.specs.Prelude.{ℕ, List, [], ◌∷◌, map, Option, Some, None}
 use Rattle.std.specs.Option.{option_map}
 use Rattle.csub_types.specs.declared.kind.IntKind.{IntKind}
 use Rattle.csub_objects.specs.Types.{Name, TypeTree, MemberTree}
@@ -9,8 +9,7 @@ use Rattle.csub_semantics.specs.Trees.{OwnerTree, NamedExpr, NamedArg, owner_tre
 use Rattle.csub_semantics.specs.declared.label.EndRule.{EndRule}
 use Rattle.csub_semantics.specs.declared.label.Answer.{Answer}
 use Rattle.csub_semantics.specs.declared.label.CallLabel.{CallLabel}
-use Rattle.csub_semantics.specs.declared.label.RInit.{RInit}
-use Rattle.csub_semantics.specs.declared.label.RInit.TheVariants.{One}
+use Rattle.csub_semantics.specs.declared.label.RInit.{RInit, One, List', Row_of-RInit, end_of-RInit, more_of-RInit}
 use Rattle.csub_semantics.specs.declared.label.Label.{Label}
 use Rattle.csub_semantics.specs.declared.label.Label.TheVariants.{Entry, Exit, Eval, Init, Branch, Switch, Return, Goto, Halt, Call}
 
@@ -27,9 +26,20 @@ pub record CallTree : Type 0 where
   pub args : List NamedArg
   pub temp : Option ℕ
 
--- what an object is initialised with: the initial value of a number
-pub data InitTree : Type 0 where
-  one_value : NamedExpr → InitTree
+mutual
+  -- what an object is initialised with: the initial value of a number, or those of the first elements of an array or the
+  -- first members of a struct, in order (C11 6.7.9)
+  pub data InitTree : Type 0 where
+    one_value : NamedExpr → InitTree
+    listed : InitTrees → InitTree
+
+  pub data InitTrees : Type 0 where
+    no_init : InitTrees
+    more_inits : InitTree → InitTrees → InitTrees
+
+abbrev pub inits_of : List InitTree → InitTrees
+inits_of [] = no_init
+inits_of (x ∷ rest) = more_inits x (inits_of rest)
 
 -- the resolved tree at a point, without spans and parentheses
 pub data LabelTree : Type 0 where
@@ -66,8 +76,14 @@ call_tree c = record {
   temp = c.temp;
 }
 
-abbrev pub init_tree : RInit → InitTree
-init_tree (One e) = one_value (expr_tree e)
+abbrev mutual
+  pub init_tree : RInit → InitTree
+  init_tree (One e) = one_value (expr_tree e)
+  init_tree (List' shape row) = listed (row_inits row)
+
+  pub row_inits : {m : _} → Row_of-RInit m → InitTrees
+  row_inits end_of-RInit = no_init
+  row_inits (more_of-RInit x rest) = more_inits (init_tree x) (row_inits rest)
 
 abbrev pub label_tree : Label → LabelTree
 label_tree Entry = enters

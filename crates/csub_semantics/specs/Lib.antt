@@ -11,6 +11,7 @@ pub mod Memory
 pub mod Formats
 pub mod Evaluation
 pub mod Cells
+pub mod Initialising
 pub mod Acts
 pub mod Runs
 pub mod Books

@@ -13,7 +13,7 @@ use Rattle.csub_semantics.specs.declared.expression.Owner.TheVariants.{Global, L
 use Rattle.csub_semantics.specs.declared.expression.Piece.{Piece}
 use Rattle.csub_semantics.specs.declared.expression.Place.{Place, Var, Index', Member'}
 use Rattle.csub_semantics.specs.declared.expression.RArg.{RArg}
-use Rattle.csub_semantics.specs.declared.expression.RArg.TheVariants.{Value}
+use Rattle.csub_semantics.specs.declared.expression.RArg.TheVariants.{Value, Array}
 use Rattle.csub_semantics.specs.declared.expression.RExpr.{RExpr, Const, Read, Temp, Unary', Cast', Step, Binary', And', Or', Choose', Assign'}
 use Rattle.csub_semantics.specs.declared.expression.RExpr.{Update', Getchar, Putchar', Printf', Row_of-RExpr, end_of-RExpr, more_of-RExpr}
 
@@ -55,9 +55,10 @@ module _ {V I M : Type 0} where
   expr_count no_expr = 0
   expr_count (more_exprs e rest) = expr_count rest + 1
 
--- an argument of a call
+-- an argument of a call: a number, or an array, to which its parameter refers (C11 6.5.2.2p4 and 6.7.6.3p7)
 pub data ArgTree (V I M : Type 0) : Type 0 where
   value_argument : ExprTree V I M → ArgTree V I M
+  array_argument : PlaceTree V I M → ArgTree V I M
 
 -- whose object a name is: one of file scope, or the k-th of its name in its function (its parameters counted first)
 pub data OwnerTree : Type 0 where
@@ -115,3 +116,4 @@ abbrev mutual
 
 abbrev pub arg_tree : RArg → NamedArg
 arg_tree (Value e) = value_argument (expr_tree e)
+arg_tree (Array p) = array_argument (place_tree p)

@@ -72,11 +72,25 @@ fn copy_answer(alloc: Global, answer: &Answer) -> Result<Answer, AllocError>
     })
 }
 
+#[cycle(copying_init)]
 fn copy_init(alloc: Global, init: &RInit) -> Result<RInit, AllocError>
     ensures { IfOk result (λ made. init_tree made ≡ init_tree init.now) }
 {
-    let RInit::One(value) = init;
-    Ok(RInit::One(copy_expr(alloc, value)?))
+    match init {
+        RInit::One(value) => Ok(RInit::One(copy_expr(alloc, value)?)),
+        RInit::List(entries) => Ok(RInit::List(copy_inits(alloc, entries)?)),
+    }
+}
+
+#[cycle(copying_init)]
+fn copy_inits(alloc: Global, entries: &[RInit]) -> Result<Vec<RInit>, AllocError>
+    ensures { IfOk result (λ made. map init_tree made.items ≡ map init_tree entries.now) }
+{
+    let mut made = Vec::new(alloc);
+    for entry in entries {
+        made.push(copy_init(alloc, entry)?)?;
+    }
+    Ok(made)
 }
 
 fn copy_owner(owner: &Owner) -> Result<Owner, AllocError>
@@ -197,10 +211,18 @@ fn copy_args(alloc: Global, args: &[RArg]) -> Result<Vec<RArg>, AllocError>
 {
     let mut made = Vec::new(alloc);
     for arg in args {
-        let RArg::Value(expr) = arg;
-        made.push(RArg::Value(copy_expr(alloc, expr)?))?;
+        made.push(copy_arg(alloc, arg)?)?;
     }
     Ok(made)
+}
+
+fn copy_arg(alloc: Global, arg: &RArg) -> Result<RArg, AllocError>
+    ensures { IfOk result (λ made. arg_tree made ≡ arg_tree arg.now) }
+{
+    match arg {
+        RArg::Value(expr) => Ok(RArg::Value(copy_expr(alloc, expr)?)),
+        RArg::Array(place) => Ok(RArg::Array(copy_place(alloc, place)?)),
+    }
 }
 
 fn copy_members(alloc: Global, members: &[Member]) -> Result<Vec<Member>, AllocError>

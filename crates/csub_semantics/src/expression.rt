@@ -78,4 +78,6 @@ pub enum RExpr {
 pub enum RArg {
     /// A number, which is converted to its parameter's kind.
     Value(RExpr),
+    /// An array, to which its array parameter refers (C11 6.7.6.3p7).
+    Array(Place),
 }

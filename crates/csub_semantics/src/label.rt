@@ -43,9 +43,13 @@ pub struct CallLabel {
 
 /// What an object is initialised with (C11 6.7.9).
 #[derive(Drop)]
+#[cycle(initialisers)]
 pub enum RInit {
     /// The initial value of a number, which is converted to the declared type.
     One(RExpr),
+    /// What the first elements of an array, or the first members of a struct, are initialised with, in order; all others
+    /// get 0 in their numbers (C11 6.7.9p17 and p21).
+    List(Vec<RInit>),
 }
 
 /// What is done at a point.

@@ -3,9 +3,9 @@
 //! Types are those of `csub_objects`. `specs/` says it in this order: objects of file scope, resolved expressions,
 //! labels and statements as values (`Types`, `Trees`, `Labels`, `Syntax`), and which globals a label names (`Globals`);
 //! points by places in the syntax and where they lead (`Points`, `Successors`, `Flows`); evaluation over any memory, and
-//! over named cells (`Memory`, `Evaluation`, `Cells`); the act of a label (`Acts`); turns and runs (`Runs`); numbers of
-//! functions, points and edges (`Numbers`); the walk of two programs together (`Books`). Which programs are valid stands
-//! in `csub_validity`.
+//! over named cells (`Memory`, `Evaluation`, `Cells`); initialisers and the act of a label (`Initialising`, `Acts`);
+//! turns and runs (`Runs`); numbers of functions, points and edges (`Numbers`); the walk of two programs together
+//! (`Books`). Which programs are valid stands in `csub_validity`.
 //!
 //! What is promised of the code: the copies of [`copy`] are equal to what they copy. Laws for proofs above stand in
 //! `proofs/`: `LawsLabels` (labels that call), `LawsLists` and `LawsRows` (what the elements of lists stand for), and

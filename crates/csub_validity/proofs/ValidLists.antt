@@ -1,6 +1,15 @@
--- Each two elements of two lists, one behind the other.
+-- The elements of two lists, one behind the other: each, and each two.
 use Rattle.std.proofs.Common.{◌↔◌, zero, suc, ◌++◌, List, [], ◌∷◌, All, AllPairs, arith}
 use Rattle.std.proofs.lemmas.List.Elements.{All-nil, All-cons, All-head, All-tail}
+
+-- each element of two lists, one behind the other
+pub All-append : {X : Type 0} (P : X → Type 0) (xs ys : List X) → All P (xs ++ ys) ↔ (All P xs × All P ys)
+All-append P [] ys = (λ h. (All-nil P, h), λ h. h.1)
+All-append P (x ∷ xs) ys =
+    let rest = All-append P xs ys in (
+      λ h. let both = rest.0 (All-tail P x (xs ++ ys) h) in (All-cons P x xs (All-head P x (xs ++ ys) h) both.0, both.1),
+      λ h. All-cons P x (xs ++ ys) (All-head P x xs h.0) (rest.1 (All-tail P x xs h.0, h.1)),
+    )
 
 module _ {X : Type 0} (R : X → X → Type 0) where
   AllPairs-cons : (x : X) (xs : List X) → AllPairs R (x ∷ xs) ↔ (All (R x) xs × AllPairs R xs)
@@ -11,14 +20,6 @@ module _ {X : Type 0} (R : X → X → Type 0) where
       back h zero (suc j) d less below = h.0 j d (omega (arith, below))
       back h (suc i) zero d less below = absurd (omega (arith, less))
       back h (suc i) (suc j) d less below = h.1 i j d (omega (arith, less)) (omega (arith, below))
-
-  All-append : (P : X → Type 0) (xs ys : List X) → All P (xs ++ ys) ↔ (All P xs × All P ys)
-  All-append P [] ys = (λ h. (All-nil P, h), λ h. h.1)
-  All-append P (x ∷ xs) ys =
-      let rest = All-append P xs ys in (
-        λ h. let both = rest.0 (All-tail P x (xs ++ ys) h) in (All-cons P x xs (All-head P x (xs ++ ys) h) both.0, both.1),
-        λ h. All-cons P x (xs ++ ys) (All-head P x xs h.0) (rest.1 (All-tail P x xs h.0, h.1)),
-      )
 
   -- each two elements of two lists, one behind the other
   pub AllPairs-append : (xs ys : List X) → AllPairs R (xs ++ ys) ↔ (AllPairs R xs × AllPairs R ys × All (λ x. All (R x) ys) xs)

@@ -1,15 +1,19 @@
--- What the steps of the decisions on expressions, objects and calls decide. No definition of `Valid` needs it.
-use Rattle.std.specs.Prelude.{ℕ, ◌+◌, ◌<◌, ◌≡◌, ◌≢◌, ℤ, All, List, [], ◌∷◌, length, slice_index_or, Option, Some, None}
+-- What the steps of the decisions on expressions, objects, calls and tags decide. No definition of `Valid` needs it.
+use Rattle.std.specs.Prelude.{ℕ, ◌+◌, ◌<◌, ◌≡◌, ◌≢◌, ℤ, All, List, [], ◌∷◌, map, length, slice_index_or, Option, Some, None}
+use Rattle.std.specs.List.{flat_map}
 use Rattle.csub_types.specs.Kinds.{IsOf}
 use Rattle.csub_types.specs.declared.kind.IntKind.{IntKind}
 use Rattle.csub_semantics.specs.declared.function.RCall.{RCall}
 use Rattle.csub_semantics.specs.declared.function.LocalVar.{LocalVar}
 use Rattle.csub_objects.specs.declared.types.Member.{Member}
+use Rattle.csub_objects.specs.Meaning.{member_tree}
+use Rattle.csub_objects.specs.Types.{Name, TypeTree, members_of}
 use Rattle.csub_semantics.specs.Labels.{LabelTree, call_tree}
-use Rattle.csub_semantics.specs.Syntax.{ProgramTree, part_tree, function_tree, program_tree}
+use Rattle.csub_semantics.specs.Syntax.{LocalTree, FunctionTree, ProgramTree, part_tree, function_tree, program_tree}
 use Rattle.csub_validity.specs.declared.role.Definitions.{Definitions}
 use Rattle.csub_validity.specs.declared.role.Site.{Site}
-use Rattle.csub_validity.specs.Valid.{Scope, scope_of, label_result, IsCall}
+use Rattle.csub_validity.specs.Valid.{Scope, scope_of, label_result, IsCall, objects_of}
+use Rattle.csub_validity.specs.Valid.{StructTree, structs_in, declared_types, AgreeOn}
 
 -- the program that is judged
 abbrev pub tree_of : Definitions → ProgramTree
@@ -42,3 +46,23 @@ BeginWith (k ∷ ks) (v ∷ vs) rest = IsOf k v × BeginWith ks vs rest
 abbrev pub AreBehind : List IntKind → List ℤ → Option (List ℤ) → Type 0
 AreBehind ks vs (Some rest) = BeginWith ks vs rest
 AreBehind ks vs None = (rest : List ℤ) → BeginWith ks vs rest → ⊥
+
+-- a struct of the code, by its tag and its members
+abbrev pub struct_tree : Name → List Member → StructTree
+struct_tree tag ms = record { tag = tag; members = members_of (map member_tree ms) }
+
+-- the structs in the types of all objects of a program
+abbrev pub declared_structs : ProgramTree → List StructTree
+declared_structs P = flat_map structs_in (declared_types P)
+
+-- a struct has the members of each struct in a type that has its tag
+abbrev pub AgreesIn : StructTree → TypeTree → Type 0
+AgreesIn a t = All (AgreeOn a) (structs_in t)
+
+-- each struct in a type has the members of each of these structs that has its tag
+unfoldable pub AllAgree : List StructTree → TypeTree → Type 0
+AllAgree structs t = All (λ a. All (AgreeOn a) structs) (structs_in t)
+
+-- what holds of the type of each object of a function
+abbrev pub OfObjects : (TypeTree → Type 0) → FunctionTree → Type 0
+OfObjects R f = All (λ (o : LocalTree). R o.ctype) (objects_of f)

@@ -2,7 +2,7 @@
 use Rattle.std.specs.Prelude.{ℕ, ◌+◌, ◌≤◌, ◌≡◌, ◌≢◌, ◌<◌, ◌++◌, ◌⊎◌, ◌&&◌, Bool, true, false, IsTrue, nat_eq}
 use Rattle.std.specs.Prelude.{ℤ, List, [], ◌∷◌, map, length, sum_by, slice_get, find, All, AllPairs, Option, Some, None, IfSome, is_some}
 use Rattle.std.specs.Prelude.{if◌then◌else◌}
-use Rattle.std.specs.List.{list_any}
+use Rattle.std.specs.List.{list_any, flat_map}
 use Rattle.std.specs.Option.{option_map, option_and_then}
 use Rattle.csub_text.specs.declared.operator.BinOp.{BinOp}
 use Rattle.csub_text.specs.declared.operator.BinOp.TheVariants.{Shl, Shr}
@@ -10,9 +10,13 @@ use Rattle.csub_types.specs.declared.kind.IntKind.{IntKind}
 use Rattle.csub_types.specs.declared.kind.IntKind.TheVariants.{Int}
 use Rattle.csub_types.specs.Kinds.{IsOf, promote, common}
 use Rattle.csub_types.specs.Arithmetic.{unary_kind, binary_kind}
-use Rattle.csub_objects.specs.Types.{Name, TypeTree, MemberTree, number_kind, IsNumber, element_type, member_type, cells, kinds, IsSized}
+use Rattle.csub_objects.specs.Types.{Name, TypeTree, number_type, array_type, struct_type, loose_type}
+use Rattle.csub_objects.specs.Types.{MemberTree, MemberTrees, no_member, more_members}
+use Rattle.csub_objects.specs.Types.{number_kind, IsNumber, element_type, member_type, cells, kinds, IsSized}
+use Rattle.csub_objects.specs.Parts.{part_type, has_parts}
 use Rattle.csub_semantics.specs.Types.{name_eq, GlobalTree}
-use Rattle.csub_semantics.specs.Trees.{NamedPlace, NamedExpr, Variable, NamedArg, value_argument, OwnerTree, global_owner, local_owner, variable}
+use Rattle.csub_semantics.specs.Trees.{NamedPlace, NamedExpr, Variable, OwnerTree, global_owner, local_owner, variable}
+use Rattle.csub_semantics.specs.Trees.{NamedArg, value_argument, array_argument}
 use Rattle.csub_semantics.specs.Trees.{element_place, member_place}
 use Rattle.csub_semantics.specs.Trees.{object, temporary, constant, reading, unary_operation, conversion, stepping, operation, conjunction}
 use Rattle.csub_semantics.specs.Trees.{disjunction, choice, assignment, update, input_byte, output_byte, formatted}
@@ -20,7 +24,7 @@ use Rattle.csub_semantics.specs.Trees.{NamedExprs, no_expr, more_exprs, expr_cou
 use Rattle.csub_semantics.specs.declared.expression.Piece.{Piece}
 use Rattle.csub_semantics.specs.Formats.{conversion_count}
 use Rattle.csub_semantics.specs.Labels.{LabelTree, evaluates, initialises, branches, switches, returns, jumps, halts, calls}
-use Rattle.csub_semantics.specs.Labels.{AnswerTree, CallTree, InitTree, one_value}
+use Rattle.csub_semantics.specs.Labels.{AnswerTree, CallTree, InitTree, one_value, listed, InitTrees, no_init, more_inits}
 use Rattle.csub_semantics.specs.Cells.{type_of}
 use Rattle.csub_semantics.specs.Syntax.{PartTree, StmtTree, StmtTrees, ElseTree, parts, block, conditional, while_loop, do_loop, for_loop}
 use Rattle.csub_semantics.specs.Syntax.{switch_on, case_label, default_label, breaks, continues, goes_to, marked}
@@ -134,6 +138,20 @@ abbrev pub IsVariable : Scope → ℕ → Variable → Type 0
 IsVariable sc k (object owner t) = IsObject sc.globals sc.objects owner t
 IsVariable sc k (temporary n kind) = (n < k) × (result_of sc.results n ≡ Some kind)
 
+-- an array parameter refers to an array with elements of its type, or to what another such parameter refers to (C11 6.7.6.3p7)
+abbrev pub RefersTo : TypeTree → Option TypeTree → Type 0
+RefersTo (loose_type t) (Some u) = element_type u ≡ Some t
+RefersTo t o = ⊥
+
+-- part number i of an object, if it has one
+abbrev pub part_of : Option TypeTree → ℕ → Option TypeTree
+part_of o i = option_and_then (λ t. part_type t i) o
+
+-- whether an object has parts
+abbrev pub is_whole : Option TypeTree → Bool
+is_whole None = false
+is_whole (Some t) = has_parts t
+
 -- a format has a value for each of its conversions (C11 7.21.6.1p2), and at most 8
 abbrev pub most_values : ℕ
 most_values = 8
@@ -173,9 +191,10 @@ module _ (sc : Scope) (number : ℕ) where
     AreExprs no_expr = Unit {0}
     AreExprs (more_exprs e rest) = IsExpr e × AreExprs rest
 
-  -- an argument fits its parameter: a number goes to a number (C11 6.5.2.2p2)
+  -- an argument fits its parameter: a number goes to a number, and an array to an array parameter (C11 6.5.2.2p2)
   abbrev pub IsArg : MemberTree → NamedArg → Type 0
   IsArg p (value_argument e) = IsNumber p.ctype × IsExpr e
+  IsArg p (array_argument a) = RefersTo p.ctype (place_type a) × IsPlace a
 
   -- the arguments of a call fit its parameters: they are as many, and each fits
   abbrev pub AreArgs : List MemberTree → List NamedArg → Type 0
@@ -184,9 +203,16 @@ module _ (sc : Scope) (number : ℕ) where
   AreArgs (p ∷ params) [] = ⊥
   AreArgs (p ∷ params) (a ∷ args) = IsArg p a × AreArgs params args
 
-  -- an initialiser of an object: a number's is an expression (C11 6.7.9p11)
-  abbrev pub IsInit : TypeTree → InitTree → Type 0
-  IsInit t (one_value e) = IsNumber t × IsExpr e
+  -- an initialiser of an object: a number's is an expression (C11 6.7.9p11), that of an array or a struct a list (p16) with
+  -- an initialiser for each of its first parts, and none for what isn't there (p2)
+  abbrev mutual
+    pub IsInit : Option TypeTree → InitTree → Type 0
+    IsInit o (one_value e) = IsNumberAt o × IsExpr e
+    IsInit o (listed xs) = IsTrue (is_whole o) × AreInits o 0 xs
+
+    pub AreInits : Option TypeTree → ℕ → InitTrees → Type 0
+    AreInits o i no_init = Unit {0}
+    AreInits o i (more_inits x rest) = IsInit (part_of o i) x × AreInits o (i + 1) rest
 
 -- the k-th call of a part has the temporary k exactly where its callee has a result type
 abbrev pub temp_of : Option IntKind → ℕ → Option ℕ
@@ -214,7 +240,7 @@ IsAnswer sc k (Some kind) (Some a) = (a.kind ≡ kind) × IsExpr sc k a.value
 
 -- an initialised object is one of the function's locals (C11 6.7.9)
 abbrev pub IsInitialised : FunctionTree → Scope → ℕ → OwnerTree → TypeTree → InitTree → Type 0
-IsInitialised f sc k owner t init = IsObject [] f.locals owner t × IsInit sc k t init
+IsInitialised f sc k owner t init = IsObject [] f.locals owner t × IsInit sc k (Some t) init
 
 -- what may stand last in a part: its own point, or where the whole part is a user call, that call
 abbrev pub IsLast : ProgramTree → FunctionTree → Scope → Role → ℕ → LabelTree → Type 0
@@ -410,9 +436,16 @@ most_cells = 4096
 abbrev pub frame_cells : FunctionTree → ℕ
 frame_cells f = sum_by (λ o. cells o.ctype) (objects_of f) + f.temps
 
--- the objects of a function have types that objects may have; each parameter is a number
+-- a parameter is a number, or refers to an array, whose elements have a type that objects may have (C11 6.7.6.3p7)
+abbrev pub IsParameter : TypeTree → Type 0
+IsParameter (number_type k) = Unit {0}
+IsParameter (array_type t n) = ⊥
+IsParameter (struct_type tag ms) = ⊥
+IsParameter (loose_type t) = IsSized t
+
+-- the objects of a function: its parameters, and its locals, whose types are those that objects may have
 pub record AreDeclared (f : FunctionTree) : Type 0 where
-  pub params : All (λ p. IsNumber p.ctype) f.params
+  pub params : All (λ p. IsParameter p.ctype) f.params
   pub locals : All (λ v. IsSized v.ctype) f.locals
 
 -- two objects of a function differ in their names or in their numbers
@@ -434,6 +467,50 @@ pub record AreGlobals (globals : List GlobalTree) : Type 0 where
   pub contents : All (λ g. AreOf (kinds g.ctype) g.initial) globals
   pub few : sum_by (λ g. cells g.ctype) globals ≤ most_global_cells
 
+-- the members of each struct in a type have different names (C11 6.7p3)
+abbrev pub names_in : MemberTrees → List Name
+names_in no_member = []
+names_in (more_members x t rest) = x ∷ names_in rest
+
+abbrev mutual
+  pub HasOwnNames : TypeTree → Type 0
+  HasOwnNames (number_type k) = Unit {0}
+  HasOwnNames (array_type t n) = HasOwnNames t
+  HasOwnNames (struct_type tag ms) = AllPairs (λ x y. x ≢ y) (names_in ms) × HaveOwnNames ms
+  HasOwnNames (loose_type t) = HasOwnNames t
+
+  pub HaveOwnNames : MemberTrees → Type 0
+  HaveOwnNames no_member = Unit {0}
+  HaveOwnNames (more_members x t rest) = HasOwnNames t × HaveOwnNames rest
+
+-- a struct type: its tag and its members
+pub record StructTree : Type 0 where
+  pub tag : Name
+  pub members : MemberTrees
+
+-- the struct types in a type
+abbrev mutual
+  pub structs_in : TypeTree → List StructTree
+  structs_in (number_type k) = []
+  structs_in (array_type t n) = structs_in t
+  structs_in (struct_type tag ms) = record { tag = tag; members = ms } ∷ structs_of ms
+  structs_in (loose_type t) = structs_in t
+
+  pub structs_of : MemberTrees → List StructTree
+  structs_of no_member = []
+  structs_of (more_members x t rest) = structs_in t ++ structs_of rest
+
+-- the types of all objects of a program
+abbrev pub declared_types : ProgramTree → List TypeTree
+declared_types P = map (λ g. g.ctype) P.globals ++ flat_map (λ f. map (λ o. o.ctype) (objects_of f)) P.functions
+
+-- structs with one tag have the same members (C11 6.7.2.3p1)
+abbrev pub AgreeOn : StructTree → StructTree → Type 0
+AgreeOn a b = a.tag ≡ b.tag → a.members ≡ b.members
+
+abbrev pub AgreeOnTags : List StructTree → Type 0
+AgreeOnTags structs = All (λ a. All (AgreeOn a) structs) structs
+
 pub record IsValid (P : ProgramTree) : Type 0 where
   pub start : BeginsWithStart P.functions
   pub main : IsMain (function_of P main_name)
@@ -443,6 +520,8 @@ pub record IsValid (P : ProgramTree) : Type 0 where
   pub labels : All (λ f. AllPairs (λ a b. a ≢ b) (labels_of f)) P.functions
   pub objects : All (λ f. AllPairs AreOther (objects_of f)) P.functions
   pub types : All AreDeclared P.functions
+  pub names : All HasOwnNames (declared_types P)
+  pub tags : AgreeOnTags (flat_map structs_in (declared_types P))
   pub functions : length P.functions ≤ most_functions + 1
   pub points : length (point_list P) ≤ most_points
   pub edges : length (edge_list P) ≤ most_edges

@@ -7,13 +7,14 @@ ghost use Rattle.csub_semantics.specs.Trees.{arg_tree};
 ghost use Rattle.csub_semantics.specs.Labels.{call_tree};
 ghost use Rattle.csub_semantics.specs.Syntax.{part_tree, function_tree};
 ghost use Rattle.csub_semantics.specs.Flows.{function_in};
-ghost use Rattle.csub_validity.specs.Valid.{scope_of, IsDefinedAs, IsArg, AreArgs, IsCall, temp_of};
+ghost use Rattle.csub_validity.specs.Valid.{scope_of, IsDefinedAs, IsArg, AreArgs, IsCall, RefersTo, temp_of};
 ghost use Rattle.csub_validity.specs.Checks.{tree_of, scope_at, AreCalls};
 
-use crate::expressions::is_expr;
+use crate::expressions::{is_expr, is_place};
+use crate::places::place_type;
 use crate::role::{Definitions, Site};
-use csub_objects::{is_number, same_members};
-use csub_semantics::{CallLabel, Function, Member, RArg, RPart};
+use csub_objects::{element_type, is_number, same_members, same_type};
+use csub_semantics::{CType, CallLabel, Function, Member, RArg, RPart};
 use csub_types::IntKind;
 
 /// Whether each of the calls of a function's part, numbered from 1, fits its callee in the program, as [`is_call`] says
@@ -64,12 +65,33 @@ fn are_args(site: Site<'_>, params: &[Member], args: &[RArg]) -> bool
     true
 }
 
-/// Whether an argument fits its parameter: a number is asked for, and a valid expression gives it.
+/// Whether an argument fits its parameter: a valid expression a number, and a valid place of an array a parameter that
+/// refers to elements of its type.
 fn is_arg(site: Site<'_>, param: &Member, arg: &RArg) -> bool
     ensures { IsTrue result ↔ IsArg (scope_at site.entry) site.entry.number (member_tree param.now) (arg_tree arg.now) }
 {
-    let RArg::Value(value) = arg;
-    is_number(&param.ctype) && is_expr(site, value)
+    match arg {
+        RArg::Value(value) => is_number(&param.ctype) && is_expr(site, value),
+        RArg::Array(place) => {
+            refers_to(&param.ctype, place_type(place)) && is_place(site, place)
+        }
+    }
+}
+
+/// Whether a parameter is one that may refer to a place of a type.
+fn refers_to(param: &CType, place: Option<&CType>) -> bool
+    ensures { IsTrue result ↔ RefersTo (type_tree param.now) (option_map (λ t. type_tree t.now) place.entry) }
+{
+    let CType::Loose(asked) = param else {
+        return false;
+    };
+    match place {
+        Some(array) => match element_type(array) {
+            Some(given) => same_type(given, asked.ctype()),
+            None => false,
+        },
+        None => false,
+    }
 }
 
 /// Whether the callee is defined with the parameters and the result type that the call's label has.

@@ -78,7 +78,7 @@ fn are_exprs(site: Site<'_>, exprs: &[RExpr]) -> bool
 /// Whether a place is in an object of the function or of file scope, with the type that it is declared with, and its
 /// indices are valid expressions.
 #[cycle(expressions)]
-fn is_place(site: Site<'_>, place: &Place) -> bool
+pub fn is_place(site: Site<'_>, place: &Place) -> bool
     ensures { IsTrue result ↔ IsPlace (scope_at site.entry) site.entry.number (place_tree place.now) }
 {
     match place {

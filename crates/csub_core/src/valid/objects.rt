@@ -4,12 +4,12 @@ ghost use Rattle.std.specs.Option.{SomeIff};
 ghost use Rattle.csub_objects.specs.declared.types.Member.{Member};
 ghost use Rattle.csub_semantics.specs.declared.function.LocalVar.{LocalVar};
 ghost use Rattle.csub_objects.specs.Meaning.{type_tree};
-ghost use Rattle.csub_objects.specs.Types.{cells, IsNumber, IsSized};
+ghost use Rattle.csub_objects.specs.Types.{cells, IsSized};
 ghost use Rattle.csub_semantics.specs.Syntax.{function_tree};
-ghost use Rattle.csub_validity.specs.Valid.{AreDeclared, frame_cells, most_cells};
+ghost use Rattle.csub_validity.specs.Valid.{AreDeclared, IsParameter, frame_cells, most_cells};
 ghost use Rattle.csub_core.specs.Checks.{param_cells, local_cells};
 
-use csub_objects::{CType, cells, is_number, is_sized};
+use csub_objects::{CType, cells, is_sized};
 use csub_semantics::{Function, LocalVar, Member};
 
 /// The most cells of a function's frame.
@@ -63,22 +63,34 @@ pub(crate) fn room_behind(ctype: &CType, room: u64) -> Option<u64>
     room.checked_sub(cells(ctype))
 }
 
-/// Whether each parameter is a number, and each local has a type that an object may have.
+/// Whether each parameter is a number or refers to an array of elements that may be, and each local has a type that an
+/// object may have.
 pub(crate) fn are_declared(function: &Function) -> bool
     ensures { IsTrue result ↔ AreDeclared (function_tree function.now) }
 {
-    are_numbers(&function.params) && are_sized(&function.locals)
+    are_parameters(&function.params) && are_sized(&function.locals)
 }
 
-fn are_numbers(params: &[Member]) -> bool
-    ensures { IsTrue result ↔ All (λ (p : Member). IsNumber (type_tree p.ctype)) params.now }
+fn are_parameters(params: &[Member]) -> bool
+    ensures { IsTrue result ↔ All (λ (p : Member). IsParameter (type_tree p.ctype)) params.now }
 {
     for param in params {
-        if !is_number(&param.ctype) {
+        if !is_parameter(&param.ctype) {
             return false;
         }
     }
     true
+}
+
+/// Whether a type is one that a parameter may have.
+fn is_parameter(ctype: &CType) -> bool
+    ensures { IsTrue result ↔ IsParameter (type_tree ctype.now) }
+{
+    match ctype {
+        CType::Num(_) => true,
+        CType::Loose(element) => is_sized(element.ctype()),
+        CType::Array(_, _) | CType::Struct(_, _) => false,
+    }
 }
 
 fn are_sized(locals: &[LocalVar]) -> bool

@@ -6,16 +6,16 @@ ghost use Rattle.csub_semantics.specs.Trees.{owner_tree};
 ghost use Rattle.csub_semantics.specs.Labels.{answer_tree, init_tree, label_tree};
 ghost use Rattle.csub_semantics.specs.Syntax.{part_tree, stmt_tree, stmts_of, function_tree};
 ghost use Rattle.csub_validity.specs.declared.role.Role.TheVariants.{Effect};
-ghost use Rattle.csub_validity.specs.Valid.{scope_of, declares, IsAnswer, IsInit, IsInitialised, IsLast, IsPart, AreParts, IsForHead, IsStmt, stmt_count, most_entries};
+ghost use Rattle.csub_validity.specs.Valid.{scope_of, declares, IsAnswer, IsInitialised, IsLast, IsPart, AreParts, IsForHead, IsStmt, stmt_count, most_entries};
 ghost use Rattle.csub_validity.specs.Checks.{tree_of, scope_at};
 ghost use Rattle.csub_core.specs.Checks.{declared_own, IsEnd, AreTogether, IsOneStep, IsSwitch};
 
 use crate::valid::cases::{are_cases, is_case, switch_kind};
 use crate::valid::labels::{has_label, is_jump};
-use csub_objects::is_number;
 use csub_semantics::{Answer, CType, Function, Label, Owner, RInit, RPart, RStmt};
 use csub_validity::calls::{are_calls, is_call};
 use csub_validity::expressions::is_expr;
+use csub_validity::inits::is_init;
 use csub_validity::objects::is_local;
 use csub_validity::role::{Definitions, Role, Site, Targets};
 
@@ -261,15 +261,7 @@ fn is_last(role: Role, site: Site<'_>, label: &Label) -> bool
 fn is_initialised(site: Site<'_>, owner: &Owner, ctype: &CType, init: &RInit) -> bool
     ensures { IsTrue result ↔ IsInitialised (function_tree site.entry.function.now) (scope_at site.entry) site.entry.number (owner_tree owner.now) (type_tree ctype.now) (init_tree init.now) }
 {
-    is_local(site.function, owner, ctype) && is_init(site, ctype, init)
-}
-
-/// Whether an initialiser fits its object's type: a number gets an expression (C11 6.7.9p11).
-fn is_init(site: Site<'_>, ctype: &CType, init: &RInit) -> bool
-    ensures { IsTrue result ↔ IsInit (scope_at site.entry) site.entry.number (type_tree ctype.now) (init_tree init.now) }
-{
-    let RInit::One(value) = init;
-    is_number(ctype) && is_expr(site, value)
+    is_local(site.function, owner, ctype) && is_init(site, init, Some(ctype))
 }
 
 /// Whether a return fits its function's result type.

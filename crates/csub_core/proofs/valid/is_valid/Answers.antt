@@ -1,13 +1,14 @@
 use Rattle.std.proofs.Common.{refl}
+use Rattle.csub_validity.specs.Checks.{tree_of}
 use Rattle.csub_core.proofs.ValidPrograms.{IsValid-split}
 use Rattle.csub_core.proofs.valid.is_valid.Goals as goal
 
-pub returns-then-is_framed : goal.returns-then-is_framed
-returns-then-is_framed c =
-    let split = IsValid-split (record { functions = c.args.program.functions.now; globals = c.args.program.globals.now }) in
-    (λ h. split.1 (c.if-is_framed.ensures.0 refl, c.are_functions.ensures.0 h), λ h. c.are_functions.ensures.1 (split.0 h).1)
+pub returns-then-are_defined : goal.returns-then-are_defined
+returns-then-are_defined c =
+    let split = IsValid-split (tree_of c.args.program) c.names_are_own.ensures in
+    (λ h. split.1 (c.if-are_defined.ensures.0 refl, c.tags_agree.ensures.0 h), λ h. c.tags_agree.ensures.1 (split.0 h).1)
 
-pub returns-else-is_framed : goal.returns-else-is_framed
-returns-else-is_framed c =
-    let split = IsValid-split (record { functions = c.args.program.functions.now; globals = c.args.program.globals.now }) in
-    (λ h. cc, λ h. c.is_framed.ensures.1 (split.0 h).0)
+pub returns-else-are_defined : goal.returns-else-are_defined
+returns-else-are_defined c =
+    let split = IsValid-split (tree_of c.args.program) c.names_are_own.ensures in
+    (λ h. cc, λ h. c.are_defined.ensures.1 (split.0 h).0)

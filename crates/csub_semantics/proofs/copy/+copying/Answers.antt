@@ -1,4 +1,4 @@
-use Rattle.std.proofs.Common.{◌≡◌, ◌∙◌, ap, ap₂, sym, map}
+use Rattle.std.proofs.Common.{◌∙◌, ap, ap₂, sym, map}
 use Rattle.csub_semantics.specs.Trees.{formatted, exprs_of, expr_tree}
 use Rattle.csub_semantics.proofs.LawsRows.{expr_tree-Printf}
 use Rattle.csub_semantics.proofs.copy.+copying.Goals as goal

@@ -1,4 +1,3 @@
-use Rattle.std.proofs.Common.{map}
 use Rattle.csub_validity.specs.Checks.{scope_at}
 use Rattle.csub_validity.proofs.ValidFormats.{IsExpr-Printf}
 use Rattle.csub_validity.proofs.expressions.+expressions.Goals as goal
