@@ -8,15 +8,17 @@ use Rattle.csub_semantics.specs.declared.label.EndRule.{EndRule}
 use Rattle.csub_semantics.specs.declared.label.EndRule.TheVariants.{Nothing, Value, Main, Start}
 use Rattle.csub_semantics.specs.declared.status.Status.TheVariants.{Trap}
 use Rattle.csub_objects.specs.Types.{number_kind, MemberTree}
-use Rattle.csub_semantics.specs.Trees.{NamedArg, value_argument, reading, assignment, variable, object, temporary}
-use Rattle.csub_semantics.specs.Labels.{LabelTree, enters, exits, evaluates, initialises, branches, switches, returns, jumps, halts, calls, AnswerTree, CallTree, one_value}
+use Rattle.csub_semantics.specs.Trees.{NamedArg, value_argument, array_argument, reading, variable, temporary}
+use Rattle.csub_semantics.specs.Labels.{LabelTree, enters, exits, evaluates, initialises, branches, switches, returns, jumps, halts, calls, AnswerTree, CallTree}
 use Rattle.csub_semantics.specs.Memory.{Answer}
 use Rattle.csub_semantics.specs.Cells.{Root, Content, entered}
+use Rattle.csub_semantics.specs.Initialising.{object_spot}
 use Rattle.csub_semantics.specs.Acts.{Store, Outcome, pushes, ends, after_value, argument_content, argument_contents, most_frames, act_exit, act_return, act_call, act}
 use Rattle.call_walk.specs.Shared.{Agree}
 use Rattle.call_walk.specs.Locality.{HasFrames, CoversArg, CoversAnswer, CoversLabel, SameOutcome, both_leave, both_give as both_decide, both_push, both_pop, both_end, ActsAreLocal}
-use Rattle.call_walk.proofs.Agreeing.{IsInside, AreInside, number_inside, agree_dropped, agree_entered}
-use Rattle.call_walk.proofs.Evaluating.{SameAnswer, both_give, both_trap, then_same, same_eval}
+use Rattle.call_walk.proofs.Agreeing.{IsInside, AreInside, number_inside, reference_inside, agree_dropped, agree_entered}
+use Rattle.call_walk.proofs.Evaluating.{SameAnswer, both_give, both_trap, then_same, same_locate, same_eval}
+use Rattle.call_walk.proofs.Initialising.{same_initialise}
 
 -- an outcome after a value
 after_same : {X : Type 0} {Q : X → Type 0} {A : Store → Store → Type 0} {a a' : Answer X Store} {go go' : X → Store → Outcome} → SameAnswer Q A a a' → ((v : X) (s s' : Store) → Q v → A s s' → SameOutcome A (go v s) (go' v s')) → SameOutcome A (after_value a go) (after_value a' go')
@@ -27,6 +29,8 @@ module _ (S : Root → Bool) (frames : HasFrames S) where
   same_argument : (h : ℕ) (p : MemberTree) (a : NamedArg) (s s' : Store) → CoversArg S a → Agree S s s' → SameAnswer (IsInside S) (Agree S) (argument_content h p a s) (argument_content h p a s')
   same_argument h p (value_argument e) s s' covers agree =
       then_same (same_eval S frames h e s s' covers agree) (λ v t t' q r. both_give (number_inside S (convert (number_kind p.ctype) v)) r)
+  same_argument h p (array_argument a) s s' covers agree =
+      then_same (same_locate S frames h a s s' covers agree) (λ l t t' inside r. both_give (reference_inside S l.cell l.length inside) r)
 
   same_arguments : (h : ℕ) (params : List MemberTree) (args : List NamedArg) (s s' : Store) → All (CoversArg S) args → Agree S s s' → SameAnswer (AreInside S) (Agree S) (argument_contents h params args s) (argument_contents h params args s')
   same_arguments h [] args s s' covers agree = both_give tt agree
@@ -60,8 +64,8 @@ module _ (S : Root → Bool) (frames : HasFrames S) where
   same_act enters covers n r s s' agree = both_leave agree
   same_act (exits rule) covers n r s s' agree = same_exit rule n r s s' agree
   same_act (evaluates e) covers n r s s' agree = after_same (same_eval S frames (n - 1) e s s' covers agree) (λ v t t' q z. both_leave z)
-  same_act (initialises owner t (one_value e)) covers n r s s' agree =
-      after_same (same_eval S frames (n - 1) (assignment (variable (object owner t)) e) s s' covers agree) (λ v u u' q z. both_leave z)
+  same_act (initialises owner t init) covers n r s s' agree =
+      after_same (same_initialise S frames (n - 1) init t (object_spot (n - 1) owner t) s s' covers.1 agree) (λ v u u' q z. both_leave z)
   same_act (branches e) covers n r s s' agree = after_same (same_eval S frames (n - 1) e s s' covers agree) (λ v t t' q z. both_leave z)
   same_act (switches e) covers n r s s' agree = after_same (same_eval S frames (n - 1) e s s' covers agree) (λ v t t' q z. both_decide z)
   same_act (returns answer) covers n r s s' agree = same_return answer n r s s' covers agree

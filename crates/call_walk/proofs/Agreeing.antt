@@ -1,5 +1,5 @@
 -- What is done to cells keeps that two stores agree on a set of roots.
-use Rattle.std.proofs.Common.{◌≡◌, ℕ, ℤ, List, [], ◌∷◌, Bool, true, false, Option, Some, None, refl, if◌then◌else◌, IsTrue}
+use Rattle.std.proofs.Common.{◌≡◌, ℕ, ℤ, List, [], ◌∷◌, Bool, true, false, Option, Some, None, refl, subst, if◌then◌else◌, IsTrue}
 use Rattle.csub_objects.specs.Types.{MemberTree}
 use Rattle.csub_semantics.specs.Cells.{Root, temp_root, Cell, Content, number, reference, Cells, cell_eq, written, of_frame, dropped, parameter_cell, entered}
 use Rattle.csub_semantics.specs.Acts.{Store}
@@ -17,6 +17,9 @@ module _ (S : Root → Bool) where
 
   pub number_inside : (v : ℤ) → IsInside (number v)
   number_inside v d n e = cc
+
+  pub reference_inside : (c : Cell) (m : ℕ) → IsTrue (S c.root) → IsInside (reference c m)
+  reference_inside c m inside d n e = let same : c ≡ d = cc in subst (λ x. IsTrue (S x.root)) same inside
 
   -- the same change of both, by one test
   same_choice : (b : Bool) (g o o' : Option Content) → o ≡ o' → (if b then g else o) ≡ (if b then g else o')

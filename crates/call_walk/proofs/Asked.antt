@@ -7,13 +7,14 @@ use Rattle.csub_semantics.specs.declared.label.Label.{Label}
 use Rattle.csub_semantics.specs.declared.label.Label.TheVariants.{Call}
 use Rattle.csub_objects.specs.Types.{Name}
 use Rattle.csub_semantics.specs.Labels.{calls, call_of, PointLabel, label_tree, call_tree}
-use Rattle.csub_semantics.specs.Points.{PointTree}
+use Rattle.csub_semantics.specs.Points.{PointTree, ExitTree}
 use Rattle.csub_semantics.specs.Syntax.{ProgramTree}
 use Rattle.csub_semantics.specs.Flows.{flow_of}
 use Rattle.csub_semantics.specs.Numbers.{Site, site, site_at}
 use Rattle.csub_semantics.specs.Books.{SameLabel, CallsAt, IsNoCallAt}
 use Rattle.program_laws.proofs.LawsFlows.{is_flow}
 use Rattle.flow_graph.specs.Graph.{Tables, IsGraphOf}
+use Rattle.call_walk.specs.Walks.{LeavesFrom}
 use Rattle.call_walk.specs.declared.ask.Callee.{Callee}
 use Rattle.call_walk.specs.Moments.{Defines, IsFunction, IsCallee}
 use Rattle.call_walk.proofs.Numbered.{callee_defined}
@@ -31,6 +32,15 @@ pub record Led (P : ProgramTree) (f : Name) (o : Option PointTree) (n : ℕ) : T
 pub leads_some : (P : ProgramTree) (f : Name) (o : Option PointTree) (n : ℕ) (s : Site) → site_at P n ≡ Some s → site_at P n ≡ option_map (site f) o → Led P f o n
 leads_some P f None n s there e = let both : ◌≡◌ {A = Option Site} (Some s) None = sym there ∙ e in absurd (cc)
 leads_some P f (Some q) n s there e = record { to = q; leads = refl; at = e }
+
+-- an edge leads from its point to where the graph says
+pub leads_along : (P : ProgramTree) (e n m : ℕ) (x : ExitTree) (s : Site) (l : LeavesFrom P e n) → x ≡ l.edge.exit
+    → site_at P m ≡ option_map (site l.edge.function) ((flow_of P).succ l.edge.function l.edge.from l.edge.exit) → site_at P n ≡ Some s
+    → site_at P m ≡ option_map (site s.function) ((flow_of P).succ s.function s.point x)
+leads_along P e n m x s l exit to at =
+    let same : site l.edge.function l.edge.from ≡ s = same_Some _ _ (sym l.from ∙ at) in
+    to ∙ ap (λ y. option_map (site l.edge.function) ((flow_of P).succ l.edge.function l.edge.from y)) (sym exit)
+    ∙ ap (λ (z : Site). option_map (site z.function) ((flow_of P).succ z.function z.point x)) same
 
 -- what is no call has the tree of none
 pub no_call : (l : Label) → ((k : CallLabel) → l ≡ Call k → ⊥) → call_of (label_tree l) ≡ None

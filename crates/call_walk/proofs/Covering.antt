@@ -1,6 +1,6 @@
 -- A label of a valid program lists each global that its tree names, so that two programs with that label declare these
 -- alike.
-use Rattle.std.proofs.Common.{◌≡◌, inl, ℕ, List, [], ◌∷◌, ◌++◌, ◌||◌, Bool, true, false, Option, Some, None, is_some, All, refl, sym, subst, subst₂, IsTrue}
+use Rattle.std.proofs.Common.{◌≡◌, inl, ℕ, ◌+◌, List, [], ◌∷◌, ◌++◌, ◌||◌, Bool, true, false, Option, Some, None, is_some, All, refl, sym, subst, subst₂, IsTrue}
 use Rattle.std.specs.List.{AllByRecursion, list_any, flat_map}
 use Rattle.std.specs.Option.{option_map}
 use Rattle.std.specs.Ordering.{int_eq}
@@ -12,20 +12,20 @@ use Rattle.csub_validity.specs.declared.role.Role.{Role}
 use Rattle.csub_validity.specs.declared.role.Role.TheVariants.{Whole, Test, Switch, Effect}
 use Rattle.csub_objects.specs.Types.{Name, TypeTree, type_eq, MemberTree}
 use Rattle.csub_semantics.specs.Types.{name_eq, GlobalTree}
-use Rattle.csub_semantics.specs.Globals.{owner_names, variable_names, place_names, expr_names, exprs_names, arg_names, init_names, label_names, global_of, named_globals}
-use Rattle.csub_semantics.specs.Trees.{OwnerTree, global_owner, local_owner, Variable, object, temporary, NamedPlace, variable, element_place, member_place, NamedExpr, constant, reading, unary_operation, conversion, stepping, operation, conjunction, disjunction, choice, assignment, update, input_byte, output_byte, formatted, NamedExprs, no_expr, more_exprs, NamedArg, value_argument}
-use Rattle.csub_semantics.specs.Labels.{LabelTree, enters, exits, evaluates, initialises, branches, switches, returns, jumps, halts, calls, PointLabel, CallTree, AnswerTree, InitTree, one_value}
+use Rattle.csub_semantics.specs.Globals.{owner_names, variable_names, place_names, expr_names, exprs_names, arg_names, init_names, inits_names, label_names, global_of, named_globals}
+use Rattle.csub_semantics.specs.Trees.{OwnerTree, global_owner, local_owner, Variable, object, temporary, NamedPlace, variable, element_place, member_place, NamedExpr, constant, reading, unary_operation, conversion, stepping, operation, conjunction, disjunction, choice, assignment, update, input_byte, output_byte, formatted, NamedExprs, no_expr, more_exprs, NamedArg, value_argument, array_argument}
+use Rattle.csub_semantics.specs.Labels.{LabelTree, enters, exits, evaluates, initialises, branches, switches, returns, jumps, halts, calls, PointLabel, CallTree, AnswerTree, InitTree, one_value, listed as listed_init, InitTrees, no_init, more_inits}
 use Rattle.csub_semantics.specs.Syntax.{LocalTree, FunctionTree, ProgramTree}
 use Rattle.csub_semantics.specs.Points.{PointTree}
 use Rattle.csub_semantics.specs.Flows.{Flow, flow_of}
 use Rattle.csub_semantics.specs.Cells.{Root, global_root, local_root, temp_root}
-use Rattle.csub_validity.specs.Valid.{Scope, scope_of, IsObject, IsVariable, IsPlace, IsExpr, AreExprs, AreArgs, IsCall, IsAnswer, IsInitialised, IsLast, IsValid}
+use Rattle.csub_validity.specs.Valid.{Scope, scope_of, IsObject, IsVariable, IsPlace, IsExpr, AreExprs, part_of, AreArgs, IsCall, IsAnswer, IsInit, AreInits, IsInitialised, IsLast, IsValid}
 use Rattle.program_laws.proofs.LawsFlows.{labelled_at}
 use Rattle.program_laws.proofs.LawsNames.{same_name}
 use Rattle.program_laws.proofs.LawsGlobals.{Among, among_left, among_right, named_is_listed, type_itself}
 use Rattle.program_laws.proofs.LawsNodes.{MayStand}
 use Rattle.call_walk.specs.Shared.{declared_alike, shared}
-use Rattle.call_walk.specs.Locality.{CoversOwner, CoversVariable, CoversPlace, CoversExpr, CoversExprs, CoversArg, CoversAnswer, CoversInit, CoversLabel}
+use Rattle.call_walk.specs.Locality.{CoversOwner, CoversVariable, CoversPlace, CoversExpr, CoversExprs, CoversArg, CoversAnswer, CoversInit, CoversInits, CoversLabel}
 use Rattle.call_walk.proofs.EveryLabel.{every_label}
 
 -- the roots of all frames, and those of the globals of a list
@@ -83,6 +83,7 @@ module _ (S T : Root → Bool) where
 
   more_arg : (a : NamedArg) → More (arg_names a) → CoversArg S a → CoversArg T a
   more_arg (value_argument e) more h = more_expr e more h
+  more_arg (array_argument p) more h = more_place p more h
 
   more_args : (args : List NamedArg) → More (flat_map arg_names args) → All (CoversArg S) args → All (CoversArg T) args
   more_args [] more h = All-nil (CoversArg T)
@@ -90,8 +91,14 @@ module _ (S T : Root → Bool) where
       All-cons (CoversArg T) a args (more_arg a (first_more (arg_names a) (flat_map arg_names args) more) (All-head (CoversArg S) a args h))
       (more_args args (later_more (arg_names a) (flat_map arg_names args) more) (All-tail (CoversArg S) a args h))
 
-  more_init : (init : InitTree) → More (init_names init) → CoversInit S init → CoversInit T init
-  more_init (one_value e) more h = more_expr e more h
+  mutual
+    more_init : (init : InitTree) → More (init_names init) → CoversInit S init → CoversInit T init
+    more_init (one_value e) more h = more_expr e more h
+    more_init (listed_init xs) more h = more_inits_of xs more h
+
+    more_inits_of : (xs : InitTrees) → More (inits_names xs) → CoversInits S xs → CoversInits T xs
+    more_inits_of no_init more h = tt
+    more_inits_of (more_inits x rest) more h = (more_init x (first_more (init_names x) (inits_names rest) more) h.0, more_inits_of rest (later_more (init_names x) (inits_names rest) more) h.1)
 
   pub covers_more : (l : LabelTree) → More (label_names l) → CoversLabel S l → CoversLabel T l
   covers_more enters more h = tt
@@ -165,6 +172,17 @@ module _ (gs : List GlobalTree) (sc : Scope) (same : sc.globals ≡ gs) (k : ℕ
   valid_args (p ∷ params) [] h = absurd h
   valid_args (p ∷ params) (value_argument e ∷ args) h =
       All-cons (CoversArg S) (value_argument e) args (valid_expr e h.0.1) (valid_args params args h.1)
+  valid_args (p ∷ params) (array_argument a ∷ args) h =
+      All-cons (CoversArg S) (array_argument a) args (valid_place a h.0.1) (valid_args params args h.1)
+
+  mutual
+    valid_entry : (o : Option TypeTree) (init : InitTree) → IsInit sc k o init → CoversInit S init
+    valid_entry o (one_value e) h = valid_expr e h.1
+    valid_entry o (listed_init xs) h = valid_entries o 0 xs h.1
+
+    valid_entries : (o : Option TypeTree) (i : ℕ) (xs : InitTrees) → AreInits sc k o i xs → CoversInits S xs
+    valid_entries o i no_init h = tt
+    valid_entries o i (more_inits x rest) h = (valid_entry (part_of o i) x h.0, valid_entries o (i + 1) rest h.1)
 
   valid_answer : (result : Option _) (a : Option AnswerTree) → IsAnswer sc k result a → CoversAnswer S a
   valid_answer None None h = tt
@@ -177,7 +195,7 @@ module _ (gs : List GlobalTree) (sc : Scope) (same : sc.globals ≡ gs) (k : ℕ
     valid_call temps c h = valid_args c.params c.args h.args
 
     valid_init : (f : FunctionTree) (owner : OwnerTree) (t : TypeTree) (init : InitTree) → IsInitialised f sc k owner t init → CoversLabel S (initialises owner t init)
-    valid_init f owner t (one_value e) h = (valid_local f.locals owner t h.0, valid_expr e h.1.1)
+    valid_init f owner t init h = (valid_local f.locals owner t h.0, valid_entry (Some t) init h.1)
 
     valid_whole : (f : FunctionTree) (l : LabelTree) → IsLast P f sc Whole k l → CoversLabel S l
     valid_whole f (evaluates e) h = valid_expr e h

@@ -3,6 +3,7 @@ mod Reaching
 mod ReachedClosed
 mod Agreeing
 mod Evaluating
+mod Initialising
 mod Acting
 mod EveryLabel
 mod Covering

@@ -6,9 +6,9 @@ use Rattle.csub_objects.specs.Types.{Name}
 use Rattle.csub_semantics.specs.Trees.{OwnerTree, global_owner, local_owner, Variable, object, temporary, NamedPlace, variable, element_place}
 use Rattle.csub_semantics.specs.Trees.{member_place, NamedExpr, constant}
 use Rattle.csub_semantics.specs.Trees.{reading, unary_operation, conversion, stepping, operation, conjunction, disjunction, choice, assignment}
-use Rattle.csub_semantics.specs.Trees.{update, input_byte, output_byte, formatted, NamedExprs, no_expr, more_exprs, NamedArg, value_argument}
+use Rattle.csub_semantics.specs.Trees.{update, input_byte, output_byte, formatted, NamedExprs, no_expr, more_exprs, NamedArg, value_argument, array_argument}
 use Rattle.csub_semantics.specs.Labels.{LabelTree, enters, exits, evaluates, initialises, branches, switches, returns, jumps, halts, calls}
-use Rattle.csub_semantics.specs.Labels.{AnswerTree, InitTree, one_value}
+use Rattle.csub_semantics.specs.Labels.{AnswerTree, InitTree, one_value, listed, InitTrees, no_init, more_inits}
 use Rattle.csub_semantics.specs.Points.{ExitTree}
 use Rattle.csub_semantics.specs.Cells.{Root, global_root, local_root, temp_root}
 use Rattle.csub_semantics.specs.Acts.{Store, Outcome, leaves, gives, pushes, pops, ends, act}
@@ -57,13 +57,20 @@ module _ (S : Root → Bool) where
 
   abbrev pub CoversArg : NamedArg → Type 0
   CoversArg (value_argument e) = CoversExpr e
+  CoversArg (array_argument p) = CoversPlace p
 
   abbrev pub CoversAnswer : Option AnswerTree → Type 0
   CoversAnswer None = Unit {0}
   CoversAnswer (Some a) = CoversExpr a.value
 
-  abbrev pub CoversInit : InitTree → Type 0
-  CoversInit (one_value e) = CoversExpr e
+  abbrev mutual
+    pub CoversInit : InitTree → Type 0
+    CoversInit (one_value e) = CoversExpr e
+    CoversInit (listed xs) = CoversInits xs
+
+    pub CoversInits : InitTrees → Type 0
+    CoversInits no_init = Unit {0}
+    CoversInits (more_inits x rest) = CoversInit x × CoversInits rest
 
   abbrev pub CoversLabel : LabelTree → Type 0
   CoversLabel enters = Unit {0}

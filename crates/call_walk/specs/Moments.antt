@@ -1,11 +1,12 @@
 -- A walk at a moment, for the functions inside: the facts that are held so far, the index of them by old points, the
 -- calls that wait, and what has been followed.
 use Rattle.std.specs.Prelude.{ℕ, ◌≡◌, ◌<◌, ◌^◌, ◌++◌, ◌⊎◌, List, length, slice_get, take, Some, Bool, IsTrue}
+use Rattle.std.specs.Option.{option_map}
 use Rattle.csub_objects.specs.Types.{Name}
 use Rattle.csub_semantics.specs.Points.{PointTree, entry, exit, ExitTree, next}
 use Rattle.csub_semantics.specs.Syntax.{FunctionTree, ProgramTree}
 use Rattle.csub_semantics.specs.Flows.{Edge, flow_of, function_of}
-use Rattle.csub_semantics.specs.Numbers.{site, site_at, edge_at, name_at}
+use Rattle.csub_semantics.specs.Numbers.{Site, site, site_at, edge_at, name_at}
 use Rattle.csub_semantics.specs.Books.{Together, CallsAt, IsNoCallAt, Reached}
 use Rattle.edge_trace.specs.Rows.{has}
 use Rattle.flow_graph.specs.Graph.{Tables, IsGraphOf, point_count, edge_count, function_count}
@@ -114,6 +115,12 @@ pub record IsCallee (P P' : ProgramTree) (f : Name) (p : PointTree) (k : Callee)
 pub record Defines (P : ProgramTree) (g : Name) : Type 0 where
   pub function : FunctionTree
   pub is : function_of P g ≡ Some function
+
+-- the point with number n leads along x to the one with number m
+abbrev pub LeadsAlong : Tables → ℕ → ExitTree → ℕ → Type 0
+LeadsAlong g n x m =
+    (P : ProgramTree) (s : Site) → IsGraphOf g P → site_at P n ≡ Some s →
+    site_at P m ≡ option_map (site s.function) ((flow_of P).succ s.function s.point x)
 
 -- the pair of numbers is that of the successors along x
 pub record AreTogether (P P' : ProgramTree) (f : Name) (p p' : PointTree) (x : ExitTree) (pair : Pair) : Type 0 where

@@ -8,7 +8,7 @@ ghost use Rattle.csub_semantics.specs.Numbers.{site, site_at};
 ghost use Rattle.csub_semantics.specs.Books.{SameLabel, Together, IsNoCallAt};
 ghost use Rattle.flow_graph.specs.Graph.{IsGraphOf, point_count, function_count};
 ghost use Rattle.call_walk.specs.LabelRows.{AreLabelled};
-ghost use Rattle.call_walk.specs.Moments.{AreAt, AreTogether, IsFunction, IsCallee, Defines, AreWays};
+ghost use Rattle.call_walk.specs.Moments.{AreAt, LeadsAlong, AreTogether, IsFunction, IsCallee, Defines, AreWays};
 
 use crate::both::{Both, same_label};
 use crate::rows::Rows;
@@ -54,16 +54,19 @@ pub fn list_ways(alloc: Global, graph: &Graph) -> Result<Rows, AllocError>
     Ok(ways)
 }
 
-/// The successors of two points along a way out, where both lead on and the labels there are equal.
+/// The successors of two points along a way out, by which the old one leads to the point `to`, where the new one leads on
+/// too and the labels there are equal.
 pub fn successors<L: Ledger>(
     both: &Both<'_>,
     from: Pair,
+    to: u32,
     exit: &ExitLabel,
     steps: &mut Steps<L>,
 ) -> Option<Pair>
     requires labels { AreLabelled both.now }
-    requires old { from.old < point_count both.now.old.now }
     requires new { from.new < point_count both.now.new.now }
+    requires to { to < point_count both.now.old.now }
+    requires leads { LeadsAlong both.now.old.now from.old (exit_tree exit.now) to }
     ensures together { (P P' : ProgramTree) (f : Name) (p p' : PointTree) → IsGraphOf both.now.old.now P → IsGraphOf both.now.new.now P' →
         AreAt P P' from.old from.new f p p' →
         MatchOption result ((q q' : PointTree) → Together (flow_of P) (flow_of P') f p p' (exit_tree exit.now) q q' → ⊥)
@@ -71,9 +74,6 @@ pub fn successors<L: Ledger>(
     ensures old { IfSome result (λ pair. pair.old < point_count both.now.old.now) }
     ensures new { IfSome result (λ pair. pair.new < point_count both.now.new.now) }
 {
-    let Some(to) = both.old.follow(from.old, exit) else {
-        return None;
-    };
     let Some(other) = both.new.follow(from.new, exit) else {
         return None;
     };

@@ -7,7 +7,7 @@ ghost use Rattle.csub_semantics.specs.Flows.{flow_of};
 ghost use Rattle.csub_semantics.specs.Books.{IsNoCallAt};
 ghost use Rattle.flow_graph.specs.Graph.{IsGraphOf, point_count, function_count};
 ghost use Rattle.call_walk.specs.LabelRows.{AreLabelled};
-ghost use Rattle.call_walk.specs.Moments.{Lists, AreWays, AreAt, IsMoment, AreWaiting, Extends, IsCalledAt, IsPassed, Explains, HoldsNext, PassesOver, AreDone, IsFollowed, AreResumed};
+ghost use Rattle.call_walk.specs.Moments.{Lists, AreWays, AreAt, LeadsAlong, IsMoment, AreWaiting, Extends, IsCalledAt, IsPassed, Explains, HoldsNext, PassesOver, AreDone, IsFollowed, AreResumed};
 ghost use Rattle.call_walk.specs.declared.fact.Fact.{Fact};
 
 use crate::ask::{Callee, Pair, are_exits, callee_at, successors};
@@ -21,11 +21,13 @@ use flow_graph::EdgeEnds;
 use std::alloc::AllocError;
 use std::sync::ledger::Ledger;
 
-/// Adds the successors of a fact along a way out, where their labels are equal.
+/// Adds the successors of a fact along a way out, by which its old point leads to the point `to`, where their labels are
+/// equal.
 fn advance<L: Ledger>(
     both: &Both<'_>,
     pairs: &mut Pairs,
     from: Fact,
+    to: u32,
     exit: &ExitLabel,
     why: Why,
     steps: &mut Steps<L>,
@@ -33,6 +35,8 @@ fn advance<L: Ledger>(
     requires labels { AreLabelled both.now }
     requires moment { IsMoment both.now.old.now both.now.new.now pairs.old }
     requires among { Contains pairs.old.facts.items from }
+    requires to { to < point_count both.now.old.now }
+    requires leads { LeadsAlong both.now.old.now from.old (exit_tree exit.now) to }
     requires why { Explains both.now.old.now both.now.new.now pairs.old.facts.items from (exit_tree exit.now) why }
     ensures moment { OnOk result (IsMoment both.now.old.now both.now.new.now pairs.new) }
     ensures grows { OnOk result (Extends pairs.old.facts.items pairs.new.facts.items) }
@@ -42,7 +46,7 @@ fn advance<L: Ledger>(
         old: from.old,
         new: from.new,
     };
-    let Some(next) = successors(both, pair, exit, steps) else {
+    let Some(next) = successors(both, pair, to, exit, steps) else {
         return Ok(());
     };
     add(
@@ -75,12 +79,8 @@ fn take_steps<L: Ledger>(
     ensures steps { OnOk result ((P P' : ProgramTree) → IsGraphOf both.now.old.now P → IsGraphOf both.now.new.now P' → (x : ExitTree) → HoldsNext P P' pairs.new.facts.items from x) }
 {
     for edge in ways.row(from.old) {
-        let EdgeEnds {
-            from: _,
-            exit,
-            to: _,
-        } = both.old.edge_at(*edge);
-        advance(both, pairs, from, exit, Why::Step(at, *edge), steps)?;
+        let EdgeEnds { from: _, exit, to } = both.old.edge_at(*edge);
+        advance(both, pairs, from, to, exit, Why::Step(at, *edge), steps)?;
     }
     Ok(())
 }
@@ -102,10 +102,14 @@ fn pass_over<L: Ledger>(
     ensures held { OnOk result ((P P' : ProgramTree) (c : Fact) → IsGraphOf both.now.old.now P → IsGraphOf both.now.new.now P' → slice_get pairs.old.facts.items at ≡ Some c → HoldsNext P P' pairs.new.facts.items c next) }
 {
     let from = pairs.facts[at as usize];
+    let Some(to) = both.old.follow(from.old, &ExitLabel::Next) else {
+        return Ok(());
+    };
     advance(
         both,
         pairs,
         from,
+        to,
         &ExitLabel::Next,
         Why::Over(at, back),
         steps,

@@ -66,8 +66,8 @@ fn reach<L: Ledger>(
 /// dangerous edges (Rothermel and Harrold, ACM TOSEM 6(2), 1997). An `Err` is want of memory.
 ///
 /// Each point's label gets a number at the beginning. Beside one comparison of two numbers for each edge of a reached
-/// pair, which `steps` counts, a pair is looked for among the reached pairs of its old point, and functions are looked
-/// for by their names, one by one.
+/// pair, which `steps` counts, the edge's exit label is looked for at the new point, a case of a `switch` by a logarithm;
+/// a pair is looked for among the reached pairs of its old point, and functions are looked for by their names, one by one.
 pub fn walk<L: Ledger>(
     alloc: Global,
     old: &Graph,

@@ -9,7 +9,8 @@ use Rattle.std.specs.BTreeSet.{insert_key}
 use Rattle.std.proofs.lemmas.List.{drop_more}
 use Rattle.csub_objects.specs.Types.{Name}
 use Rattle.csub_semantics.specs.Trees.{NamedExpr, exprs_of}
-use Rattle.csub_semantics.specs.Globals.{expr_names, exprs_names, ordered}
+use Rattle.csub_semantics.specs.Labels.{InitTree, inits_of}
+use Rattle.csub_semantics.specs.Globals.{expr_names, exprs_names, init_names, inits_names, ordered}
 
 -- two lists of names, one after the other
 pub ordered_append : (xs ys before : List Name) → ordered before (xs ++ ys) ≡ ordered (ordered before xs) ys
@@ -41,3 +42,8 @@ next_names tree names xs x i before set within is e =
 pub exprs_names-list : (es : List NamedExpr) → exprs_names (exprs_of es) ≡ flat_map expr_names es
 exprs_names-list [] = refl
 exprs_names-list (e ∷ es) = ap (λ ns. expr_names e ++ ns) (exprs_names-list es)
+
+-- the names in a list of initialisers
+pub inits_names-list : (xs : List InitTree) → inits_names (inits_of xs) ≡ flat_map init_names xs
+inits_names-list [] = refl
+inits_names-list (x ∷ xs) = ap (λ ns. init_names x ++ ns) (inits_names-list xs)

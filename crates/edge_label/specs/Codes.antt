@@ -18,11 +18,11 @@ use Rattle.csub_objects.specs.Types.{Name, TypeTree, number_type, array_type, st
 use Rattle.csub_objects.specs.Types.{MemberTree, MemberTrees, no_member, more_members}
 use Rattle.csub_semantics.specs.Types.{GlobalTree}
 use Rattle.csub_semantics.specs.Trees.{variable, element_place, member_place, constant, reading, unary_operation, conversion, stepping, operation}
-use Rattle.csub_semantics.specs.Trees.{conjunction, disjunction, choice, assignment, update, input_byte, output_byte, value_argument}
+use Rattle.csub_semantics.specs.Trees.{conjunction, disjunction, choice, assignment, update, input_byte, output_byte, value_argument, array_argument}
 use Rattle.csub_semantics.specs.Trees.{formatted, NamedExprs, no_expr, more_exprs}
 use Rattle.csub_semantics.specs.Trees.{OwnerTree, global_owner, local_owner, Variable, object, temporary, NamedPlace, NamedExpr, NamedArg}
-use Rattle.csub_semantics.specs.Labels.{AnswerTree, CallTree, InitTree, one_value, LabelTree, enters, exits, evaluates, initialises, branches}
-use Rattle.csub_semantics.specs.Labels.{switches, returns, jumps, halts, calls, PointLabel}
+use Rattle.csub_semantics.specs.Labels.{AnswerTree, CallTree, InitTree, one_value, listed, InitTrees, no_init, more_inits}
+use Rattle.csub_semantics.specs.Labels.{LabelTree, enters, exits, evaluates, initialises, branches, switches, returns, jumps, halts, calls, PointLabel}
 
 abbrev pub number_code : ℕ → List ℕ
 number_code n = n ∷ []
@@ -147,6 +147,7 @@ abbrev mutual
 
 abbrev pub arg_code : NamedArg → List ℕ
 arg_code (value_argument e) = 0 ∷ expr_code e
+arg_code (array_argument p) = 1 ∷ place_code p
 
 abbrev pub answer_code : AnswerTree → List ℕ
 answer_code answer = kind_number answer.kind ∷ expr_code answer.value
@@ -156,8 +157,14 @@ call_code call =
     name_code call.callee ++ (list_code member_code call.params ++ (option_code kind_code call.result
     ++ (list_code arg_code call.args ++ option_code number_code call.temp)))
 
-abbrev pub init_code : InitTree → List ℕ
-init_code (one_value e) = 0 ∷ expr_code e
+abbrev mutual
+  pub init_code : InitTree → List ℕ
+  init_code (one_value e) = 0 ∷ expr_code e
+  init_code (listed xs) = 1 ∷ inits_code xs
+
+  pub inits_code : InitTrees → List ℕ
+  inits_code no_init = 0 ∷ []
+  inits_code (more_inits x rest) = 1 ∷ (init_code x ++ inits_code rest)
 
 abbrev pub label_code : LabelTree → List ℕ
 label_code enters = 0 ∷ []

@@ -18,18 +18,20 @@ use Rattle.csub_objects.specs.Types.{Name, TypeTree, number_type, array_type, st
 use Rattle.csub_objects.specs.Types.{MemberTree, MemberTrees, no_member, more_members}
 use Rattle.csub_semantics.specs.Types.{GlobalTree}
 use Rattle.csub_semantics.specs.Trees.{variable, element_place, member_place, constant, reading, unary_operation, conversion, stepping, operation}
-use Rattle.csub_semantics.specs.Trees.{conjunction, disjunction, choice, assignment, update, input_byte, output_byte, value_argument}
+use Rattle.csub_semantics.specs.Trees.{conjunction, disjunction, choice, assignment, update, input_byte, output_byte, value_argument, array_argument}
 use Rattle.csub_semantics.specs.Trees.{formatted, NamedExprs, no_expr, more_exprs}
 use Rattle.csub_semantics.specs.Trees.{OwnerTree, global_owner, local_owner, Variable, object, temporary, NamedPlace, NamedExpr, NamedArg}
-use Rattle.csub_semantics.specs.Labels.{AnswerTree, CallTree, InitTree, one_value, LabelTree, enters, exits, evaluates, initialises, branches}
-use Rattle.csub_semantics.specs.Labels.{switches, returns, jumps, halts, calls, PointLabel}
+use Rattle.csub_semantics.specs.Labels.{AnswerTree, CallTree, InitTree, one_value, listed, InitTrees, no_init, more_inits}
+use Rattle.csub_semantics.specs.Labels.{LabelTree, enters, exits, evaluates, initialises, branches, switches, returns, jumps, halts, calls, PointLabel}
 use Rattle.edge_label.specs.Codes.{number_code, integer_code, name_code, list_code, option_code, kind_number, kind_code, unary_number, step_number}
 use Rattle.edge_label.specs.Codes.{operator_number, piece_code, rule_number, type_code, members_code, member_code, owner_code, variable_code}
-use Rattle.edge_label.specs.Codes.{place_code, expr_code, exprs_code, arg_code, answer_code, call_code, init_code, label_code, global_code, point_code}
+use Rattle.edge_label.specs.Codes.{place_code, expr_code, exprs_code, arg_code, answer_code, call_code, init_code, inits_code, label_code, global_code}
+use Rattle.edge_label.specs.Codes.{point_code}
 use Rattle.edge_label.specs.Readers.{Reader, then, read_number, read_integer, read_name, read_times, read_list, read_option, read_kind, read_unary}
 use Rattle.edge_label.specs.Readers.{read_step, read_operator, piece_of, read_piece, read_rule, read_type_levels, read_members_levels, read_type, read_member}
 use Rattle.edge_label.specs.Readers.{read_owner, read_variable, read_place_levels, read_expr_levels, read_exprs_levels}
-use Rattle.edge_label.specs.Readers.{read_expr, read_arg, read_answer, read_call, read_init, read_tree, read_global, read_label, coded_global, label_of}
+use Rattle.edge_label.specs.Readers.{read_place, read_expr, read_arg, read_answer, read_call, read_init_levels, read_inits_levels, read_init, read_tree}
+use Rattle.edge_label.specs.Readers.{read_global, read_label, coded_global, label_of}
 
 -- what a reader and the one behind it give
 then_back : {A B : Type 0} (read : Reader A) (next : A → Reader B) {codes rest : List ℕ} {x : A} {given : B × List ℕ}
@@ -229,12 +231,17 @@ mutual
       (then_back _ _ (exprs_levels_back rest n s (omega (arith, both))) refl)
   exprs_levels_back es zero s h = absurd (omega arith)
 
+place_back : (p : NamedPlace) (s : List ℕ) → read_place (place_code p ++ s) ≡ (p, s)
+unfolding read_place
+place_back p s = place_levels_back p (length (place_code p ++ s) + 1) s (omega (arith, length-append (place_code p) s))
+
 expr_back : (e : NamedExpr) (s : List ℕ) → read_expr (expr_code e ++ s) ≡ (e, s)
 unfolding read_expr
 expr_back e s = expr_levels_back e (length (expr_code e ++ s) + 1) s (omega (arith, length-append (expr_code e) s))
 
 arg_back : (arg : NamedArg) (s : List ℕ) → read_arg (arg_code arg ++ s) ≡ (arg, s)
 arg_back (value_argument e) s = then_back _ _ (expr_back e s) refl
+arg_back (array_argument p) s = then_back _ _ (place_back p s) refl
 
 answer_back : (answer : AnswerTree) (s : List ℕ) → read_answer (answer_code answer ++ s) ≡ (answer, s)
 answer_back answer s = then_back _ _ (kind_back answer.kind _) (then_back _ _ (expr_back answer.value s) refl)
@@ -250,8 +257,26 @@ call_back call s =
     (then_append _ _ (list_code arg_code call.args) _ s (list_back arg_code read_arg arg_back call.args)
     (then_back _ _ (option_back number_code read_number number_back call.temp s) refl))))
 
+-- no initialiser and no list of them has more levels than its code has numbers
+mutual
+  init_levels_back : (init : InitTree) (n : ℕ) (s : List ℕ) → length (init_code init) < n
+      → read_init_levels n (init_code init ++ s) ≡ (init, s)
+  init_levels_back (one_value e) (suc n) s h = then_back _ _ (expr_back e s) refl
+  init_levels_back (listed xs) (suc n) s h = then_back _ _ (inits_levels_back xs n s (omega arith)) refl
+  init_levels_back init zero s h = absurd (omega arith)
+
+  inits_levels_back : (xs : InitTrees) (n : ℕ) (s : List ℕ) → length (inits_code xs) < n
+      → read_inits_levels n (inits_code xs ++ s) ≡ (xs, s)
+  inits_levels_back no_init (suc n) s h = refl
+  inits_levels_back (more_inits x rest) (suc n) s h =
+      let both = length-append (init_code x) (inits_code rest) in
+      then_append _ _ (init_code x) (inits_code rest) s (λ t. init_levels_back x n t (omega (arith, both)))
+      (then_back _ _ (inits_levels_back rest n s (omega (arith, both))) refl)
+  inits_levels_back xs zero s h = absurd (omega arith)
+
 init_back : (init : InitTree) (s : List ℕ) → read_init (init_code init ++ s) ≡ (init, s)
-init_back (one_value e) s = then_back _ _ (expr_back e s) refl
+unfolding read_init
+init_back init s = init_levels_back init (length (init_code init ++ s) + 1) s (omega (arith, length-append (init_code init) s))
 
 pub tree_back : (tree : LabelTree) (s : List ℕ) → read_tree (label_code tree ++ s) ≡ (tree, s)
 tree_back enters s = refl

@@ -17,11 +17,11 @@ use Rattle.csub_objects.specs.Types.{Name, TypeTree, number_type, array_type, st
 use Rattle.csub_objects.specs.Types.{MemberTree, MemberTrees, no_member, more_members}
 use Rattle.csub_semantics.specs.Types.{GlobalTree}
 use Rattle.csub_semantics.specs.Trees.{variable, element_place, member_place, constant, reading, unary_operation, conversion, stepping, operation}
-use Rattle.csub_semantics.specs.Trees.{conjunction, disjunction, choice, assignment, update, input_byte, output_byte, value_argument}
+use Rattle.csub_semantics.specs.Trees.{conjunction, disjunction, choice, assignment, update, input_byte, output_byte, value_argument, array_argument}
 use Rattle.csub_semantics.specs.Trees.{formatted, NamedExprs, no_expr, more_exprs}
 use Rattle.csub_semantics.specs.Trees.{OwnerTree, global_owner, local_owner, Variable, object, temporary, NamedPlace, NamedExpr, NamedArg}
-use Rattle.csub_semantics.specs.Labels.{AnswerTree, CallTree, InitTree, one_value, LabelTree, enters, exits, evaluates, initialises, branches}
-use Rattle.csub_semantics.specs.Labels.{switches, returns, jumps, halts, calls, PointLabel}
+use Rattle.csub_semantics.specs.Labels.{AnswerTree, CallTree, InitTree, one_value, listed, InitTrees, no_init, more_inits}
+use Rattle.csub_semantics.specs.Labels.{LabelTree, enters, exits, evaluates, initialises, branches, switches, returns, jumps, halts, calls, PointLabel}
 
 -- a reader takes a value off the front of a list, and gives what is left
 abbrev pub Reader : Type 0 → Type 0
@@ -160,12 +160,18 @@ abbrev mutual
       ∷ then (read_expr_levels n) (λ e. then (read_exprs_levels n) (λ rest. just (more_exprs e rest)))
       ∷ []) no_expr
 
--- no expression has more levels than its code has numbers, so one more is enough
+-- no place and no expression has more levels than its code has numbers, so one more is enough
+unfoldable pub read_place : Reader NamedPlace
+read_place codes = read_place_levels (length codes + 1) codes
+
 unfoldable pub read_expr : Reader NamedExpr
 read_expr codes = read_expr_levels (length codes + 1) codes
 
 abbrev pub read_arg : Reader NamedArg
-read_arg = by_number (then read_expr (λ e. just (value_argument e)) ∷ []) (value_argument input_byte)
+read_arg =
+    by_number (then read_expr (λ e. just (value_argument e))
+    ∷ then read_place (λ p. just (array_argument p))
+    ∷ []) (value_argument input_byte)
 
 abbrev pub read_answer : Reader AnswerTree
 read_answer = then read_kind (λ kind. then read_expr (λ value. just (record { kind = kind; value = value })))
@@ -176,8 +182,25 @@ read_call =
     then (read_list read_arg) (λ args. then (read_option read_number) (λ temp.
     just (record { callee = callee; params = params; result = result; args = args; temp = temp }))))))
 
-abbrev pub read_init : Reader InitTree
-read_init = by_number (then read_expr (λ e. just (one_value e)) ∷ []) (one_value input_byte)
+-- an initialiser of at most so many levels, and so a list of them, where those behind the first are a level below
+abbrev mutual
+  pub read_init_levels : ℕ → Reader InitTree
+  read_init_levels zero = just (listed no_init)
+  read_init_levels (suc n) =
+      by_number (then read_expr (λ e. just (one_value e))
+      ∷ then (read_inits_levels n) (λ xs. just (listed xs))
+      ∷ []) (listed no_init)
+
+  pub read_inits_levels : ℕ → Reader InitTrees
+  read_inits_levels zero = just no_init
+  read_inits_levels (suc n) =
+      by_number (just no_init
+      ∷ then (read_init_levels n) (λ x. then (read_inits_levels n) (λ rest. just (more_inits x rest)))
+      ∷ []) no_init
+
+-- no initialiser has more levels than its code has numbers, so one more is enough
+unfoldable pub read_init : Reader InitTree
+read_init codes = read_init_levels (length codes + 1) codes
 
 abbrev pub read_tree : Reader LabelTree
 read_tree =

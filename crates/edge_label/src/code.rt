@@ -4,8 +4,8 @@ ghost use Rattle.csub_objects.specs.Types.{members_of};
 ghost use Rattle.csub_objects.specs.Meaning.{type_tree, member_tree};
 ghost use Rattle.csub_semantics.specs.Types.{global_tree};
 ghost use Rattle.csub_semantics.specs.Trees.{constant, reading, stepping, variable, object, temporary, owner_tree, place_tree, expr_tree, formatted, exprs_of, arg_tree};
-ghost use Rattle.csub_semantics.specs.Labels.{answer_tree, call_tree, init_tree, label_tree};
-ghost use Rattle.edge_label.specs.Codes.{integer_code, name_code, list_code, option_code, number_code, kind_code, kind_number, unary_number, step_number, operator_number, piece_number, piece_code, rule_number, type_code, members_code, member_code, owner_code, place_code, expr_code, exprs_code, arg_code, answer_code, call_code, init_code, label_code, global_code};
+ghost use Rattle.csub_semantics.specs.Labels.{answer_tree, call_tree, init_tree, inits_of, label_tree};
+ghost use Rattle.edge_label.specs.Codes.{integer_code, name_code, list_code, option_code, number_code, kind_code, kind_number, unary_number, step_number, operator_number, piece_number, piece_code, rule_number, type_code, members_code, member_code, owner_code, place_code, expr_code, exprs_code, arg_code, answer_code, call_code, init_code, inits_code, label_code, global_code};
 
 use csub_semantics::{
     Answer, BinOp, CType, CallLabel, EndRule, GlobalVar, IntKind, Label, Member, Owner, Piece,
@@ -65,11 +65,29 @@ fn push_integers(out: &mut Vec<u64>, values: &[i64]) -> Result<(), AllocError>
     Ok(())
 }
 
+#[cycle(initialisers)]
 fn push_init(out: &mut Vec<u64>, init: &RInit) -> Result<(), AllocError>
     ensures { OnOk result (out.new.items ≡ out.old.items ++ init_code (init_tree init.now)) }
 {
-    let RInit::One(value) = init;
-    push_behind(out, 0, value)
+    match init {
+        RInit::One(value) => push_behind(out, 0, value),
+        RInit::List(entries) => {
+            out.push(1)?;
+            push_inits(out, entries)
+        }
+    }
+}
+
+/// Appends the code of a list of initialisers.
+#[cycle(initialisers)]
+fn push_inits(out: &mut Vec<u64>, entries: &[RInit]) -> Result<(), AllocError>
+    ensures { OnOk result (out.new.items ≡ out.old.items ++ inits_code (inits_of (map init_tree entries.now))) }
+{
+    for entry in entries {
+        out.push(1)?;
+        push_init(out, entry)?;
+    }
+    Ok(out.push(0)?)
 }
 
 fn push_answer(out: &mut Vec<u64>, answer: &Option<Answer>) -> Result<(), AllocError>
@@ -192,10 +210,8 @@ fn push_arg(out: &mut Vec<u64>, arg: &RArg) -> Result<(), AllocError>
     ensures { OnOk result (out.new.items ≡ out.old.items ++ arg_code (arg_tree arg.now)) }
 {
     match arg {
-        RArg::Value(expr) => {
-            out.push(0)?;
-            push_expr(out, expr)
-        }
+        RArg::Value(expr) => push_behind(out, 0, expr),
+        RArg::Array(place) => push_place_behind(out, 1, place),
     }
 }
 

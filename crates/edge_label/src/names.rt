@@ -53,11 +53,24 @@ fn add_label<'a>(set: &mut NameSet<'a>, label: &'a Label) -> Result<(), AllocErr
     }
 }
 
+#[cycle(initialisers)]
 fn add_init<'a>(set: &mut NameSet<'a>, init: &'a RInit) -> Result<(), AllocError>
     ensures { OnOk result (set.new ≡ ordered set.old (init_names (init_tree init.now))) }
 {
-    let RInit::One(value) = init;
-    add_expr(set, value)
+    match init {
+        RInit::One(value) => add_expr(set, value),
+        RInit::List(entries) => add_inits(set, entries),
+    }
+}
+
+#[cycle(initialisers)]
+fn add_inits<'a>(set: &mut NameSet<'a>, entries: &'a [RInit]) -> Result<(), AllocError>
+    ensures { OnOk result (set.new ≡ ordered set.old (flat_map init_names (map init_tree entries.now))) }
+{
+    for entry in entries {
+        add_init(set, entry)?;
+    }
+    Ok(())
 }
 
 #[tactic(auto, using(crate::proofs::NameLemmas::ordered_append))]
@@ -73,8 +86,10 @@ fn add_args<'a>(set: &mut NameSet<'a>, args: &'a [RArg]) -> Result<(), AllocErro
 fn add_arg<'a>(set: &mut NameSet<'a>, arg: &'a RArg) -> Result<(), AllocError>
     ensures { OnOk result (set.new ≡ ordered set.old (arg_names (arg_tree arg.now))) }
 {
-    let RArg::Value(expr) = arg;
-    add_expr(set, expr)
+    match arg {
+        RArg::Value(expr) => add_expr(set, expr),
+        RArg::Array(place) => add_place(set, place),
+    }
 }
 
 #[cycle(expressions)]

@@ -1,6 +1,7 @@
 -- A graph may cross threads, and so may its parts: one lemma a layer, since a search through all layers runs out of steps.
 use denote.Param.Send.{IsSend, IsSync, sendable}
 use Rattle.std.proofs.Crossing.{crosses}
+use Rattle.std.proofs.MapsCrossing.{crosses as maps}
 use Rattle.csub_semantics.proofs.LawsThreads.{Label-send, Label-sync, GlobalVar-send, GlobalVar-sync}
 use Rattle.flow_graph.specs.contracts.graph.Graph as Graph
 use Rattle.flow_graph.specs.contracts.node.GraphFunction as GraphFunction
@@ -33,7 +34,7 @@ pub GraphFunction-sync : IsSync GraphFunction.the_field.row
 GraphFunction-sync = search (crosses, sendable) depth 60
 
 pub Graph-send : IsSend Graph.the_row
-Graph-send = search (GraphPoint-send, GraphFunction-send, GlobalVar-send, crosses, sendable) depth 60
+Graph-send = search (GraphPoint-send, GraphFunction-send, GlobalVar-send, maps, crosses, sendable) depth 60
 
 pub Graph-sync : IsSync Graph.the_row
-Graph-sync = search (GraphPoint-sync, GraphFunction-sync, GlobalVar-sync, crosses, sendable) depth 60
+Graph-sync = search (GraphPoint-sync, GraphFunction-sync, GlobalVar-sync, maps, crosses, sendable) depth 60

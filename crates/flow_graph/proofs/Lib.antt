@@ -5,6 +5,7 @@ mod Rows
 mod Emitted
 mod Lengths
 mod Table
+mod CasePlaces
 mod Listed
 mod Numbering
 mod Distinct

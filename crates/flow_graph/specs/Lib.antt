@@ -1,3 +1,4 @@
 pub mod Numbers
 pub mod Jumps
+pub mod Cases
 pub mod Graph

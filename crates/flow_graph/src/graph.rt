@@ -12,12 +12,14 @@ ghost use Rattle.csub_semantics.specs.Numbers.{Site, site, site_at, edge_at as e
 ghost use Rattle.flow_graph.specs.Graph.{IsGraphOf, point_count, edge_count, function_count};
 
 use crate::build::{Listed, copy_globals, list_points};
+use crate::case_table::list_cases;
 use crate::edges::{EdgeNumbers, number_edges};
 use crate::node::{GraphFunction, GraphPoint};
-use crate::search::{find_function, find_way};
+use crate::search::{find_exit, find_function};
 use csub_core::Program;
 use csub_semantics::{ExitLabel, GlobalVar, Label, Point, Span, Text};
 use std::alloc::{AllocError, Global};
+use std::collections::BTreeMap;
 use std::marker::Model;
 
 /// The graph of a program: its points and edges, numbered from 0, and its objects of file scope. Points are numbered function by function, and in a
@@ -29,6 +31,7 @@ pub struct Graph {
     points: Vec<GraphPoint>,
     firsts: Vec<u32>,
     sources: Vec<u32>,
+    cases: BTreeMap<(u32, i64), u32>,
     globals: Vec<GlobalVar>,
 }
 
@@ -36,16 +39,19 @@ impl Model for Graph {
     ghost use Rattle.std.specs.Prelude.{◌≡◌};
     ghost use Rattle.std.specs.Coded.{codes};
     ghost use Rattle.csub_objects.specs.Codes.{type_code, members_code};
+    ghost use Rattle.csub_semantics.specs.contracts.expression.Place as place;
     ghost use Rattle.csub_semantics.specs.contracts.expression.RExpr as expr;
+    ghost use Rattle.csub_semantics.specs.contracts.label.RInit as init;
+    ghost use Rattle.flow_graph.specs.Cases.{AreEntered};
     ghost use Rattle.flow_graph.specs.Graph.{Tables, IsClosed, firsts_of, sources_of};
 
     ghost Value = { Tables };
 
-    ghost coded = { Prim.hlevel (codes, type_code, members_code, expr.the_row.coded) };
+    ghost coded = { Prim.hlevel (codes, type_code, members_code, place.the_row.coded, expr.the_row.coded, init.the_row.coded) };
 
     ghost view = { λ g. (g.functions.items, g.points.items, g.globals.items) };
 
-    ghost invariant = { λ g. IsClosed (g.functions.items, g.points.items, g.globals.items) × (g.firsts.items ≡ firsts_of g.points.items 0) × (g.sources.items ≡ sources_of g.points.items 0) };
+    ghost invariant = { λ g. IsClosed (g.functions.items, g.points.items, g.globals.items) × (g.firsts.items ≡ firsts_of g.points.items 0) × (g.sources.items ≡ sources_of g.points.items 0) × AreEntered g.points.items g.cases };
 }
 
 /// An edge: its source point, its exit label and the point to which it leads.
@@ -61,18 +67,20 @@ pub struct EdgeEnds<'a> {
 
 impl Graph {
     /// The graph of a program. An `Err` is want of memory. The work is in proportion to the labels, and to the
-    /// statements and the points, each times the length of its path.
+    /// statements and the points, each times the length of its path; and the cases are put into an ordered map.
     pub fn build(alloc: Global, program: &Program) -> Result<Graph, AllocError>
         ensures { IfOk result (λ graph. IsGraphOf graph (program_tree program.now)) }
     {
         let Listed { functions, points } = list_points(alloc, program.functions())?;
         let EdgeNumbers { firsts, sources } = number_edges(alloc, points.as_slice())?;
+        let cases = list_cases(alloc, points.as_slice())?;
         let globals = copy_globals(alloc, program.globals())?;
         Ok(Graph {
             functions,
             points,
             firsts,
             sources,
+            cases,
             globals,
         })
     }
@@ -171,27 +179,29 @@ impl Graph {
         }
     }
 
-    /// The point to which a way out of a point leads; `None` exactly where the point has no such exit label.
+    /// The point to which a way out of a point leads; `None` exactly where the point has no such exit label. A case is
+    /// found by a logarithm of the cases of the program.
     pub fn follow(&self, point: u32, exit: &ExitLabel) -> Option<u32>
         requires { point < point_count self.now }
         ensures leads { (P : ProgramTree) (s : Site) → IsGraphOf self.now P → site_at P point ≡ Some s → option_and_then (site_at P) result ≡ option_map (site s.function) ((flow_of P).succ s.function s.point (exit_tree exit.now)) }
         ensures within { IfSome result (λ q. q < point_count self.now) }
     {
         let ways = self.points[point as usize].node.ways.as_slice();
-        match find_way(ways, exit) {
+        match find_exit(ways, &self.cases, point, exit) {
             Some(way) => Some(ways[way].to),
             None => None,
         }
     }
 
-    /// The number of the edge that leaves a point by an exit label; `None` exactly where the point has no such label.
+    /// The number of the edge that leaves a point by an exit label; `None` exactly where the point has no such label. It
+    /// takes what [`Graph::follow`] takes.
     pub fn edge_number(&self, point: u32, exit: &ExitLabel) -> Option<u32>
         requires { point < point_count self.now }
         ensures number { (P : ProgramTree) (s : Site) → IsGraphOf self.now P → site_at P point ≡ Some s → option_and_then (edge_at' P) result ≡ option_map (λ q. record { function = s.function; from = s.point; exit = exit_tree exit.now }) ((flow_of P).succ s.function s.point (exit_tree exit.now)) }
         ensures within { IfSome result (λ e. e < edge_count self.now) }
     {
         let ways = self.points[point as usize].node.ways.as_slice();
-        match find_way(ways, exit) {
+        match find_exit(ways, &self.cases, point, exit) {
             Some(way) => Some(self.firsts[point as usize] + way as u32),
             None => None,
         }

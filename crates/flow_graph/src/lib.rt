@@ -11,6 +11,7 @@
 
 mod begin;
 mod build;
+mod case_table;
 mod cases;
 mod count;
 mod edges;

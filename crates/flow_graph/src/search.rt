@@ -5,9 +5,12 @@ ghost use Rattle.std.specs.Ordering.{int_eq};
 ghost use Rattle.std.specs.Cmp.Lexicographic.{pointwise};
 ghost use Rattle.csub_semantics.specs.Points.{exit_tree, exit_eq};
 ghost use Rattle.csub_semantics.specs.Types.{name_eq};
+ghost use Rattle.flow_graph.specs.Cases.{place_in, ArePlaces};
 
+use crate::case_table::find_case;
 use crate::node::{GraphFunction, GraphWay};
 use csub_semantics::{ExitLabel, Text};
+use std::collections::BTreeMap;
 
 /// Whether two exit labels are equal.
 fn same_exit(a: &ExitLabel, b: &ExitLabel) -> bool
@@ -28,9 +31,8 @@ fn same_exit(a: &ExitLabel, b: &ExitLabel) -> bool
     }
 }
 
-/// The place of the first way out with this exit label. A point has one or two ways out, a switch one for each case:
-/// there a table would be in place.
-pub fn find_way(ways: &[GraphWay], exit: &ExitLabel) -> Option<usize>
+/// The place of the first way out with this exit label, looked for one by one.
+fn find_way(ways: &[GraphWay], exit: &ExitLabel) -> Option<usize>
     ensures found { option_and_then (slice_get ways.now) result ≡ find (λ w. exit_eq (exit_tree w.exit) (exit_tree exit.now)) ways.now }
     ensures within { IfSome result (λ i. i < length ways.now) }
 {
@@ -40,6 +42,25 @@ pub fn find_way(ways: &[GraphWay], exit: &ExitLabel) -> Option<usize>
         }
     }
     None
+}
+
+/// The place of the first way out of the point with a number that has this exit label. A case is found in the table of
+/// cases, by a logarithm of the cases of the program; any other label is looked for one by one, and a point without
+/// cases has at most two ways out.
+pub fn find_exit(
+    ways: &[GraphWay],
+    cases: &BTreeMap<(u32, i64), u32>,
+    point: u32,
+    exit: &ExitLabel,
+) -> Option<usize>
+    requires { ArePlaces ways.now (place_in cases.now point) }
+    ensures found { option_and_then (slice_get ways.now) result ≡ find (λ w. exit_eq (exit_tree w.exit) (exit_tree exit.now)) ways.now }
+    ensures within { IfSome result (λ i. i < length ways.now) }
+{
+    match exit {
+        ExitLabel::Case(value) => find_case(cases, point, *value),
+        _ => find_way(ways, exit),
+    }
 }
 
 /// The place of the first function with this name.

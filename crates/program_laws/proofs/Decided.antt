@@ -17,8 +17,8 @@ use Rattle.csub_semantics.specs.declared.label.EndRule.TheVariants.{Nothing, Val
 use Rattle.csub_objects.specs.Types.{Name, TypeTree, type_eq, MemberTree}
 use Rattle.csub_objects.proofs.LawsTypes.{type_eq-Decides}
 use Rattle.csub_semantics.specs.Types.{GlobalTree}
-use Rattle.csub_semantics.specs.Trees.{NamedPlace, NamedExpr, NamedArg, variable, element_place, member_place, constant, reading, unary_operation, conversion, stepping, operation, conjunction, disjunction, choice, assignment, update, input_byte, output_byte, formatted, NamedExprs, no_expr, more_exprs, value_argument, OwnerTree, global_owner, local_owner, Variable, object, temporary}
-use Rattle.csub_semantics.specs.Labels.{LabelTree, enters, exits, evaluates, initialises, branches, switches, returns, jumps, halts, calls, AnswerTree, CallTree, InitTree, one_value, PointLabel}
+use Rattle.csub_semantics.specs.Trees.{NamedPlace, NamedExpr, NamedArg, variable, element_place, member_place, constant, reading, unary_operation, conversion, stepping, operation, conjunction, disjunction, choice, assignment, update, input_byte, output_byte, formatted, NamedExprs, no_expr, more_exprs, value_argument, array_argument, OwnerTree, global_owner, local_owner, Variable, object, temporary}
+use Rattle.csub_semantics.specs.Labels.{LabelTree, enters, exits, evaluates, initialises, branches, switches, returns, jumps, halts, calls, AnswerTree, CallTree, InitTree, one_value, listed, InitTrees, no_init, more_inits, PointLabel}
 use Rattle.program_laws.specs.Decided.{Decided}
 
 -- what is built of one part, two or more is equal where all the parts are
@@ -217,6 +217,9 @@ mutual
 
 arguments : (a b : NamedArg) → Decided a b
 arguments (value_argument a) (value_argument b) = one value_argument a b (λ e. cc) (exprs a b)
+arguments (value_argument a) _ = inr (λ e. cc)
+arguments (array_argument p) (array_argument q) = one array_argument p q (λ e. cc) (places p q)
+arguments (array_argument p) _ = inr (λ e. cc)
 
 members : (a b : MemberTree) → Decided a b
 members a b = two (λ n t. record { name = n; ctype = t }) a.name b.name a.ctype b.ctype (λ e. (ap (λ (m : MemberTree). m.name) e, ap (λ (m : MemberTree). m.ctype) e)) (names a.name b.name) (types a.ctype b.ctype)
@@ -235,8 +238,18 @@ call_trees a b = join (names a.callee b.callee) (lists members a.params b.params
     join (inl c) (inl p) (inl r) (inr n) t = inr (λ e. n (ap (λ (c : CallTree). c.args) e))
     join (inl c) (inl p) (inl r) (inl x) (inr n) = inr (λ e. n (ap (λ (c : CallTree). c.temp) e))
 
-inits : (a b : InitTree) → Decided a b
-inits (one_value a) (one_value b) = one one_value a b (λ e. cc) (exprs a b)
+mutual
+  inits : (a b : InitTree) → Decided a b
+  inits (one_value a) (one_value b) = one one_value a b (λ e. cc) (exprs a b)
+  inits (one_value a) _ = inr (λ e. cc)
+  inits (listed xs) (listed ys) = one listed xs ys (λ e. cc) (init_rows xs ys)
+  inits (listed xs) _ = inr (λ e. cc)
+
+  init_rows : (xs ys : InitTrees) → Decided xs ys
+  init_rows no_init no_init = inl refl
+  init_rows no_init _ = inr (λ e. cc)
+  init_rows (more_inits a xs) (more_inits b ys) = two more_inits a b xs ys (λ e. (cc, cc)) (inits a b) (init_rows xs ys)
+  init_rows (more_inits a xs) _ = inr (λ e. cc)
 
 pub labels_alike : (a b : LabelTree) → Decided a b
 labels_alike enters enters = inl refl

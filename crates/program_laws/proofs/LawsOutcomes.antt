@@ -7,12 +7,13 @@ use Rattle.csub_types.specs.declared.kind.IntKind.TheVariants.{Int}
 use Rattle.csub_semantics.specs.declared.status.Status.{Status}
 use Rattle.csub_semantics.specs.declared.status.Status.TheVariants.{Exit, Trap}
 use Rattle.csub_objects.specs.Types.{Name}
-use Rattle.csub_semantics.specs.Trees.{NamedExpr, reading, assignment, variable, object, temporary}
-use Rattle.csub_semantics.specs.Labels.{LabelTree, enters, exits, evaluates, initialises, branches, switches, returns, jumps, halts, calls, one_value, CallTree, call_of}
+use Rattle.csub_semantics.specs.Trees.{NamedExpr, reading, variable, temporary}
+use Rattle.csub_semantics.specs.Labels.{LabelTree, enters, exits, evaluates, initialises, branches, switches, returns, jumps, halts, calls, CallTree, call_of}
 use Rattle.csub_semantics.specs.Points.{ExitTree, on_true, on_false}
 use Rattle.csub_semantics.specs.Memory.{Answer, value, trapped, low_byte}
 use Rattle.csub_semantics.specs.Evaluation.{eval}
 use Rattle.csub_semantics.specs.Cells.{named, entered}
+use Rattle.csub_semantics.specs.Initialising.{initialise, object_spot}
 use Rattle.csub_semantics.specs.Acts.{Store, Outcome, leaves, gives, pushes, pops, ends, after_value, argument_contents, most_frames, act_exit, act}
 use Rattle.program_laws.specs.Outcomes.{Ends, LeavesBy, Gives, Pushes, Pops, IsNext, IsOfTest, Fits}
 
@@ -42,8 +43,8 @@ pub fits : (l : LabelTree) (n : ℕ) (r : Option ℤ) (s : Store) → Fits l (ac
 fits enters n r s = refl
 fits (exits rule) n r s = fits_end rule n r s
 fits (evaluates e) n r s = fits_after (LeavesBy IsNext) (eval (named (n - 1)) e s) _ (λ v t. refl) (λ t u. tt)
-fits (initialises owner t (one_value e)) n r s =
-    fits_after (LeavesBy IsNext) (eval (named (n - 1)) (assignment (variable (object owner t)) e) s) _ (λ v u. refl) (λ t u. tt)
+fits (initialises owner t init) n r s =
+    fits_after (LeavesBy IsNext) (initialise (n - 1) init t (object_spot (n - 1) owner t) s) _ (λ v u. refl) (λ t u. tt)
 fits (branches e) n r s = fits_after (LeavesBy IsOfTest) (eval (named (n - 1)) e s) _ (λ v t. of_test (int_eq v (pos 0))) (λ t u. tt)
 fits (switches e) n r s = fits_after Gives (eval (named (n - 1)) e s) gives (λ v t. tt) (λ t u. tt)
 fits (returns None) n r s = refl

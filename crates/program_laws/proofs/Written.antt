@@ -19,15 +19,16 @@ use Rattle.csub_semantics.specs.declared.expression.Piece.TheVariants.{Byte, Sig
 use Rattle.csub_semantics.specs.declared.label.EndRule.{EndRule}
 use Rattle.csub_semantics.specs.declared.label.EndRule.TheVariants.{Nothing, Value, Main, Start}
 use Rattle.csub_semantics.specs.declared.status.Status.TheVariants.{Trap, Turns}
-use Rattle.csub_objects.specs.Types.{Name, MemberTree}
-use Rattle.csub_semantics.specs.Trees.{NamedPlace, NamedExpr, NamedArg, constant, reading, variable, element_place, member_place, object, temporary, unary_operation, conversion, stepping, operation, conjunction, disjunction, choice, assignment, update, input_byte, output_byte, formatted, NamedExprs, no_expr, more_exprs, value_argument}
-use Rattle.csub_semantics.specs.Labels.{LabelTree, enters, exits, evaluates, initialises, branches, switches, returns, jumps, halts, calls, one_value, CallTree, call_of, PointLabel}
+use Rattle.csub_objects.specs.Types.{Name, TypeTree, number_type, array_type, struct_type, loose_type, MemberTree, MemberTrees, no_member, more_members}
+use Rattle.csub_semantics.specs.Trees.{NamedPlace, NamedExpr, NamedArg, constant, reading, variable, element_place, member_place, temporary, unary_operation, conversion, stepping, operation, conjunction, disjunction, choice, assignment, update, input_byte, output_byte, formatted, NamedExprs, no_expr, more_exprs, value_argument, array_argument}
+use Rattle.csub_semantics.specs.Labels.{LabelTree, enters, exits, evaluates, initialises, branches, switches, returns, jumps, halts, calls, InitTree, one_value, listed, InitTrees, no_init, more_inits, CallTree, call_of, PointLabel}
 use Rattle.csub_semantics.specs.Points.{PointTree, ExitTree, next}
 use Rattle.csub_semantics.specs.Flows.{Flow, Edge}
 use Rattle.csub_semantics.specs.Memory.{Answer, value, trapped, then_do, given, found, get_byte, put_byte, put_bytes, low_byte, most_output}
 use Rattle.csub_semantics.specs.Formats.{text_of}
 use Rattle.csub_semantics.specs.Evaluation.{computed, fetch, step_by, step_value, is_index, indexed, locate, store, step, eval, eval_all}
-use Rattle.csub_semantics.specs.Cells.{Spot, named, entered}
+use Rattle.csub_semantics.specs.Cells.{Spot, element_spot, member_spot, named, entered}
+use Rattle.csub_semantics.specs.Initialising.{initialise, initialise_elements, initialise_members, object_spot}
 use Rattle.csub_semantics.specs.Acts.{Store, Outcome, leaves, gives, pushes, pops, ends, after_value, argument_content, argument_contents, most_frames, act_exit, act}
 use Rattle.csub_semantics.specs.Runs.{Frame, Turn, goes, stops, lost, cross, put_result, come_back, come_back_to, pop, follow, turn_at, turn_of, turn, Moment, running, ended, nowhere, after_turn, go_on, after, results_at, Results}
 use Rattle.program_laws.specs.Bounds.{IsExitStatus, IsBounded, RunsAreBounded}
@@ -179,6 +180,26 @@ mutual
       short_then (eval (named h) e s) _ (short_eval h e s short)
       (λ v t below. short_then (eval_all (named h) rest t) _ (short_all h rest t below) (λ vs u under. under))
 
+mutual
+  short_initialise : (h : ℕ) (init : InitTree) (t : TypeTree) (l : Spot) (s : Store) → IsShort s → LeavesShort (initialise h init t l s)
+  short_initialise h (one_value e) t l s short =
+      short_then (eval (named h) e s) _ (short_eval h e s short) (short_store h l)
+  short_initialise h (listed xs) (number_type k) l s short = short
+  short_initialise h (listed xs) (array_type t n) l s short = short_elements h xs t n 0 l s short
+  short_initialise h (listed xs) (struct_type tag ms) l s short = short_members h xs ms l s short
+  short_initialise h (listed xs) (loose_type t) l s short = short
+
+  short_elements : (h : ℕ) (xs : InitTrees) (t : TypeTree) (n i : ℕ) (l : Spot) (s : Store) → IsShort s → LeavesShort (initialise_elements h xs t n i l s)
+  short_elements h no_init t n i l s short = short
+  short_elements h (more_inits x rest) t n i l s short =
+      short_then (initialise h x t (element_spot l i) s) _ (short_initialise h x t (element_spot l i) s short) (λ v u below. short_elements h rest t n (i + 1) l u below)
+
+  short_members : (h : ℕ) (xs : InitTrees) (ms : MemberTrees) (l : Spot) (s : Store) → IsShort s → LeavesShort (initialise_members h xs ms l s)
+  short_members h no_init ms l s short = short
+  short_members h (more_inits x rest) no_member l s short = short
+  short_members h (more_inits x rest) (more_members a t ms) l s short =
+      short_then (initialise h x t (member_spot l a) s) _ (short_initialise h x t (member_spot l a) s short) (λ v u below. short_members h rest ms l u below)
+
 -- what an act leaves; a run ends with a status that is a byte
 abbrev EndsShort : Outcome → Type 0
 EndsShort (leaves x r s) = IsShort s
@@ -193,6 +214,7 @@ short_after (trapped t s) go short each = (short, tt)
 
 short_argument : (h : ℕ) (p : MemberTree) (a : NamedArg) (s : Store) → IsShort s → LeavesShort (argument_content h p a s)
 short_argument h p (value_argument e) s short = short_then (eval (named h) e s) _ (short_eval h e s short) (λ v t below. below)
+short_argument h p (array_argument a) s short = short_then (locate (named h) a s) _ (short_locate h a s short) (λ l t below. below)
 
 short_arguments : (h : ℕ) (params : List MemberTree) (args : List NamedArg) (s : Store) → IsShort s → LeavesShort (argument_contents h params args s)
 short_arguments h [] args s short = short
@@ -218,8 +240,8 @@ short_act : (l : LabelTree) (n : ℕ) (r : Option ℤ) (s : Store) → IsShort s
 short_act enters n r s short = short
 short_act (exits rule) n r s short = short_exit rule n r s short
 short_act (evaluates e) n r s short = short_after (eval (named (n - 1)) e s) _ (short_eval (n - 1) e s short) (λ v t below. below)
-short_act (initialises owner t (one_value e)) n r s short =
-    short_after (eval (named (n - 1)) (assignment (variable (object owner t)) e) s) _ (short_eval (n - 1) (assignment (variable (object owner t)) e) s short) (λ v u below. below)
+short_act (initialises owner t init) n r s short =
+    short_after (initialise (n - 1) init t (object_spot (n - 1) owner t) s) _ (short_initialise (n - 1) init t (object_spot (n - 1) owner t) s short) (λ v u below. below)
 short_act (branches e) n r s short = short_after (eval (named (n - 1)) e s) _ (short_eval (n - 1) e s short) (λ v t below. below)
 short_act (switches e) n r s short = short_after (eval (named (n - 1)) e s) gives (short_eval (n - 1) e s short) (λ v t below. below)
 short_act (returns None) n r s short = short

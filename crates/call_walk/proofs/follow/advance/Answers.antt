@@ -7,7 +7,7 @@ pub successors-requires : goal.successors-requires
 successors-requires g c =
     let at = contained c.args.pairs.now.facts.items c.args.from c.requires.among in
     let w = c.requires.moment.within at.0 c.args.from at.1 in
-    record { labels = c.requires.labels; old = w.old; new = w.new }
+    record { labels = c.requires.labels; new = w.new; to = c.requires.to; leads = c.requires.leads }
 
 pub returns-in_default-clause-held : goal.returns-in_default-clause-held
 returns-in_default-clause-held g c P P' ok ok' f p p' q q' at both = absurd (c.in_default.ensures.together P P' f p p' ok ok' at q q' both)

@@ -1,11 +1,25 @@
-use Rattle.std.proofs.Common.{sym, ◌∙◌, subst}
+use Rattle.std.proofs.Common.{◌≡◌, Some, sym, ap, ◌∙◌, subst}
 use Rattle.std.proofs.lemmas.Option.{same_Some}
 use Rattle.csub_semantics.specs.Points.{next}
+use Rattle.csub_semantics.specs.Flows.{flow_of}
+use Rattle.csub_semantics.specs.Numbers.{site, site_at}
 use Rattle.call_walk.specs.declared.fact.Fact.{Fact}
 use Rattle.call_walk.specs.Moments.{HoldsNext}
+use Rattle.call_walk.proofs.Asked.{leads_none}
 use Rattle.call_walk.proofs.Indexed.{read_at}
 use Rattle.call_walk.proofs.Explaining.{over_explained, on_ok}
 use Rattle.call_walk.proofs.follow.pass_over.Goals as goal
+
+pub follow-requires : goal.follow-requires
+follow-requires g c =
+    let stands = read_at c.args.pairs.now.facts.items c.args.at c.index-from.result.now c.requires.at c.index-from.ensures in
+    (c.requires.moment.within c.args.at c.index-from.result.now stands).old
+
+pub returns-in_default-clause-held : goal.returns-in_default-clause-held
+returns-in_default-clause-held g c P P' d ok ok' e f p p' q q' at both =
+    let stands = read_at c.args.pairs.now.facts.items c.args.at c.index-from.result.now c.requires.at c.index-from.ensures in
+    let old : site_at P c.index-from.result.now.old ≡ Some (site f p) = ap (λ (b : Fact). site_at P b.old) (same_Some c.index-from.result.now d (sym stands ∙ e)) ∙ at.old in
+    absurd (leads_none P f ((flow_of P).succ f p next) (c.in_default.ensures.leads P (site f p) ok old) q both.old)
 
 pub advance-requires-clause-why : goal.advance-requires-clause-why
 advance-requires-clause-why g c P P' ok ok' f p p' at pair t =

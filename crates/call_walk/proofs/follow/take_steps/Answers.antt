@@ -10,26 +10,33 @@ use Rattle.call_walk.specs.Walks.{LeavesFrom}
 use Rattle.call_walk.specs.Moments.{HoldsNext}
 use Rattle.call_walk.proofs.Indexed.{in_row, get_extends, extends_more}
 use Rattle.call_walk.proofs.Numbered.{edge_of, site_below}
+use Rattle.call_walk.proofs.Asked.{leads_along}
 use Rattle.call_walk.proofs.Explaining.{step_explained, contains_at}
 use Rattle.call_walk.proofs.Following.{holds_extends, moment_named}
 use Rattle.call_walk.proofs.follow.take_steps.Goals as goal
 
-pub edge_at-requires : goal.edge_at-requires
-edge_at-requires g c =
+pub edge_at-to-requires : goal.edge_at-to-requires
+edge_at-to-requires g c =
     c.requires.ways.below c.args.from.old (get_or c.row-edge-items.result.now c.loop-edge.edge-index 0)
     (record { row = c.row-edge-items.result.now; stands = c.row-edge-items.ensures; place = c.loop-edge.edge-index; is = slice_get-get_or c.row-edge-items.result.now c.loop-edge.edge-index 0 c.loop-edge-test.true })
 
 pub advance-requires-clause-among : goal.advance-requires-clause-among
 advance-requires-clause-among g c = contains_at c.loop-edge.pairs.facts.items c.args.at c.args.from (get_extends c.loop-edge.invariant.grows c.args.at c.args.from c.requires.stands)
 
+pub advance-requires-clause-leads : goal.advance-requires-clause-leads
+advance-requires-clause-leads g c P s ok at =
+    let e = get_or c.row-edge-items.result.now c.loop-edge.edge-index 0 in
+    let leaves = c.requires.ways.sound P ok c.args.from.old e (record { row = c.row-edge-items.result.now; stands = c.row-edge-items.ensures; place = c.loop-edge.edge-index; is = slice_get-get_or c.row-edge-items.result.now c.loop-edge.edge-index 0 c.loop-edge-test.true }) in
+    leads_along P e c.args.from.old c.edge_at-to.result.to (exit_tree c.edge_at-to.result.exit.now) s leaves (c.edge_at-to.ensures.exit P leaves.edge ok leaves.numbered) (c.edge_at-to.ensures.to P leaves.edge ok leaves.numbered) at
+
 pub advance-requires-clause-why : goal.advance-requires-clause-why
 advance-requires-clause-why g c P P' ok ok' f p p' at pair t =
     let e = get_or c.row-edge-items.result.now c.loop-edge.edge-index 0 in
     let leaves = c.requires.ways.sound P ok c.args.from.old e (record { row = c.row-edge-items.result.now; stands = c.row-edge-items.ensures; place = c.loop-edge.edge-index; is = slice_get-get_or c.row-edge-items.result.now c.loop-edge.edge-index 0 c.loop-edge-test.true }) in
     let stands = get_extends c.loop-edge.invariant.grows c.args.at c.args.from c.requires.stands in
-    step_explained P P' c.loop-edge.pairs.facts.items c.args.at e c.args.from f p p' (exit_tree c.edge_at.result.exit.now) pair stands
+    step_explained P P' c.loop-edge.pairs.facts.items c.args.at e c.args.from f p p' (exit_tree c.edge_at-to.result.exit.now) pair stands
     (moment_named c.args.both.now.old.now c.args.both.now.new.now c.loop-edge.pairs c.loop-edge.invariant.moment P P' ok ok' c.args.at c.args.from stands)
-    at (c.requires.plain P P' f p p' ok ok' at) leaves (c.edge_at.ensures.exit P leaves.edge ok leaves.numbered) t
+    at (c.requires.plain P P' f p p' ok ok' at) leaves (c.edge_at-to.ensures.exit P leaves.edge ok leaves.numbered) t
 
 pub loop-edge-preserved : goal.loop-edge-preserved
 loop-edge-preserved g c = record {
@@ -43,7 +50,7 @@ loop-edge-preserved g c = record {
     held_case P P' ok ok' k e l get s (inr h) =
         let same : k ≡ c.loop-edge.edge-index = omega arith in
         let is : get_or c.row-edge-items.result.now c.loop-edge.edge-index 0 ≡ e = get_or_from_slice_get c.row-edge-items.result.now c.loop-edge.edge-index e 0 (subst (λ n. slice_get c.row-edge-items.result.now n ≡ Some e) same get) in
-        let exits = c.edge_at.ensures.exit P s.edge ok (ap (edge_at P) is ∙ s.numbered) in
+        let exits = c.edge_at-to.ensures.exit P s.edge ok (ap (edge_at P) is ∙ s.numbered) in
         subst (λ x. HoldsNext P P' c.advance.new.pairs.facts.items c.args.from x) exits (c.in_ok-advance.ensures.held P P' ok ok')
 
 pub returns-clause-steps : goal.returns-clause-steps

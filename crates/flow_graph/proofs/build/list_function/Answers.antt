@@ -1,4 +1,4 @@
-use Rattle.std.proofs.Common.{◌≡◌, ◌∙◌, List, [], ℕ, ◌+◌, ◌-◌, ap, map, arith}
+use Rattle.std.proofs.Common.{◌≡◌, ◌∙◌, List, ℕ, ◌+◌, ◌-◌, ap, map, arith}
 use Rattle.std.proofs.Math.Path.{fun_ext}
 use Rattle.csub_objects.specs.Types.{Name}
 use Rattle.csub_semantics.specs.declared.function.RStmt.{RStmt}

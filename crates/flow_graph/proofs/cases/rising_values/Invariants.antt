@@ -1,4 +1,4 @@
-use Rattle.std.proofs.Common.{◌≡◌, [], ◌++◌}
+use Rattle.std.proofs.Common.{◌≡◌, []}
 use Rattle.csub_semantics.specs.Successors.{case_values, rising}
 use Rattle.flow_graph.proofs.Rows.{lines_from}
 use Rattle.flow_graph.proofs.cases.rising_values.Given as goal

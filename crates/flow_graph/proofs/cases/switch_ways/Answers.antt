@@ -1,4 +1,4 @@
-use Rattle.std.proofs.Common.{◌≡◌, ◌∙◌, ◌++◌, ◌∷◌, [], ap, map, reverse}
+use Rattle.std.proofs.Common.{◌∙◌, ◌++◌, ◌∷◌, [], ap, map, reverse}
 use Rattle.std.proofs.lemmas.List.{map-append}
 use Rattle.csub_semantics.specs.Points.{on_default}
 use Rattle.csub_semantics.specs.Successors.{way}

@@ -1,4 +1,4 @@
-use Rattle.std.proofs.Common.{◌≡◌, ◌+◌, ◌-◌, ◌<◌, ◌++◌, ◌∙◌, ◌∷◌, [], ap, map, length, reverse, arith}
+use Rattle.std.proofs.Common.{◌≡◌, ◌+◌, ◌-◌, ◌<◌, ◌++◌, ◌∙◌, ap, map, length, reverse, arith}
 use Rattle.std.specs.Option.{option_map}
 use Rattle.csub_semantics.specs.Labels.{label_tree}
 use Rattle.csub_semantics.specs.Syntax.{part_tree}

@@ -1,7 +1,4 @@
-use Rattle.std.proofs.Common.{◌≡◌, ◌∙◌, Some, if◌then◌else◌}
-use Rattle.csub_objects.specs.Types.{Name}
-use Rattle.csub_semantics.specs.Types.{name_eq}
-use Rattle.flow_graph.specs.Jumps.{entry_of}
+use Rattle.std.proofs.Common.{◌≡◌, ◌∙◌}
 use Rattle.flow_graph.proofs.Table.{entered}
 use Rattle.flow_graph.proofs.jumps.put.Goals as goal
 

@@ -1,4 +1,4 @@
-use Rattle.std.proofs.Common.{rules, arith, ◌≡◌, ◌+◌, ◌-◌, ◌<◌, ◌∙◌, ap, map, length}
+use Rattle.std.proofs.Common.{rules, arith, ◌-◌, ◌<◌, ap, length}
 use Rattle.csub_semantics.specs.declared.function.RStmt.{the_lemmas}
 use denote.Param.Weighed.{at_most}
 use Rattle.csub_semantics.proofs.LawsRows.{stmt_size, row_trees-list}
