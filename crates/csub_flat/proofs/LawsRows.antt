@@ -7,9 +7,14 @@ use Rattle.csub_semantics.specs.declared.expression.Piece.{Piece}
 use Rattle.csub_semantics.specs.Trees.{NamedExpr, formatted, more_exprs, exprs_of}
 use Rattle.csub_semantics.specs.Syntax.{LocalTree, FunctionTree}
 use Rattle.csub_flat.specs.declared.flat.FlatExpr.{FlatExpr, Printf, Row_of-FlatExpr, end_of-FlatExpr, more_of-FlatExpr, items-the_row-FlatExpr, the_lemmas}
+use Rattle.csub_flat.proofs.flat.FlatExpr.TheLaws.{the_size}
 use Rattle.csub_flat.specs.Flatten.{flattened, flattened_row}
 use Rattle.csub_flat.specs.Fits.{FitsExpr, FitExprs}
 use Rattle.csub_flat.specs.Seen.{expr_seen, row_seen}
+
+-- how large an expression is: what a recursion over expressions goes down by
+abbrev pub flat_size : FlatExpr → ℕ
+flat_size e = the_size e
 
 row_seen-list : {m : _} (row : Row_of-FlatExpr m) → row_seen row ≡ exprs_of (map expr_seen (items-the_row-FlatExpr m row))
 row_seen-list end_of-FlatExpr = refl

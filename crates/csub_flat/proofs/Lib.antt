@@ -14,3 +14,4 @@ mod Indexes
 mod Callees
 mod Programs
 mod Steps
+mod Writes

@@ -1,8 +1,10 @@
 -- How many slots are before a member.
 use Rattle.std.proofs.Common.{◌≡◌, ℕ, ◌+◌, ◌≤◌, Bool, true, false, Option, Some, None, option_map, bytes_eq, if◌then◌else◌, refl, arith}
 use Rattle.csub_objects.specs.Types.{Name, TypeTree, number_type, array_type, struct_type, loose_type, MemberTrees, no_member, more_members}
-use Rattle.csub_objects.specs.Types.{cells, member_cells, find_cell, first_cell, IsSized, IsCappedSome}
+use Rattle.csub_objects.specs.Types.{cells, member_cells, find_cell, first_cell, IsCappedSome}
 use Rattle.csub_flat.specs.Flatten.{cell_or}
+use Rattle.csub_flat.specs.Fits.{MayStand}
+use Rattle.csub_flat.proofs.LawsSized.{stands_few}
 
 -- the first cell of a member is within the struct
 cell_within : (name : Name) (ms : MemberTrees) (n : ℕ) → find_cell name ms ≡ Some n → n ≤ member_cells ms
@@ -25,11 +27,11 @@ first_within name (struct_type tag ms) n e = cell_within name ms n e
 first_within name (loose_type t) n e = cc
 
 -- so its number isn't capped
-pub uncapped : (name : Name) (t : TypeTree) (c : ℕ) → IsSized t → IsCappedSome c (first_cell name t) → (c ≡ cell_or (first_cell name t)) × (c ≤ 65536)
-uncapped name t c sized h = pick (first_cell name t) refl h
+pub uncapped : (name : Name) (t : TypeTree) (c : ℕ) → MayStand t → IsCappedSome c (first_cell name t) → (c ≡ cell_or (first_cell name t)) × (c ≤ 65536)
+uncapped name t c may h = pick (first_cell name t) refl h
   where
     pick : (o : Option ℕ) → first_cell name t ≡ o → IsCappedSome c o → (c ≡ cell_or o) × (c ≤ 65536)
     pick None e k = absurd k
     pick (Some n) e k =
-        let within = first_within name t n e in let most = sized.cells in
+        let within = first_within name t n e in let most = stands_few t may in
         let is = k.exact (omega arith) in (is, omega arith)

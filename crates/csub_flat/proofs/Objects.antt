@@ -1,5 +1,6 @@
 -- The objects of a valid function have places in its frame.
 use Rattle.std.proofs.Common.{ℕ, zero, suc, ◌+◌, ◌≡◌, ◌≤◌, ◌⊎◌, inl, inr, List, [], ◌∷◌, ◌++◌, map, Bool, true, false, cond, ◌&&◌, nat_eq, nat_lt, All, AllPairs, Option, Some, None, find, if◌then◌else◌, refl, sym, ◌∙◌, ap, subst, arith}
+use Rattle.std.specs.List.{flat_map}
 use Rattle.std.specs.Option.{option_map}
 use Rattle.std.proofs.lemmas.Bool.{eqb-true, eq-eqb, and_parts}
 use Rattle.std.proofs.lemmas.List.Elements.{All-head, All-tail, All-nil, All-cons}
@@ -35,6 +36,11 @@ module _ {X : Type 0} where
   has_map f [] x h = absurd h
   has_map f (z ∷ zs) x (inl same) = inl (ap f same)
   has_map f (z ∷ zs) x (inr there) = inr (has_map f zs x there)
+
+  pub has_flat_map : {Y : Type 0} (f : Y → List X) (ys : List Y) (y : Y) (x : X) → Has ys y → Has (f y) x → Has (flat_map f ys) x
+  has_flat_map f [] y x h k = absurd h
+  has_flat_map f (z ∷ zs) y x (inl same) k = has_left (f z) (flat_map f zs) x (subst (λ w. Has (f w) x) (sym same) k)
+  has_flat_map f (z ∷ zs) y x (inr there) k = has_right (f z) (flat_map f zs) x (has_flat_map f zs y x there k)
 
   pub has_found : (test : X → Bool) (xs : List X) (x : X) → find test xs ≡ Some x → Has xs x × (test x ≡ true)
   has_found test [] x e = cc

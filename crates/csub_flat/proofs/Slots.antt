@@ -1,19 +1,20 @@
 -- Places of objects, by parameters and locals.
-use Rattle.std.proofs.Common.{◌≡◌, ◌≤◌, ◌∙◌, ℕ, zero, suc, ◌+◌, ◌-◌, ◌&&◌, nat_lt, List, [], ◌∷◌, ◌++◌, map, sum_by, Bool, true, false, Option, Some, None, nat_eq, if◌then◌else◌, refl, ap, sym, arith}
+use Rattle.std.proofs.Common.{◌≡◌, ◌≤◌, ◌∙◌, ℕ, zero, suc, ◌+◌, ◌-◌, ◌*◌, ◌&&◌, nat_lt, List, [], ◌∷◌, ◌++◌, map, sum_by, Bool, true, false, Option, Some, None, nat_eq, if◌then◌else◌, refl, ap, sym, subst, arith}
 use Rattle.std.specs.Option.{option_map, option_or}
 use Rattle.std.proofs.lemmas.List.Sums.{sum_by-cons}
 use Rattle.csub_objects.specs.declared.types.Member.{Member}
 use Rattle.csub_semantics.specs.declared.function.LocalVar.{LocalVar}
 use Rattle.csub_semantics.specs.declared.function.Function.{Function}
 use Rattle.csub_types.specs.declared.kind.IntKind.TheVariants.{Int}
-use Rattle.csub_objects.specs.Types.{Name, number_type, cells}
+use Rattle.csub_objects.specs.Types.{Name, TypeTree, number_type, array_type, struct_type, loose_type}
+use Rattle.csub_objects.specs.Types.{MemberTrees, no_member, more_members, cells, member_cells}
 use Rattle.csub_objects.specs.Meaning.{member_tree}
 use Rattle.csub_semantics.specs.Types.{name_eq}
 use Rattle.csub_flat.specs.Flatten.{temp_slot, slot_or}
 use Rattle.csub_semantics.specs.Syntax.{LocalTree, FunctionTree, local_tree, function_tree}
 use Rattle.csub_validity.specs.Valid.{parameter_object, objects_of, frame_cells}
 use Rattle.csub_objects.specs.Paths.{Inside, inside_at, moved}
-use Rattle.csub_flat.specs.Frames.{plain, objects_size, place_in, as_object, frame_size}
+use Rattle.csub_flat.specs.Frames.{plain, plain_members, objects_size, place_in, as_object, frame_size}
 
 pub same_objects : (ps : List Member) → map parameter_object (map member_tree ps) ≡ map as_object ps
 same_objects [] = refl
@@ -95,3 +96,38 @@ slot_of_temporary f (suc n) first low high is =
     let t : nat_lt n f.temps ≡ true = grind arith in
     let sum : first + (suc n - 1) ≡ objects_size (objects_of f) + n = omega arith in
     sum ∙ sym (ap (λ b. slot_or (if b then Some (inside_at (objects_size (objects_of f) + n) (number_type Int)) else None)) t)
+
+-- ---- room for objects
+
+mutual
+  plain_cells : (t : TypeTree) → cells (plain t) ≡ cells t
+  plain_cells (number_type k) = refl
+  plain_cells (array_type t n) = ap (λ c. n * c) (plain_cells t)
+  plain_cells (struct_type tag ms) = plain_members_cells ms
+  plain_cells (loose_type t) = refl
+
+  plain_members_cells : (ms : MemberTrees) → member_cells (plain_members ms) ≡ member_cells ms
+  plain_members_cells no_member = refl
+  plain_members_cells (more_members x t rest) = let a = plain_cells t in let b = plain_members_cells rest in omega arith
+
+place_room : (os : List LocalTree) (a : Name) (n : ℕ) (x : Inside) → place_in os a n ≡ Some x → x.at + cells x.ctype ≤ objects_size os
+place_room [] a n x e = cc
+place_room (o ∷ rest) a n x e = pick (name_eq o.name a && nat_eq o.number n) e (λ y f. place_room rest a n y f)
+  where
+    later : (p : Option Inside) → ((y : Inside) → p ≡ Some y → y.at + cells y.ctype ≤ objects_size rest) → moved (cells o.ctype) p ≡ Some x → x.at + cells x.ctype ≤ cells o.ctype + objects_size rest
+    later None found g = cc
+    later (Some y) found g =
+        let is : inside_at (cells o.ctype + y.at) y.ctype ≡ x = cc in let below = found y refl in
+        subst (λ (z : Inside). z.at + cells z.ctype ≤ cells o.ctype + objects_size rest) is (omega arith)
+
+    pick : (b : Bool) → (if b then Some (inside_at 0 (plain o.ctype)) else moved (cells o.ctype) (place_in rest a n)) ≡ Some x
+        → ((y : Inside) → place_in rest a n ≡ Some y → y.at + cells y.ctype ≤ objects_size rest) → x.at + cells x.ctype ≤ cells o.ctype + objects_size rest
+    pick true g found =
+        let is : inside_at 0 (plain o.ctype) ≡ x = cc in let same = plain_cells o.ctype in
+        subst (λ (z : Inside). z.at + cells z.ctype ≤ cells o.ctype + objects_size rest) is (omega arith)
+    pick false g found = later (place_in rest a n) found g
+
+-- an object of a function lies in its frame
+pub object_room : (f : FunctionTree) (a : Name) (n s : ℕ) (t : TypeTree) → place_in (objects_of f) a n ≡ Some (inside_at s (plain t)) → slot_or (place_in (objects_of f) a n) + cells t ≤ frame_size f
+object_room f a n s t e =
+    let at = ap slot_or e in let room = place_room (objects_of f) a n (inside_at s (plain t)) e in let same = plain_cells t in omega arith

@@ -2,16 +2,16 @@
 use Rattle.std.specs.Prelude.{ℕ, ◌≡◌, ◌<◌, ◌≤◌, List, [], ◌∷◌, length, All, Option, Some, None, slice_index_or}
 use Rattle.std.specs.Option.{option_map}
 use Rattle.csub_types.specs.declared.kind.IntKind.TheVariants.{Int}
-use Rattle.csub_semantics.specs.Trees.{temporary}
+use Rattle.csub_semantics.specs.Trees.{object, temporary}
 use Rattle.csub_semantics.specs.Labels.{LabelTree, enters, exits, evaluates, initialises, branches, switches, returns, jumps, halts, calls}
 use Rattle.csub_semantics.specs.Labels.{AnswerTree, CallTree}
 use Rattle.csub_semantics.specs.Syntax.{FunctionTree, ProgramTree}
 use Rattle.csub_semantics.specs.Flows.{point_list, function_of}
 use Rattle.csub_flat.specs.Sites.{place_of, HasLabel, IsEntry}
 use Rattle.csub_flat.specs.Frames.{objects_size, frame_size, globals_of}
-use Rattle.csub_flat.specs.Trees.{FlatCall, FlatLabel, goes_on, leaves_by, does, tests, chooses, answers, enters_callee}
+use Rattle.csub_flat.specs.Trees.{FlatCall, FlatLabel, goes_on, leaves_by, does, begins, tests, chooses, answers, enters_callee}
 use Rattle.csub_flat.specs.Trees as the
-use Rattle.csub_flat.specs.Flatten.{flat_variable, flattened, flat_init, paired, temp_slot}
+use Rattle.csub_flat.specs.Flatten.{flat_variable, variable_slot, flattened, flat_writes, paired, temp_slot}
 use Rattle.csub_flat.specs.Fits.{FitsLabel}
 use Rattle.csub_flat.specs.Seen.{label_seen}
 use Rattle.csub_flat.specs.Ways.{AreSteps}
@@ -36,7 +36,8 @@ abbrev pub IsFlat : ProgramTree → FunctionTree → LabelTree → FlatLabel →
 IsFlat P f enters m = m ≡ goes_on
 IsFlat P f (exits rule) m = m ≡ leaves_by rule (flat_variable (globals_of P) f (temporary 1 Int))
 IsFlat P f (evaluates e) m = m ≡ does (flattened (globals_of P) f e)
-IsFlat P f (initialises owner t init) m = m ≡ does (flat_init (globals_of P) f owner t init)
+IsFlat P f (initialises owner t init) m =
+    m ≡ begins (flat_writes (globals_of P) f t (variable_slot (globals_of P) f (object owner t)) init)
 IsFlat P f (branches e) m = m ≡ tests (flattened (globals_of P) f e)
 IsFlat P f (switches e) m = m ≡ chooses (flattened (globals_of P) f e)
 IsFlat P f (returns answer) m = IsFlatAnswer P f answer m

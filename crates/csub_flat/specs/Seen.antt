@@ -5,15 +5,19 @@ use Rattle.csub_semantics.specs.Trees.{conjunction, disjunction, choice, assignm
 use Rattle.csub_flat.specs.Trees as the
 use Rattle.csub_flat.specs.declared.flat.Form.{Form}
 use Rattle.csub_flat.specs.declared.flat.FlatVariable.{FlatVariable}
-use Rattle.csub_flat.specs.declared.flat.FlatVariable.TheVariants.{Frame, Global}
+use Rattle.csub_flat.specs.declared.flat.FlatVariable.TheVariants.{Frame, Global, Referring}
 use Rattle.csub_flat.specs.declared.flat.FlatPart.{FlatPart}
 use Rattle.csub_flat.specs.declared.flat.FlatPlace.{FlatPlace, Variable, Element', Member'}
 use Rattle.csub_flat.specs.declared.flat.FlatExpr.{FlatExpr, Const, Read, Unary', Cast', Step, Binary', And', Or', Choose', Assign', Update', Getchar, Putchar'}
 use Rattle.csub_flat.specs.declared.flat.FlatExpr.{Printf', Row_of-FlatExpr, end_of-FlatExpr, more_of-FlatExpr}
+use Rattle.csub_flat.specs.declared.flat.FlatGiven.{FlatGiven}
+use Rattle.csub_flat.specs.declared.flat.FlatGiven.TheVariants.{Number, Array}
 use Rattle.csub_flat.specs.declared.flat.FlatArg.{FlatArg}
+use Rattle.csub_flat.specs.declared.flat.FlatWrite.{FlatWrite}
+use Rattle.csub_flat.specs.declared.flat.FlatWrite.TheVariants.{Value, Zeros}
 use Rattle.csub_flat.specs.declared.flat.FlatCall.{FlatCall}
 use Rattle.csub_flat.specs.declared.flat.FlatLabel.{FlatLabel}
-use Rattle.csub_flat.specs.declared.flat.FlatLabel.TheVariants.{Next, Exit, Eval, Branch, Switch, Return, Halt, Call}
+use Rattle.csub_flat.specs.declared.flat.FlatLabel.TheVariants.{Next, Exit, Eval, Init, Branch, Switch, Return, Halt, Call}
 
 abbrev pub form_seen : Form → the.Form
 form_seen f = record { kind = f.kind; length = f.length }
@@ -21,6 +25,7 @@ form_seen f = record { kind = f.kind; length = f.length }
 abbrev pub variable_seen : FlatVariable → the.FlatVariable
 variable_seen (Frame s f) = the.frame_slot s (form_seen f)
 variable_seen (Global s f) = the.global_slot s (form_seen f)
+variable_seen (Referring s f) = the.referring_slot s (form_seen f)
 
 abbrev pub part_seen : FlatPart → the.FlatPart
 part_seen p = record { slots = p.slots; form = form_seen p.form }
@@ -51,8 +56,16 @@ abbrev mutual
   row_seen end_of-FlatExpr = no_expr
   row_seen (more_of-FlatExpr e rest) = more_exprs (expr_seen e) (row_seen rest)
 
+abbrev pub given_seen : FlatGiven → the.FlatGiven
+given_seen (Number k e) = the.number_of k (expr_seen e)
+given_seen (Array p) = the.array_at (place_seen p)
+
 abbrev pub arg_seen : FlatArg → the.FlatArg
-arg_seen a = record { param = variable_seen a.param; value = expr_seen a.value }
+arg_seen a = record { slot = a.slot; given = given_seen a.given }
+
+abbrev pub write_seen : FlatWrite → the.FlatWrite
+write_seen (Value s k e) = the.writes s k (expr_seen e)
+write_seen (Zeros s n) = the.clears s n
 
 abbrev pub call_seen : FlatCall → the.FlatCall
 call_seen c = record { entry = c.entry; size = c.size; args = map arg_seen c.args.items; temp = c.temp }
@@ -61,6 +74,7 @@ abbrev pub label_seen : FlatLabel → the.FlatLabel
 label_seen Next = the.goes_on
 label_seen (Exit rule v) = the.leaves_by rule (variable_seen v)
 label_seen (Eval e) = the.does (expr_seen e)
+label_seen (Init ws) = the.begins (map write_seen ws.items)
 label_seen (Branch e) = the.tests (expr_seen e)
 label_seen (Switch e) = the.chooses (expr_seen e)
 label_seen (Return k e) = the.answers k (expr_seen e)

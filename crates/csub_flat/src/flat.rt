@@ -17,6 +17,9 @@ pub enum FlatVariable {
     Frame(u32, Form),
     /// A slot of the globals.
     Global(u32, Form),
+    /// An array parameter: the slot of the frame, counted from its first, that says where the array begins and how many
+    /// elements it has. The form is that of the array, without its length.
+    Referring(u32, Form),
 }
 
 /// A part of an array or of a struct.
@@ -38,7 +41,9 @@ impl FlatVariable {
         ensures { form_seen result ≡ variable_form (variable_seen self) }
     {
         match self {
-            FlatVariable::Frame(_, form) | FlatVariable::Global(_, form) => form,
+            FlatVariable::Frame(_, form)
+            | FlatVariable::Global(_, form)
+            | FlatVariable::Referring(_, form) => form,
         }
     }
 }
@@ -89,13 +94,22 @@ pub enum FlatExpr {
     Printf(Vec<Piece>, Vec<FlatExpr>),
 }
 
+/// What an argument gives to its parameter.
+#[derive(Drop)]
+pub enum FlatGiven {
+    /// A number, which is converted to the parameter's kind.
+    Number(IntKind, FlatExpr),
+    /// An array, to which the parameter refers.
+    Array(FlatPlace),
+}
+
 /// An argument, with the parameter that it goes to.
 #[derive(Drop)]
 pub struct FlatArg {
-    /// The callee's parameter.
-    pub param: FlatVariable,
-    /// The argument.
-    pub value: FlatExpr,
+    /// The slot of the parameter, counted from the first of the callee's frame.
+    pub slot: u32,
+    /// What the argument gives.
+    pub given: FlatGiven,
 }
 
 /// A call.
@@ -111,6 +125,15 @@ pub struct FlatCall {
     pub temp: Option<u32>,
 }
 
+/// A step of an initialiser. Slots are counted from the frame's first.
+#[derive(Drop)]
+pub enum FlatWrite {
+    /// A number goes to a slot, converted to a kind.
+    Value(u32, IntKind, FlatExpr),
+    /// 0 goes to so many slots, from one on. There is at least one.
+    Zeros(u32, u32),
+}
+
 /// What is done at a point.
 #[derive(Drop)]
 pub enum FlatLabel {
@@ -120,6 +143,8 @@ pub enum FlatLabel {
     Exit(EndRule, FlatVariable),
     /// An expression is evaluated for its effects.
     Eval(FlatExpr),
+    /// An object gets its initial contents, one step after another.
+    Init(Vec<FlatWrite>),
     /// A test.
     Branch(FlatExpr),
     /// The value of a `switch`, which decides its way out.

@@ -3,28 +3,25 @@ ghost use Rattle.std.specs.Prelude.{◌≡◌, ◌≤◌, map, All, IfOk};
 ghost use Rattle.std.specs.Option.{option_map};
 ghost use Rattle.csub_objects.specs.Meaning.{type_tree, member_tree};
 ghost use Rattle.csub_semantics.specs.Trees.{object, temporary, owner_tree, place_tree, expr_tree, arg_tree};
-ghost use Rattle.csub_semantics.specs.Labels.{init_tree};
 ghost use Rattle.csub_semantics.specs.Syntax.{function_tree};
 ghost use Rattle.csub_validity.specs.Valid.{objects_of, place_type};
 ghost use Rattle.csub_flat.specs.Frames.{place_in, frame_size};
-ghost use Rattle.csub_flat.specs.Flatten.{slot_or, form_of, part_of, flat_variable, element_part, member_part, flat_place, flattened, flat_parameter, flat_arg, paired};
-ghost use Rattle.csub_flat.specs.Flatten.{flat_init, temp_slot};
-ghost use Rattle.csub_flat.specs.Fits.{FitsPlace, FitsExpr, FitsArg, FitsInit};
+ghost use Rattle.csub_flat.specs.Flatten.{slot_or, form_of, part_of, local_variable, flat_variable, element_part, member_part, flat_place, flattened};
+ghost use Rattle.csub_flat.specs.Flatten.{parameter_slot, flat_given, paired, temp_slot};
+ghost use Rattle.csub_flat.specs.Fits.{FitsPlace, FitsExpr, FitsArg, FitArgs};
 ghost use Rattle.csub_flat.specs.Scopes.{globals_at, function_at};
-ghost use Rattle.csub_flat.specs.Seen.{form_seen, variable_seen, part_seen, place_seen, expr_seen, arg_seen};
+ghost use Rattle.csub_flat.specs.Seen.{form_seen, variable_seen, part_seen, place_seen, expr_seen, given_seen, arg_seen};
 
-use crate::flat::{FlatArg, FlatExpr, FlatPart, FlatPlace, FlatVariable, Form};
+use crate::flat::{FlatArg, FlatExpr, FlatGiven, FlatPart, FlatPlace, FlatVariable, Form};
 use crate::places::{find_local, find_param, params_size, slots_before, slots_of};
 use crate::scope::Scope;
-use csub_objects::{array_length, first_cell, member_type, number_kind};
-use csub_semantics::{
-    CType, Function, IntKind, Member, Owner, Piece, Place, RArg, RExpr, RInit, Text,
-};
+use csub_objects::{array_length, member_type, number_kind};
+use csub_semantics::{CType, Function, IntKind, Member, Owner, Piece, Place, RArg, RExpr, Text};
 use csub_validity::places::place_type;
 use std::alloc::{AllocError, Global};
 
 /// The slot of an object in a frame of its function; 0 where there is no such object, as in no valid program.
-fn object_slot(function: &Function, name: &[u8], number: u32) -> u32
+pub fn object_slot(function: &Function, name: &[u8], number: u32) -> u32
     requires { frame_size (function_tree function.now) ≤ 4096 }
     ensures { result ≡ slot_or (place_in (objects_of (function_tree function.now)) name.now number) }
 {
@@ -70,15 +67,25 @@ fn form_of(ctype: &CType) -> Form
     }
 }
 
-/// An object with its slot.
-pub fn flatten_object(scope: Scope<'_>, owner: &Owner, ctype: &CType) -> FlatVariable
-    ensures { variable_seen result ≡ flat_variable (globals_at scope.entry) (function_at scope.entry) (object (owner_tree owner.now) (type_tree ctype.now)) }
+/// An object of a function, by its slot.
+fn local_variable(slot: u32, ctype: &CType) -> FlatVariable
+    ensures { variable_seen result ≡ local_variable slot (type_tree ctype.now) }
 {
     let form = form_of(ctype);
+    match ctype {
+        CType::Loose(_) => FlatVariable::Referring(slot, form),
+        _ => FlatVariable::Frame(slot, form),
+    }
+}
+
+/// An object with its slot.
+fn flatten_object(scope: Scope<'_>, owner: &Owner, ctype: &CType) -> FlatVariable
+    ensures { variable_seen result ≡ flat_variable (globals_at scope.entry) (function_at scope.entry) (object (owner_tree owner.now) (type_tree ctype.now)) }
+{
     match owner {
-        Owner::Global(name) => FlatVariable::Global(global_slot(scope, name), form),
+        Owner::Global(name) => FlatVariable::Global(global_slot(scope, name), form_of(ctype)),
         Owner::Local(name, number) => {
-            FlatVariable::Frame(object_slot(scope.function, name.bytes(), *number), form)
+            local_variable(object_slot(scope.function, name.bytes(), *number), ctype)
         }
     }
 }
@@ -265,7 +272,7 @@ pub fn flatten_args(
     args: &[RArg],
 ) -> Result<Vec<FlatArg>, AllocError>
     requires size { frame_size (function_tree callee.now) ≤ 4096 }
-    requires fits { All (FitsArg (globals_at scope) (function_at scope)) (map arg_tree args.now) }
+    requires fits { FitArgs (globals_at scope) (function_at scope) (map member_tree params.now) (map arg_tree args.now) }
     ensures { IfOk result (λ made. map arg_seen made.items ≡ paired (globals_at scope.entry) (function_at scope.entry) (function_tree callee.now) (map member_tree params.now) (map arg_tree args.now)) }
 {
     let mut made = Vec::new(alloc);
@@ -288,31 +295,29 @@ fn flatten_arg(
     arg: &RArg,
 ) -> Result<FlatArg, AllocError>
     requires size { frame_size (function_tree callee.now) ≤ 4096 }
-    requires fits { FitsArg (globals_at scope) (function_at scope) (arg_tree arg.now) }
-    ensures { IfOk result (λ made. arg_seen made ≡ record { param = flat_parameter (function_tree callee.now) (member_tree param.now); value = flat_arg (globals_at scope.entry) (function_at scope.entry) (arg_tree arg.now) }) }
+    requires fits { FitsArg (globals_at scope) (function_at scope) (member_tree param.now) (arg_tree arg.now) }
+    ensures { IfOk result (λ made. arg_seen made ≡ record { slot = parameter_slot (function_tree callee.now) (member_tree param.now); given = flat_given (globals_at scope.entry) (function_at scope.entry) (member_tree param.now) (arg_tree arg.now) }) }
 {
-    let RArg::Value(expr) = arg;
     let slot = object_slot(callee, param.name.bytes(), 1);
-    let form = form_of(&param.ctype);
-    let value = flatten_expr(alloc, scope, expr)?;
-    Ok(FlatArg {
-        param: FlatVariable::Frame(slot, form),
-        value,
-    })
+    let given = flatten_given(alloc, scope, param, arg)?;
+    Ok(FlatArg { slot, given })
 }
 
-/// The flat copy of an initialiser, as an assignment. An `Err` is want of memory.
-pub fn flatten_init(
+/// What an argument gives to its parameter. An `Err` is want of memory.
+fn flatten_given(
     alloc: Global,
     scope: Scope<'_>,
-    owner: &Owner,
-    ctype: &CType,
-    init: &RInit,
-) -> Result<FlatExpr, AllocError>
-    requires { FitsInit (globals_at scope) (function_at scope) (init_tree init.now) }
-    ensures { IfOk result (λ made. expr_seen made ≡ flat_init (globals_at scope.entry) (function_at scope.entry) (owner_tree owner.now) (type_tree ctype.now) (init_tree init.now)) }
+    param: &Member,
+    arg: &RArg,
+) -> Result<FlatGiven, AllocError>
+    requires { FitsArg (globals_at scope) (function_at scope) (member_tree param.now) (arg_tree arg.now) }
+    ensures { IfOk result (λ made. given_seen made ≡ flat_given (globals_at scope.entry) (function_at scope.entry) (member_tree param.now) (arg_tree arg.now)) }
 {
-    let RInit::One(expr) = init;
-    let target = FlatPlace::Variable(flatten_object(scope, owner, ctype));
-    Ok(FlatExpr::Assign(target, flatten_boxed(alloc, scope, expr)?))
+    match arg {
+        RArg::Value(expr) => {
+            let kind = number_kind(&param.ctype);
+            Ok(FlatGiven::Number(kind, flatten_expr(alloc, scope, expr)?))
+        }
+        RArg::Array(place) => Ok(FlatGiven::Array(flatten_place(alloc, scope, place)?)),
+    }
 }

@@ -2,7 +2,8 @@
 //!
 //! The objects and the temporaries of a function have slots in its frame, one after another, and the objects of file
 //! scope have slots of their own in the same way (`specs/Frames`). A flat label is the label of a point with the slots of
-//! what it names (`specs/Trees`, `Flatten`), so that a run looks no name up.
+//! what it names (`specs/Trees`, `Flatten`), so that a run looks no name up; an initialiser is the list of its steps over
+//! slots, and an array parameter the slot that says where its array is.
 //!
 //! What is promised of the code: [`flatten_program`] gives for each point of a valid program a copy of its label, in
 //! which every object has its place in the frame of its function or among the globals, the ways out of its switches, by
@@ -16,10 +17,14 @@ pub mod choices;
 pub mod flat;
 mod flatten;
 mod globals;
+mod inits;
 mod places;
 pub mod program;
 mod scope;
 
 pub use choices::{Choices, Step};
-pub use flat::{FlatArg, FlatCall, FlatExpr, FlatLabel, FlatPart, FlatPlace, FlatVariable, Form};
+pub use flat::{
+    FlatArg, FlatCall, FlatExpr, FlatGiven, FlatLabel, FlatPart, FlatPlace, FlatVariable,
+    FlatWrite, Form,
+};
 pub use program::{FlatProgram, Sizes, first_slots, flatten_program};

@@ -1,12 +1,13 @@
 //! The slots of objects among others, one after another.
 ghost use Rattle.std.specs.Prelude.{◌≡◌, ◌&&◌, ◌≤◌, nat_eq, map, IfSome};
 ghost use Rattle.std.specs.Option.{option_map};
-ghost use Rattle.csub_objects.specs.Types.{cells, first_cell, IsSized};
+ghost use Rattle.csub_objects.specs.Types.{cells, first_cell};
 ghost use Rattle.csub_objects.specs.Meaning.{type_tree};
 ghost use Rattle.csub_objects.specs.Paths.{Inside};
 ghost use Rattle.csub_semantics.specs.Types.{name_eq};
 ghost use Rattle.csub_semantics.specs.Syntax.{local_tree};
 ghost use Rattle.csub_flat.specs.Frames.{place_in, objects_size, as_object};
+ghost use Rattle.csub_flat.specs.Fits.{MayStand};
 ghost use Rattle.csub_flat.specs.Flatten.{cell_or};
 
 use csub_objects::{CType, cells, first_cell};
@@ -22,7 +23,7 @@ pub fn slots_of(ctype: &CType) -> u32
 
 /// How many slots of a struct are before its member of a name; 0 where there is no such member, as in no valid program.
 pub fn slots_before(ctype: &CType, name: &Text) -> u32
-    requires { IsSized (type_tree ctype.now) }
+    requires { MayStand (type_tree ctype.now) }
     ensures { result ≡ cell_or (first_cell name.now (type_tree ctype.now)) }
 {
     match first_cell(ctype, name.bytes()) {

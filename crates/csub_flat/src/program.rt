@@ -16,8 +16,9 @@ ghost use Rattle.csub_flat.specs.Seen.{call_seen, label_seen};
 
 use crate::choices::{Choices, list_choices};
 use crate::flat::{FlatCall, FlatLabel};
-use crate::flatten::{flatten_args, flatten_expr, flatten_init, flatten_temporary, temporary_slot};
+use crate::flatten::{flatten_args, flatten_expr, flatten_temporary, temporary_slot};
 use crate::globals::{globals_size, number_globals};
+use crate::inits::flatten_begin;
 use crate::places::{locals_size, params_size};
 use crate::scope::Scope;
 use csub_core::Program;
@@ -120,7 +121,7 @@ fn flatten_label(
         }
         Label::Eval(expr) => Ok(FlatLabel::Eval(flatten_expr(alloc, scope, expr)?)),
         Label::Init(owner, ctype, init) => {
-            Ok(FlatLabel::Eval(flatten_init(alloc, scope, owner, ctype, init)?))
+            Ok(FlatLabel::Init(flatten_begin(alloc, scope, owner, ctype, init)?))
         }
         Label::Branch(expr) => Ok(FlatLabel::Branch(flatten_expr(alloc, scope, expr)?)),
         Label::Switch(expr) => Ok(FlatLabel::Switch(flatten_expr(alloc, scope, expr)?)),

@@ -14,11 +14,12 @@ use Rattle.csub_semantics.specs.Numbers.{Site, site}
 use Rattle.csub_semantics.specs.Acts.{Store, act, most_frames}
 use Rattle.csub_semantics.specs.Runs as the
 use Rattle.csub_semantics.specs.Runs.{Standing, exit_at, cross, put_result, come_back, come_back_to, pop, follow, turn_at, turn}
+use Rattle.csub_validity.specs.Valid.{AreGlobals, IsValid}
 use Rattle.csub_machine.specs.Crossed.{edge_of}
 use Rattle.csub_flat.specs.Sites.{place_of, site_or}
 use Rattle.csub_flat.specs.Frames.{objects_size, frame_size, globals_of}
 use Rattle.csub_slots.specs.Layout.{live_size}
-use Rattle.csub_slots.specs.Memory.{most_slot}
+use Rattle.csub_slots.specs.Memory.{most_referred}
 use Rattle.csub_flat.specs.Fits.{FitsLabel, FitsTemp}
 use Rattle.csub_slots.specs.Acts.{FlatStore, FlatOutcome, leaves, gives, pushes, pops, ends, flat_act, flat_result}
 use Rattle.csub_flat.specs.Trees.{FlatCall, FlatLabel, enters_callee}
@@ -47,6 +48,11 @@ All-left : {X : Type 0} (Q : X → Type 0) (xs ys : List X) → All Q (xs ++ ys)
 All-left Q [] ys h = All-nil Q
 All-left Q (x ∷ xs) ys h = All-cons Q x xs (All-head Q x (xs ++ ys) h) (All-left Q xs ys (All-tail Q x (xs ++ ys) h))
 
+-- what acts ask for: valid globals, and so few live slots that a slot can refer to each
+pub record CanAct (P : ProgramTree) (frames : Frames) : Type 0 where
+  pub globals : AreGlobals P.globals
+  pub few : live_size (globals_of P) (live_of P frames) ≤ most_referred
+
 module _ (P : ProgramTree) where
   abbrev F : Flow
   F = flow_of P
@@ -69,7 +75,7 @@ module _ (P : ProgramTree) where
   same_function : (f g : Frame) → (place_of P f.point).function ≡ (place_of P g.point).function → live_function P f ≡ live_function P g
   same_function f g e = ap (λ (n : Name). function_or (function_of P n)) e
 
-  module _ (frames : Frames) (n cnt : ℕ) (ready : AreFrames P frames n) (small : live_size (globals_of P) (live_of P frames) ≤ most_slot) (m : FlatLabel) (k : IsCopyAt P frames.top.point m) (s : Store) (s' : FlatStore) (counted : cnt ≡ length frames.below.items + 1) (like : Like (globals_of P) (live_of P frames) s s') where
+  module _ (frames : Frames) (n cnt : ℕ) (ready : AreFrames P frames n) (able : CanAct P frames) (m : FlatLabel) (k : IsCopyAt P frames.top.point m) (s : Store) (s' : FlatStore) (counted : cnt ≡ length frames.below.items + 1) (like : Like (globals_of P) (live_of P frames) s s') where
     abbrev items : List Frame
     items = frames.below.items
 
@@ -87,7 +93,7 @@ module _ (P : ProgramTree) where
         (subst (λ (j : ℕ). LikeOutcome P f (live_below P items) (act k.label (j + 1) r s) (flat_act m (length items + 1) frames.top.base r s')) (sym (length_below items))
         (subst (λ (b : ℕ). LikeOutcome P f (live_below P items) (act k.label (length items + 1) r s) (flat_act m (length items + 1) b r s')) (sym ready.based.0)
         (subst (λ (j : ℕ). LikeOutcome P f (live_below P items) (act k.label (j + 1) r s) (flat_act m (j + 1) (live_size (globals_of P) (live_below P items)) r s')) (length_live items)
-        (act_like P f (live_below P items) small k.label m r s s' (subst (λ (g : FunctionTree). FitsLabel P g k.label) (sym function_is) k.fits) (subst (λ (g : FunctionTree). IsFlat P g k.label m) (sym function_is) k.copy) like))))
+        (act_like P able.globals f (live_below P items) able.few k.label m r s s' (subst (λ (g : FunctionTree). FitsLabel P g k.label) (sym function_is) k.fits) (subst (λ (g : FunctionTree). IsFlat P g k.label m) (sym function_is) k.copy) like))))
 
     turned : turn F (standing_of P frames s) ≡ follow F top (below_of P items) (act k.label (length (below_of P items) + 1) frames.top.result s)
     turned = ap (turn_at F top (below_of P items) s) k.labelled
@@ -269,12 +275,11 @@ module _ (P : ProgramTree) where
         let scaled = ap (λ k. k * most) count in
         omega arith
 
-  -- so few that each slot has a number
-  pub lives_few : (flat : FlatProgram) → IsFlatOf P flat → (frames : Frames) (n : ℕ) → AreFrames P frames n → live_size (globals_of P) (live_of P frames) ≤ most_slot
-  lives_few flat copies frames n ready =
+  pub can_act : IsValid P → (flat : FlatProgram) → IsFlatOf P flat → (frames : Frames) (n : ℕ) → AreFrames P frames n → CanAct P frames
+  can_act valid flat copies frames n ready =
       let most = flat.sizes.most in
       let room = lives_room most copies.most frames n ready in
       let few = ready.few in
       let scaled : (length frames.below.items + 1) * most ≤ 256 * most = mul-le-mul_right most few in
       let globals = copies.globals in let fewer = copies.few in let small = copies.small in let whole = ready.count in
-      omega arith
+      record { globals = valid.globals; few = omega arith }

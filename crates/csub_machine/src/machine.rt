@@ -23,8 +23,11 @@ impl<'a> Model for Machine<'a> {
     ghost use Rattle.std.specs.Prelude.{◌≡◌};
     ghost use Rattle.std.specs.Coded.{codes};
     ghost use Rattle.csub_objects.specs.Codes.{type_code, members_code};
+    ghost use Rattle.csub_semantics.specs.contracts.expression.Place as place;
     ghost use Rattle.csub_semantics.specs.contracts.expression.RExpr as expr;
+    ghost use Rattle.csub_semantics.specs.contracts.label.RInit as init;
     ghost use Rattle.csub_semantics.specs.contracts.function.RStmt as stmt;
+    ghost use Rattle.csub_flat.specs.contracts.flat.FlatPlace as flat_place;
     ghost use Rattle.csub_flat.specs.contracts.flat.FlatExpr as flat_expr;
     ghost use Rattle.flow_graph.specs.Graph.{IsGraphOf};
     ghost use Rattle.csub_semantics.specs.Syntax.{program_tree};
@@ -35,7 +38,7 @@ impl<'a> Model for Machine<'a> {
 
     ghost Value = { Seen };
 
-    ghost coded = { Prim.hlevel (codes, type_code, members_code, expr.the_row.coded, stmt.the_row.coded, flat_expr.the_row.coded) };
+    ghost coded = { Prim.hlevel (codes, type_code, members_code, place.the_row.coded, expr.the_row.coded, init.the_row.coded, stmt.the_row.coded, flat_place.the_row.coded, flat_expr.the_row.coded) };
 
     ghost view = { λ m. record { program = m.program.now; input = m.run.store.input.items; done = m.run.done } };
 

@@ -20,7 +20,7 @@ use Rattle.csub_semantics.specs.Cells.{Root, global_root, local_root, temp_root,
 use Rattle.csub_semantics.specs.Runs.{initial_content, initial_at, initial_cells}
 use Rattle.csub_validity.specs.Valid.{AreOf, AreGlobals}
 use Rattle.csub_flat.specs.Frames.{plain, objects_size, place_in, frame_size, global_object, globals_of}
-use Rattle.csub_slots.specs.Layout.{Slot, empty, holding, into, slot_of, Holds, StandsFor, live_size, live}
+use Rattle.csub_slots.specs.Layout.{Slot, empty, holding, Layout, into, slot_of, Holds, StandsFor, live_size, live}
 use Rattle.csub_slots.specs.Begins.{opening_slots}
 use Rattle.csub_slots.proofs.Numbered.{IsLeaf, unmoved, below, into-moved, moved_zero, arrays_inside}
 use Rattle.csub_slots.proofs.Plain.{plained, inside_plain}
@@ -65,7 +65,7 @@ opened_size (g ∷ rest) h =
     let sum = length-append (map holding g.initial) (opening_slots rest) in omega arith
 
 -- each number of a global is in its slot, and no other cell of the global holds anything
-module _ (g : GlobalTree) (rest : List GlobalTree) (h : HasContents g) (path : List Inner) where
+module _ (layout : Layout) (root : Root) (g : GlobalTree) (rest : List GlobalTree) (h : HasContents g) (path : List Inner) where
   -- what a cell of the global holds at first, by the part that is there
   abbrev content_at : Option Inside → Option Content
   content_at o = option_map number (option_and_then (slice_get g.initial) (option_and_then (λ (x : Inside). number_cell x.ctype x.at) o))
@@ -78,12 +78,12 @@ module _ (g : GlobalTree) (rest : List GlobalTree) (h : HasContents g) (path : L
       let count = own_count g h in let size = own_size g h in
       get_or_append_left (map holding g.initial) (opening_slots rest) empty n (omega arith) ∙ get_or-map holding g.initial n (pos 0) empty (omega arith)
 
-  part_holds : (t : TypeTree) (n : ℕ) → HasArrays t → (IsLeaf t → n < cells g.ctype) → Holds (plain t) (content_at (Some (inside_at n t))) (slot_at n)
+  part_holds : (t : TypeTree) (n : ℕ) → HasArrays t → (IsLeaf t → n < cells g.ctype) → Holds layout root (plain t) (content_at (Some (inside_at n t))) (slot_at n)
   part_holds (number_type k) n a small =
       let count = own_count g h in
       let l : n < cells g.ctype = small tt in
       let there = slice_get-get_or g.initial n (pos 0) (omega arith) in
-      subst (λ (o : Option ℤ). Holds (number_type Int) (option_map number o) (slot_at n)) (sym there) (own_slot n l)
+      subst (λ (o : Option ℤ). Holds layout root (number_type Int) (option_map number o) (slot_at n)) (sym there) (own_slot n l)
   part_holds (array_type t m) n a small = tt
   part_holds (struct_type tag ms) n a small = tt
   part_holds (loose_type t) n a small = absurd a
@@ -91,16 +91,16 @@ module _ (g : GlobalTree) (rest : List GlobalTree) (h : HasContents g) (path : L
   own_place : into (Some (inside_at 0 (plain g.ctype))) path ≡ plained (inside g.ctype path)
   own_place = moved_zero (inside (plain g.ctype) path) ∙ inside_plain g.ctype path
 
-  own_holds : (x : Inside) → into (Some (inside_at 0 (plain g.ctype))) path ≡ Some x → Holds x.ctype (initial_content (Some g) path) (slot_at x.at)
+  own_holds : (x : Inside) → into (Some (inside_at 0 (plain g.ctype))) path ≡ Some x → Holds layout root x.ctype (initial_content (Some g) path) (slot_at x.at)
   own_holds x e = by_part (inside g.ctype path) refl (sym own_place ∙ e)
     where
-      by_part : (o : Option Inside) → inside g.ctype path ≡ o → plained o ≡ Some x → Holds x.ctype (initial_content (Some g) path) (slot_at x.at)
+      by_part : (o : Option Inside) → inside g.ctype path ≡ o → plained o ≡ Some x → Holds layout root x.ctype (initial_content (Some g) path) (slot_at x.at)
       by_part None f i = cc
       by_part (Some z) f i =
           let is : inside_at z.at (plain z.ctype) ≡ x = cc in
           let here = part_holds z.ctype z.at (arrays_inside g.ctype path z h.arrays f) (below g.ctype path z f) in
-          subst (λ (y : Inside). Holds y.ctype (content_at (inside g.ctype path)) (slot_at y.at)) is
-          (subst (λ (o : Option Inside). Holds (plain z.ctype) (content_at o) (slot_at z.at)) (sym f) here)
+          subst (λ (y : Inside). Holds layout root y.ctype (content_at (inside g.ctype path)) (slot_at y.at)) is
+          (subst (λ (o : Option Inside). Holds layout root (plain z.ctype) (content_at o) (slot_at z.at)) (sym f) here)
 
   own_nothing : into (Some (inside_at 0 (plain g.ctype))) path ≡ None → initial_content (Some g) path ≡ None
   own_nothing e = by_part (inside g.ctype path) refl (sym own_place ∙ e)
@@ -117,13 +117,13 @@ behind g rest n h =
     get_or-append_right (map holding g.initial) (opening_slots rest) (cells g.ctype) (cells g.ctype + n) empty one (omega arith)
     ∙ ap (λ (m : ℕ). slice_index_or (opening_slots rest) m empty) (omega arith)
 
-module _ (a : Name) (path : List Inner) where
+module _ (layout : Layout) (root : Root) (a : Name) (path : List Inner) where
   -- where a cell of a global is
   abbrev place : List GlobalTree → Option Inside
   place globals = into (place_in (map global_object globals) a 0) path
 
   opened_holds : (globals : List GlobalTree) → All HasContents globals → (x : Inside) → place globals ≡ Some x
-      → Holds x.ctype (initial_content (global_of globals a) path) (slice_index_or (opening_slots globals) x.at empty)
+      → Holds layout root x.ctype (initial_content (global_of globals a) path) (slice_index_or (opening_slots globals) x.at empty)
   opened_holds [] h x e = cc
   opened_holds (g ∷ rest) h x e = pick (name_eq g.name a) e (opened_holds rest (All-tail HasContents g rest h))
     where
@@ -131,15 +131,15 @@ module _ (a : Name) (path : List Inner) where
           → into (if b && nat_eq 0 0 then Some (inside_at 0 (plain g.ctype)) else moved (cells g.ctype) (place_in (map global_object rest) a 0)) path
           ≡ Some x
           → ((y : Inside) → place rest ≡ Some y
-          → Holds y.ctype (initial_content (global_of rest a) path) (slice_index_or (opening_slots rest) y.at empty))
-          → Holds x.ctype (initial_content (cond b (Some g) (global_of rest a)) path) (slice_index_or (opening_slots (g ∷ rest)) x.at empty)
-      pick true f later = own_holds g rest (All-head HasContents g rest h) path x f
+          → Holds layout root y.ctype (initial_content (global_of rest a) path) (slice_index_or (opening_slots rest) y.at empty))
+          → Holds layout root x.ctype (initial_content (cond b (Some g) (global_of rest a)) path) (slice_index_or (opening_slots (g ∷ rest)) x.at empty)
+      pick true f later = own_holds layout root g rest (All-head HasContents g rest h) path x f
       pick false f later =
           let u = unmoved (cells g.ctype) (place rest) x (sym (into-moved (cells g.ctype) (place_in (map global_object rest) a 0) path) ∙ f) in
           let at : slice_index_or (opening_slots (g ∷ rest)) x.at empty ≡ slice_index_or (opening_slots rest) u.0.at empty =
           ap (λ n. slice_index_or (opening_slots (g ∷ rest)) n empty) u.2 ∙ behind g rest u.0.at (All-head HasContents g rest h) in
-          subst (λ (t : TypeTree). Holds t (initial_content (global_of rest a) path) (slice_index_or (opening_slots (g ∷ rest)) x.at empty)) (sym u.3)
-          (subst (Holds u.0.ctype (initial_content (global_of rest a) path)) (sym at) (later u.0 u.1))
+          subst (λ (t : TypeTree). Holds layout root t (initial_content (global_of rest a) path) (slice_index_or (opening_slots (g ∷ rest)) x.at empty)) (sym u.3)
+          (subst (Holds layout root u.0.ctype (initial_content (global_of rest a) path)) (sym at) (later u.0 u.1))
 
   opened_nothing : (globals : List GlobalTree) → All HasContents globals → place globals ≡ None → initial_content (global_of globals a) path ≡ None
   opened_nothing [] h e = refl
@@ -148,7 +148,7 @@ module _ (a : Name) (path : List Inner) where
       pick : (b : Bool)
           → into (if b && nat_eq 0 0 then Some (inside_at 0 (plain g.ctype)) else moved (cells g.ctype) (place_in (map global_object rest) a 0)) path ≡ None
           → (place rest ≡ None → initial_content (global_of rest a) path ≡ None) → initial_content (cond b (Some g) (global_of rest a)) path ≡ None
-      pick true f later = own_nothing g rest (All-head HasContents g rest h) path f
+      pick true f later = own_nothing layout root g rest (All-head HasContents g rest h) path f
       pick false f later = later (nowhere (place rest) (sym (into-moved (cells g.ctype) (place_in (map global_object rest) a 0) path) ∙ f))
         where
           nowhere : (o : Option Inside) → moved (cells g.ctype) o ≡ None → o ≡ None
@@ -169,13 +169,13 @@ opened_stands P h = record {
 }
   where
     by_root : (r : Root) (p : List Inner) (x : Inside) → slot_of (live (globals_of P) []) (record { root = r; path = p }) ≡ Some x
-        → Holds x.ctype (initial_at (flow_of P) r p) (slice_index_or (opening_slots P.globals) x.at empty)
-    by_root (global_root a) p x e = opened_holds a p P.globals (all_have P h) x e
+        → Holds (live (globals_of P) []) r x.ctype (initial_at (flow_of P) r p) (slice_index_or (opening_slots P.globals) x.at empty)
+    by_root (global_root a) p x e = opened_holds (live (globals_of P) []) (global_root a) a p P.globals (all_have P h) x e
     by_root (local_root k a n) p x e = cc
     by_root (temp_root k n) p x e = cc
 
     by_none : (r : Root) (p : List Inner) → slot_of (live (globals_of P) []) (record { root = r; path = p }) ≡ None → initial_at (flow_of P) r p ≡ None
-    by_none (global_root a) p e = opened_nothing a p P.globals (all_have P h) e
+    by_none (global_root a) p e = opened_nothing (live (globals_of P) []) (global_root a) a p P.globals (all_have P h) e
     by_none (local_root k a n) p e = refl
     by_none (temp_root k n) p e = refl
 

@@ -1,33 +1,36 @@
 -- What bounds frames, arguments and slots.
-use Rattle.std.proofs.Common.{int_eq, pos, ◌≡◌, ◌≤◌, ◌<◌, ◌+◌, ◌*◌, ℕ, ℤ, List, [], ◌∷◌, ◌++◌, length, replicate, All, Bool, true, false, Option, Some, None, nat_le, if◌then◌else◌, refl, ap, sym, subst, arith}
+use Rattle.std.proofs.Common.{int_eq, pos, ◌≡◌, ◌≤◌, ◌<◌, ◌+◌, ◌-◌, ◌*◌, ℕ, zero, suc, ℤ, List, [], ◌∷◌, ◌++◌, length, replicate, All, Bool, true, false, Option, Some, None, nat_le, if◌then◌else◌, refl, ap, sym, subst, arith}
 use Rattle.std.proofs.lemmas.Bool.{leb-false}
+use Rattle.std.proofs.lemmas.List.Elements.{All-nil, All-cons, All-append, All-head, All-tail}
 use Rattle.csub_types.specs.Kinds.{convert}
+use Rattle.csub_types.specs.declared.trap.Trap.TheVariants.{Depth}
+use Rattle.csub_objects.specs.Types.{TypeTree, number_type, array_type, struct_type, loose_type, MemberTree, MemberTrees, no_member, more_members, number_kind, cells, member_cells}
 use Rattle.csub_semantics.specs.declared.label.EndRule.{EndRule}
+use Rattle.csub_semantics.specs.declared.label.EndRule.TheVariants.{Nothing, Value, Main, Start}
 use Rattle.csub_semantics.specs.declared.status.Status.TheVariants.{Exit, Trap}
-use Rattle.csub_semantics.specs.Trees.{NamedPlace, NamedExpr, NamedExprs, NamedArg, variable, element_place, member_place, value_argument}
+use Rattle.csub_semantics.specs.Trees.{NamedPlace, NamedExpr, NamedExprs, NamedArg, variable, element_place, member_place, value_argument, array_argument}
+use Rattle.csub_semantics.specs.Trees.{OwnerTree, global_owner, local_owner, object}
 use Rattle.csub_semantics.specs.Trees.{constant, reading, unary_operation, conversion, stepping, operation, conjunction, disjunction, choice}
 use Rattle.csub_semantics.specs.Trees.{assignment, update, input_byte, output_byte, formatted, no_expr, more_exprs, expr_count}
 use Rattle.csub_semantics.specs.Points.{next, on_true, on_false}
-use Rattle.csub_semantics.specs.Evaluation.{eval}
-use Rattle.csub_flat.specs.Trees.{FlatVariable, FlatArg, FlatCall, FlatLabel, goes_on, leaves_by, does, tests, chooses, answers, halts, enters_callee}
-use Rattle.csub_slots.specs.Memory.{flat}
-use Rattle.std.proofs.lemmas.List.Elements.{All-nil, All-cons, All-head, All-tail}
-use Rattle.csub_types.specs.declared.trap.Trap.TheVariants.{Depth}
-use Rattle.csub_objects.specs.Types.{MemberTree}
-use Rattle.csub_semantics.specs.Labels.{LabelTree, enters, exits, evaluates, initialises, branches, switches, returns, jumps, halts, calls, InitTree, one_value}
+use Rattle.csub_semantics.specs.Labels.{LabelTree, enters, exits, evaluates, initialises, branches, switches, returns, jumps, halts, calls, InitTree, one_value, listed}
+use Rattle.csub_semantics.specs.Labels.{InitTrees, no_init, more_inits}
 use Rattle.csub_semantics.specs.Syntax.{LocalTree, FunctionTree, ProgramTree}
 use Rattle.csub_semantics.specs.Memory.{Answer, value, trapped, low_byte}
+use Rattle.csub_semantics.specs.Evaluation.{eval}
 use Rattle.csub_semantics.specs.Acts.{most_frames}
-use Rattle.csub_semantics.specs.declared.label.EndRule.TheVariants.{Nothing, Value, Main, Start}
-use Rattle.csub_validity.specs.Valid.{IsValid, most_parameters}
+use Rattle.csub_validity.specs.Valid.{IsValid, part_of, most_parameters}
+use Rattle.csub_flat.specs.Trees.{FlatVariable, FlatArg, FlatCall, writes, clears, FlatLabel, goes_on, leaves_by, does, begins, tests, chooses, answers, halts, enters_callee}
+use Rattle.csub_flat.specs.Frames.{objects_size, frame_size, globals_of}
+use Rattle.csub_flat.specs.Fits.{FitsPlace, FitsExpr, FitExprs, FitsArg, FitArgs, FitsInit, FitInits, IsBegun, FitsLabel, FitsCall}
+use Rattle.csub_flat.specs.Flatten.{flat_place, flattened, flattened_row, variable_slot, parameter_slot, flat_given, paired, cleared, flat_writes, element_writes}
+use Rattle.csub_flat.specs.Flatten.{member_writes}
+use Rattle.csub_flat.specs.Copies.{IsFlatCall, IsFlat}
 use Rattle.csub_flat.proofs.LawsSites.{found_has}
 use Rattle.csub_slots.specs.Layout.{empty, live_size}
-use Rattle.csub_flat.specs.Frames.{objects_size, frame_size, globals_of}
-use Rattle.csub_flat.specs.Fits.{FitsPlace, FitsExpr, FitExprs, FitsArg, FitsInit, FitsLabel, FitsCall}
-use Rattle.csub_slots.specs.Acts.{FlatStore, FlatOutcome, leaves, gives, pushes, pops, ends, flat_after, flat_arguments, flat_entered, flat_exit, flat_act}
-use Rattle.csub_flat.specs.Flatten.{flat_place, flattened, flattened_row, flat_parameter, flat_init, paired}
-use Rattle.csub_flat.specs.Copies.{IsFlatCall, IsFlat}
-use Rattle.csub_slots.specs.States.{FewAtPlace, FewValues, FewInRow, FitsMost}
+use Rattle.csub_slots.specs.Memory.{flat}
+use Rattle.csub_slots.specs.Acts.{FlatStore, FlatOutcome, leaves, gives, pushes, pops, ends, flat_after, flat_arguments, flat_entered, flat_begins, flat_exit, flat_act}
+use Rattle.csub_slots.specs.States.{FewAtPlace, FewValues, FewInRow, FewInGiven, FewInWrite, FitsMost}
 
 -- live frames have room for the greatest each
 pub live_room : (gs : List LocalTree) (fs : List FunctionTree) (most : ℕ) → All (λ f. frame_size f ≤ most) fs → live_size gs fs ≤ objects_size gs + length fs * most
@@ -76,17 +79,46 @@ module _ (gs : List LocalTree) (f : FunctionTree) where
     row_few (more_exprs e rest) h = (expr_few e h.0, row_few rest h.1)
 
   abbrev HasFew : FlatArg → Type 0
-  HasFew a = FewValues a.value
+  HasFew a = FewInGiven a.given
 
-  args_few : (g : FunctionTree) (params : List MemberTree) (args : List NamedArg) → All (FitsArg gs f) args → All HasFew (paired gs f g params args)
+  given_few : (p : MemberTree) (a : NamedArg) → FitsArg gs f p a → FewInGiven (flat_given gs f p a)
+  given_few p (value_argument e) h = expr_few e h.1
+  given_few p (array_argument a) h = place_few a h.1
+
+  args_few : (g : FunctionTree) (params : List MemberTree) (args : List NamedArg) → FitArgs gs f params args → All HasFew (paired gs f g params args)
   args_few g [] args h = All-nil HasFew
   args_few g (p ∷ params) [] h = All-nil HasFew
-  args_few g (p ∷ params) (value_argument e ∷ args) h =
-      let rest = args_few g params args (All-tail (FitsArg gs f) (value_argument e) args h) in
-      All-cons HasFew (record { param = flat_parameter g p; value = flattened gs f e }) (paired gs f g params args) (expr_few e (All-head (FitsArg gs f) (value_argument e) args h)) rest
+  args_few g (p ∷ params) (a ∷ args) h =
+      All-cons HasFew (record { slot = parameter_slot g p; given = flat_given gs f p a }) (paired gs f g params args) (given_few p a h.0) (args_few g params args h.1)
 
-  init_few : (owner : _) (t : _) (init : InitTree) → FitsInit gs f init → FewValues (flat_init gs f owner t init)
-  init_few owner t (one_value e) h = (tt, expr_few e h)
+  cleared_few : (s n : ℕ) → All FewInWrite (cleared s n)
+  cleared_few s zero = All-nil FewInWrite
+  cleared_few s (suc n) = All-cons FewInWrite (clears s (suc n)) [] tt (All-nil FewInWrite)
+
+  mutual
+    init_few : (x : InitTree) (t : TypeTree) (s : ℕ) (o : Option TypeTree) → FitsInit gs f o x → All FewInWrite (flat_writes gs f t s x)
+    init_few (one_value e) t s o h = All-cons FewInWrite (writes s (number_kind t) (flattened gs f e)) [] (expr_few e h.1) (All-nil FewInWrite)
+    init_few (listed xs) (number_type k) s o h = All-nil FewInWrite
+    init_few (listed xs) (array_type t n) s o h = elements_few xs t n 0 s o 0 h.1
+    init_few (listed xs) (struct_type tag ms) s o h = members_few xs ms s o 0 h.1
+    init_few (listed xs) (loose_type t) s o h = All-nil FewInWrite
+
+    elements_few : (xs : InitTrees) (t : TypeTree) (n i s : ℕ) (o : Option TypeTree) (j : ℕ) → FitInits gs f o j xs → All FewInWrite (element_writes gs f t n i s xs)
+    elements_few no_init t n i s o j h = cleared_few s ((n - i) * cells t)
+    elements_few (more_inits x rest) t n i s o j h =
+        All-append FewInWrite (flat_writes gs f t s x) (element_writes gs f t n (i + 1) (s + cells t) rest) (init_few x t s (part_of o j) h.0)
+        (elements_few rest t n (i + 1) (s + cells t) o (j + 1) h.1)
+
+    members_few : (xs : InitTrees) (ms : MemberTrees) (s : ℕ) (o : Option TypeTree) (j : ℕ) → FitInits gs f o j xs → All FewInWrite (member_writes gs f ms s xs)
+    members_few no_init ms s o j h = cleared_few s (member_cells ms)
+    members_few (more_inits x rest) no_member s o j h = All-nil FewInWrite
+    members_few (more_inits x rest) (more_members a t ms) s o j h =
+        All-append FewInWrite (flat_writes gs f t s x) (member_writes gs f ms (s + cells t) rest) (init_few x t s (part_of o j) h.0)
+        (members_few rest ms (s + cells t) o (j + 1) h.1)
+
+  begun_few : (owner : OwnerTree) (t : TypeTree) (init : InitTree) (s : ℕ) → IsBegun gs f owner t init → All FewInWrite (flat_writes gs f t s init)
+  begun_few (global_owner a) t init s h = absurd h
+  begun_few (local_owner a n) t init s h = init_few init t s (Some t) h.3
 
 module _ (P : ProgramTree) (f : FunctionTree) (most : ℕ) (valid : IsValid P) (sizes : All (λ f. frame_size f ≤ most) P.functions) where
   call_most : (c : _) (d : FlatCall) → FitsCall P f c → IsFlatCall P f c d → FitsMost most (enters_callee d)
@@ -98,7 +130,7 @@ module _ (P : ProgramTree) (f : FunctionTree) (most : ℕ) (valid : IsValid P) (
       let args = ap length copy.args in
       let e = copy.size in
       let values = args_few (globals_of P) f copy.callee c.params c.args fit.args in
-      (omega arith, omega arith, subst (λ (args : List FlatArg). All (λ a. FewValues a.value) args) (sym copy.args) values)
+      (omega arith, omega arith, subst (λ (args : List FlatArg). All (λ a. FewInGiven a.given) args) (sym copy.args) values)
 
   -- a call of a valid program has a frame no larger than the greatest, and at most 16 arguments; no `printf` has more than
   -- 8 values
@@ -106,7 +138,7 @@ module _ (P : ProgramTree) (f : FunctionTree) (most : ℕ) (valid : IsValid P) (
   fits_most enters m fit copy = subst (FitsMost most) (sym copy) tt
   fits_most (exits rule) m fit copy = subst (FitsMost most) (sym copy) tt
   fits_most (evaluates e) m fit copy = subst (FitsMost most) (sym copy) (expr_few (globals_of P) f e fit)
-  fits_most (initialises owner t init) m fit copy = subst (FitsMost most) (sym copy) (init_few (globals_of P) f owner t init fit.2)
+  fits_most (initialises owner t init) m fit copy = subst (FitsMost most) (sym copy) (begun_few (globals_of P) f owner t init (variable_slot (globals_of P) f (object owner t)) fit)
   fits_most (branches e) m fit copy = subst (FitsMost most) (sym copy) (expr_few (globals_of P) f e fit)
   fits_most (switches e) m fit copy = subst (FitsMost most) (sym copy) (expr_few (globals_of P) f e fit)
   fits_most (returns None) m fit copy = subst (FitsMost most) (sym copy) tt
@@ -144,6 +176,7 @@ pub act_few : (m : FlatLabel) (n base : ℕ) (r : Option ℤ) (s : FlatStore) �
 act_few goes_on n base r s = tt
 act_few (leaves_by rule v) n base r s = exit_few n rule v base r s
 act_few (does e) n base r s = after_few n (eval (flat base) e s) (λ v t. leaves next r t) (λ v t. tt)
+act_few (begins steps) n base r s = after_few n (flat_begins base steps s) (λ x t. leaves next r t) (λ x t. tt)
 act_few (tests e) n base r s = after_few n (eval (flat base) e s) (λ v t. leaves (if int_eq v (pos 0) then on_false else on_true) r t) (λ v t. tt)
 act_few (chooses e) n base r s = after_few n (eval (flat base) e s) gives (λ v t. tt)
 act_few (answers k e) n base r s = after_few n (eval (flat base) e s) (λ v t. leaves next (Some (convert k v)) t) (λ v t. tt)

@@ -11,7 +11,7 @@ use Rattle.program_laws.proofs.LawsNames.{same_name}
 use Rattle.csub_flat.proofs.LawsOrder.{in_order}
 use Rattle.csub_objects.specs.Paths.{Inside, inside_at, moved}
 use Rattle.csub_flat.specs.Frames.{plain, objects_size, place_in, temporary_place, frame_place, frame_size, global_place}
-use Rattle.csub_slots.specs.Layout.{Layout, live_size, live}
+use Rattle.csub_slots.specs.Layout.{Layout, rank, live_size, live}
 use Rattle.csub_slots.proofs.Numbered.{unmoved}
 use Rattle.csub_slots.proofs.Plain.{plain_cells}
 
@@ -183,3 +183,20 @@ module _ (gs : List LocalTree) where
 
   pub live_is_layout : (fs : List FunctionTree) → IsLayout (live gs fs) (live_size gs fs)
   live_is_layout fs = record { within = live_within fs; apart = live_apart fs }
+
+-- a root of a frame is as high as the frame
+pub rank_frame : (h : ℕ) (r : Root) → of_frame h r ≡ true → rank r ≡ h + 1
+rank_frame h (global_root a) e = cc
+rank_frame h (local_root i a n) e = ap (λ k. k + 1) (eqb-true i h e)
+rank_frame h (temp_root i n) e = ap (λ k. k + 1) (eqb-true i h e)
+
+-- a root with a place is no higher than the live frames
+pub rank_live : (gs : List LocalTree) (fs : List FunctionTree) (r : Root) (x : Inside) → live gs fs r ≡ Some x → rank r ≤ length fs
+rank_live gs [] (global_root a) x e = omega arith
+rank_live gs [] (local_root h a n) x e = cc
+rank_live gs [] (temp_root h n) x e = cc
+rank_live gs (f ∷ below) r x e = pick (in_live gs f below r x e) (λ g. rank_live gs below r x g)
+  where
+    pick : InLive gs f below r x → (live gs below r ≡ Some x → rank r ≤ length below) → rank r ≤ length (f ∷ below)
+    pick (on_top y t g m c) again = let k = rank_frame (length below) r t in omega arith
+    pick (lower t g) again = let k = again g in omega arith

@@ -13,4 +13,6 @@ mod Evals
 mod Memories
 mod Copied
 mod Fills
+mod Clears
+mod Initials
 mod Texts

@@ -12,7 +12,7 @@ use Rattle.csub_slots.proofs.Places.{slot_step, placed}
 use Rattle.csub_slots.proofs.Plain.{plain_cells}
 
 -- all cells of a place are below the count
-slot_fits : (layout : Layout) (count : ℕ) → IsLayout layout count → (c : Cell) (x : Inside) → slot_of layout c ≡ Some x → x.at + cells x.ctype ≤ count
+pub slot_fits : (layout : Layout) (count : ℕ) → IsLayout layout count → (c : Cell) (x : Inside) → slot_of layout c ≡ Some x → x.at + cells x.ctype ≤ count
 slot_fits layout count is_layout c x e =
     let p = placed layout c x e in
     let a = within p.object.ctype c.path p.place p.there in

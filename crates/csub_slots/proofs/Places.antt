@@ -69,11 +69,11 @@ slot_below layout count is_layout c x e h =
     let there = is_layout.within c.root p.object p.here in let m = p.at in omega arith
 
 -- what is held for a type that is no leaf says nothing
-pub only_leaves : (t : TypeTree) (o : Option Content) (slot : Slot) → (IsLeaf t → Holds t o slot) → Holds t o slot
-only_leaves (number_type k) o slot f = f tt
-only_leaves (loose_type t) o slot f = f tt
-only_leaves (array_type t n) o slot f = tt
-only_leaves (struct_type tag ms) o slot f = tt
+pub only_leaves : (layout : Layout) (r : Root) (t : TypeTree) (o : Option Content) (slot : Slot) → (IsLeaf t → Holds layout r t o slot) → Holds layout r t o slot
+only_leaves layout r (number_type k) o slot f = f tt
+only_leaves layout r (loose_type t) o slot f = f tt
+only_leaves layout r (array_type t n) o slot f = tt
+only_leaves layout r (struct_type tag ms) o slot f = tt
 
 -- an object's own cell has its place
 pub root_slot : (layout : Layout) (r : Root) (x : Inside) → layout r ≡ Some x → slot_of layout (record { root = r; path = [] }) ≡ Some x

@@ -8,7 +8,8 @@ use Rattle.csub_semantics.specs.Memory.{Answer, value, trapped}
 use Rattle.csub_semantics.specs.Points.{exit_tree}
 use Rattle.csub_semantics.specs.declared.status.Status.TheVariants.{Trap as TrapStatus}
 use Rattle.csub_validity.specs.Valid.{most_values}
-use Rattle.csub_flat.specs.Trees.{FlatPlace, FlatExpr, FlatExprs, FlatLabel, goes_on, leaves_by, does, tests, chooses, answers, halts, enters_callee}
+use Rattle.csub_flat.specs.Trees.{FlatPlace, FlatExpr, FlatExprs, FlatGiven, number_of, array_at, FlatWrite, writes, clears}
+use Rattle.csub_flat.specs.Trees.{FlatLabel, goes_on, leaves_by, does, begins, tests, chooses, answers, halts, enters_callee}
 use Rattle.csub_slots.specs.Acts as the
 use Rattle.csub_slots.specs.Acts.{FlatStore}
 use Rattle.csub_slots.specs.declared.store.Store.{Store}
@@ -75,12 +76,23 @@ abbrev mutual
   FewInRow no_expr = Unit {0}
   FewInRow (more_exprs e rest) = FewValues e × FewInRow rest
 
+-- nor in what an argument gives
+abbrev pub FewInGiven : FlatGiven → Type 0
+FewInGiven (number_of k e) = FewValues e
+FewInGiven (array_at p) = FewAtPlace p
+
+-- nor in a step of an initialiser
+abbrev pub FewInWrite : FlatWrite → Type 0
+FewInWrite (writes at k e) = FewValues e
+FewInWrite (clears at n) = Unit {0}
+
 -- a call's frame is no larger than the greatest, and it has at most 16 arguments; no `printf` has more than 8 values
 abbrev pub FitsMost : ℕ → FlatLabel → Type 0
-FitsMost most (enters_callee c) = (c.size ≤ most) × (length c.args ≤ 16) × All (λ a. FewValues a.value) c.args
+FitsMost most (enters_callee c) = (c.size ≤ most) × (length c.args ≤ 16) × All (λ a. FewInGiven a.given) c.args
 FitsMost most goes_on = Unit {0}
 FitsMost most (leaves_by rule v) = Unit {0}
 FitsMost most (does e) = FewValues e
+FitsMost most (begins steps) = All FewInWrite steps
 FitsMost most (tests e) = FewValues e
 FitsMost most (chooses e) = FewValues e
 FitsMost most (answers k e) = FewValues e

@@ -5,16 +5,17 @@ ghost use Rattle.csub_semantics.specs.declared.status.Status.TheVariants.{Exit};
 ghost use Rattle.csub_semantics.specs.Memory.{low_byte};
 ghost use Rattle.csub_slots.specs.declared.act.Outcome.TheVariants.{Ends};
 ghost use Rattle.csub_slots.specs.Layout as layout;
-ghost use Rattle.csub_slots.specs.Acts.{flat_act, flat_call, flat_exit, flat_arguments, flat_entered, flat_result};
-ghost use Rattle.csub_flat.specs.Seen.{variable_seen, arg_seen, call_seen, label_seen};
+ghost use Rattle.csub_slots.specs.Acts.{flat_act, flat_call, flat_exit, flat_given_slot, flat_arguments, flat_entered, flat_result};
+ghost use Rattle.csub_flat.specs.Seen.{variable_seen, given_seen, arg_seen, call_seen, label_seen};
 ghost use Rattle.csub_slots.specs.Seen.{slot_seen};
-ghost use Rattle.csub_slots.specs.States.{state_of, Gives, Acts, Keeps, FewValues, FitsMost};
+ghost use Rattle.csub_slots.specs.States.{state_of, Gives, Acts, Keeps, FewInGiven, FitsMost};
 
-use crate::eval::{eval, fetch, put_at};
+use crate::eval::{eval, fetch, locate, put_at, put_slot};
+use crate::init::initialise;
 use crate::slot::Slot;
-use crate::spot::stand;
+use crate::spot::{refer_to, stand};
 use crate::store::Store;
-use csub_flat::{FlatArg, FlatCall, FlatLabel, FlatVariable};
+use csub_flat::{FlatArg, FlatCall, FlatGiven, FlatLabel, FlatVariable};
 use csub_semantics::{EndRule, ExitLabel, Status, Trap};
 use csub_types::kind::convert;
 
@@ -56,6 +57,10 @@ pub fn act(
         FlatLabel::Exit(rule, variable) => act_exit(store, *rule, *variable, base, answer),
         FlatLabel::Eval(expr) => {
             eval(store, base, expr)?;
+            Ok(Outcome::Leaves(ExitLabel::Next, answer))
+        }
+        FlatLabel::Init(steps) => {
+            initialise(store, base, steps)?;
             Ok(Outcome::Leaves(ExitLabel::Next, answer))
         }
         FlatLabel::Branch(expr) => {
@@ -113,7 +118,8 @@ fn act_exit(
             Some(value) => Some(value),
         },
         EndRule::Start => {
-            let value = fetch(store, stand(base as usize, first))?;
+            let spot = stand(store.slots.as_slice(), base, first)?;
+            let value = fetch(store, spot)?;
             return Ok(end_with(value));
         }
     };
@@ -136,7 +142,7 @@ fn act_call(store: &mut Store, call: &FlatCall, count: u32, base: u32) -> Result
     requires room { length store.old.slots.items ≤ store.old.sizes.globals + count * store.old.sizes.most }
     requires size { call.now.size ≤ store.old.sizes.most }
     requires args { length (map arg_seen call.now.args.items) ≤ 16 }
-    requires values { All (λ a. FewValues a.value) (map arg_seen call.now.args.items) }
+    requires values { All (λ a. FewInGiven a.given) (map arg_seen call.now.args.items) }
     ensures value { Acts (flat_call (call_seen call.now) count base (state_of store.old)) result (state_of store.new) }
     ensures input { store.new.input.items ≡ store.old.input.items }
     ensures sizes { store.new.sizes ≡ store.old.sizes }
@@ -153,24 +159,42 @@ fn act_call(store: &mut Store, call: &FlatCall, count: u32, base: u32) -> Result
 /// What the arguments of a call give to its parameters, from left to right, goes into the store's values.
 fn eval_args(store: &mut Store, base: u32, args: &[FlatArg]) -> Result<(), Trap>
     requires few { length (map arg_seen args.now) ≤ 16 }
-    requires each { All (λ a. FewValues a.value) (map arg_seen args.now) }
-    ensures value { Gives (λ _. store.new.values.items) (flat_arguments base (map arg_seen args.now) (state_of store.old)) result (state_of store.new) }
+    requires each { All (λ a. FewInGiven a.given) (map arg_seen args.now) }
+    ensures value { Gives (λ _. map slot_seen store.new.values.items) (flat_arguments base (map arg_seen args.now) (state_of store.old)) result (state_of store.new) }
     ensures input { store.new.input.items ≡ store.old.input.items }
     ensures sizes { store.new.sizes ≡ store.old.sizes }
     ensures count { length store.new.slots.items ≡ length store.old.slots.items }
 {
     store.values.clear();
     for arg in args {
-        let value = eval(store, base, &arg.value)?;
-        push_value(&mut store.values, convert(arg.param.form().kind, value));
+        let slot = give(store, base, &arg.given)?;
+        push_value(&mut store.values, slot);
     }
     Ok(())
 }
 
+/// What an argument gives to its parameter.
+fn give(store: &mut Store, base: u32, given: &FlatGiven) -> Result<Slot, Trap>
+    requires { FewInGiven (given_seen given.now) }
+    ensures value { Gives slot_seen (flat_given_slot base (given_seen given.now) (state_of store.old)) result (state_of store.new) }
+    ensures kept { Keeps store.old store.new }
+{
+    match given {
+        FlatGiven::Number(kind, expr) => {
+            let value = eval(store, base, expr)?;
+            Ok(Slot::Holding(convert(*kind, value)))
+        }
+        FlatGiven::Array(place) => {
+            let spot = locate(store, base, place)?;
+            Ok(refer_to(spot))
+        }
+    }
+}
+
 /// One more value, for which there is room.
-fn push_value(values: &mut Vec<i64>, value: i64)
+fn push_value(values: &mut Vec<Slot>, value: Slot)
     requires { vec_len values.old < vec_capacity values.old }
-    ensures items { values.new.items ≡ values.old.items ++ value ∷ [] }
+    ensures items { map slot_seen values.new.items ≡ map slot_seen values.old.items ++ slot_seen value ∷ [] }
     ensures len { vec_len values.new ≡ vec_len values.old + 1 }
     ensures capacity { vec_capacity values.old ≤ vec_capacity values.new }
 {
@@ -182,7 +206,7 @@ fn enter(store: &mut Store, size: u32, args: &[FlatArg], count: u32)
     requires few { count < 256 }
     requires room { length store.old.slots.items ≤ store.old.sizes.globals + count * store.old.sizes.most }
     requires size { size ≤ store.old.sizes.most }
-    ensures value { state_of store.new ≡ record (state_of store.old) { cells = flat_entered (length (map slot_seen store.old.slots.items)) (map arg_seen args.now) store.old.values.items (map slot_seen store.old.slots.items ++ replicate size layout.empty) } }
+    ensures value { state_of store.new ≡ record (state_of store.old) { cells = flat_entered (length (map slot_seen store.old.slots.items)) (map arg_seen args.now) (map slot_seen store.old.values.items) (map slot_seen store.old.slots.items ++ replicate size layout.empty) } }
     ensures input { store.new.input.items ≡ store.old.input.items }
     ensures sizes { store.new.sizes ≡ store.old.sizes }
 {
@@ -205,7 +229,7 @@ pub fn grow(slots: &mut Vec<Slot>, size: usize)
 fn fill(store: &mut Store, base: usize, args: &[FlatArg])
     requires base { base ≤ length store.old.slots.items }
     requires small { base ≤ 4294967295 }
-    ensures value { state_of store.new ≡ record (state_of store.old) { cells = flat_entered base (map arg_seen args.now) store.old.values.items (map slot_seen store.old.slots.items) } }
+    ensures value { state_of store.new ≡ record (state_of store.old) { cells = flat_entered base (map arg_seen args.now) (map slot_seen store.old.values.items) (map slot_seen store.old.slots.items) } }
     ensures input { store.new.input.items ≡ store.old.input.items }
     ensures sizes { store.new.sizes ≡ store.old.sizes }
 {
@@ -214,8 +238,7 @@ fn fill(store: &mut Store, base: usize, args: &[FlatArg])
             return;
         }
         let value = store.values[i];
-        let spot = stand(base, args[i].param);
-        put_at(store, spot.slot, value);
+        put_slot(store, base + args[i].slot as usize, value);
     }
 }
 

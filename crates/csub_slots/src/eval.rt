@@ -1,5 +1,5 @@
 //! What expressions give, over slots. Nothing here takes memory.
-ghost use Rattle.std.specs.Prelude.{ℕ, ◌≡◌, ◌≤◌, [], length, map, All, slice_index_or, slice_set, Ok};
+ghost use Rattle.std.specs.Prelude.{ℕ, ◌≡◌, ◌≤◌, [], length, map, All, slice_set, Ok};
 ghost use Rattle.csub_types.specs.Kinds.{promote, convert};
 ghost use Rattle.csub_types.specs.Arithmetic.{unary, binary};
 ghost use Rattle.csub_semantics.specs.Trees.{formatted, exprs_of};
@@ -13,7 +13,7 @@ ghost use Rattle.csub_slots.specs.Seen.{slot_seen, spot_seen};
 ghost use Rattle.csub_slots.specs.States.{state_of, Gives, same, Keeps, FewAtPlace, FewValues};
 
 use crate::output::{write_format, write_low};
-use crate::slot::Slot;
+use crate::slot::{Slot, set_slot, slot_at};
 use crate::spot::{Spot, element, member, stand};
 use crate::store::Store;
 use arrayvec::ArrayVec;
@@ -45,24 +45,12 @@ fn compute_unary(op: UnaryOp, kind: IntKind, operand: i64) -> Result<i64, Trap>
     unary(op, promoted, convert(promoted, operand))
 }
 
-/// The slot at a place; behind the last one nothing.
-fn slot_at(slots: &[Slot], at: usize) -> Slot
-    ensures { slot_seen result ≡ slice_index_or (map slot_seen slots.now) at layout.empty }
+/// A slot gets a content.
+pub fn put_slot(store: &mut Store, at: usize, slot: Slot)
+    ensures value { state_of store.new ≡ record (state_of store.old) { cells = slice_set (map slot_seen store.old.slots.items) at (slot_seen slot) } }
+    ensures kept { Keeps store.old store.new }
 {
-    if at < slots.len() {
-        slots[at]
-    } else {
-        Slot::Empty
-    }
-}
-
-/// Puts a number into a slot.
-fn set_slot(slots: &mut [Slot], at: usize, value: i64)
-    ensures { map slot_seen slots.new ≡ slice_set (map slot_seen slots.old) at (layout.holding value) }
-{
-    if at < slots.len() {
-        slots[at] = Slot::Holding(value);
-    }
+    set_slot(store.slots.as_mut_slice(), at, slot);
 }
 
 /// A number goes into a slot.
@@ -70,7 +58,7 @@ pub fn put_at(store: &mut Store, at: usize, value: i64)
     ensures value { state_of store.new ≡ record (state_of store.old) { cells = slice_set (map slot_seen store.old.slots.items) at (layout.holding value) } }
     ensures kept { Keeps store.old store.new }
 {
-    set_slot(store.slots.as_mut_slice(), at, value);
+    put_slot(store, at, Slot::Holding(value));
 }
 
 /// The next byte of the input, or -1 at its end (C11 7.21.7.6).
@@ -93,7 +81,7 @@ pub fn fetch(store: &Store, spot: Spot) -> Result<i64, Trap>
 {
     match slot_at(store.slots.as_slice(), spot.slot) {
         Slot::Holding(value) => Ok(convert(spot.form.kind, value)),
-        Slot::Empty => Err(Trap::Unset),
+        Slot::Empty | Slot::Referring(_, _) => Err(Trap::Unset),
     }
 }
 
@@ -127,13 +115,13 @@ fn step(store: &mut Store, op: StepOp, spot: Spot) -> Result<i64, Trap>
 
 /// Where a place is for the frame at a base; an index comes behind the place that it stands on.
 #[cycle(expressions)]
-fn locate(store: &mut Store, base: u32, place: &FlatPlace) -> Result<Spot, Trap>
+pub fn locate(store: &mut Store, base: u32, place: &FlatPlace) -> Result<Spot, Trap>
     requires { FewAtPlace (place_seen place.now) }
     ensures value { Gives spot_seen (locate (flat base) (place_seen place.now) (state_of store.old)) result (state_of store.new) }
     ensures kept { Keeps store.old store.new }
 {
     match place {
-        FlatPlace::Variable(variable) => Ok(stand(base as usize, *variable)),
+        FlatPlace::Variable(variable) => stand(store.slots.as_slice(), base, *variable),
         FlatPlace::Element(part, array, index) => {
             let spot = locate(store, base, array)?;
             let value = eval(store, base, index)?;

@@ -10,8 +10,12 @@
 //!   (`specs/Memory`).
 //! - [`act::put_result`]: a result goes into the slot of the call's temporary.
 //!
-//! Proofs above cite `proofs/LawsActs`: the act of a flat copy is like the act of its label over named cells, where no
-//! more slots are live than can be numbered;
+//! A slot may refer to an array, as that of an array parameter does: it says where the array begins and how many elements
+//! it has. The array is among the globals, or in the frame of the slot or one below it, so that it is there as long as the
+//! slot is (`Refers` of `specs/Layout`).
+//!
+//! Proofs above cite `proofs/LawsActs`: the act of a flat copy is like the act of its label over named cells, where the
+//! globals are valid and no more slots are live than can be referred to;
 //! `proofs/LawsFrames`: how frames come and go, and where results go; `proofs/LawsBegins`: the slots at the beginning of a
 //! run stand for its first cells; and `proofs/LawsBounds`: what bounds frames, arguments, values of a `printf` and slots.
 #![tactic(auto)]
@@ -19,6 +23,7 @@
 pub mod act;
 mod begin;
 mod eval;
+mod init;
 mod output;
 mod slot;
 mod spot;

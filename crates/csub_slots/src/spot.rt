@@ -1,14 +1,19 @@
 //! Where places are among the slots.
-ghost use Rattle.std.specs.Prelude.{◌≡◌, ◌≤◌};
+ghost use Rattle.std.specs.Prelude.{◌≡◌, map};
+ghost use Rattle.csub_semantics.specs.Memory.{found};
 ghost use Rattle.csub_semantics.specs.Evaluation.{indexed};
-ghost use Rattle.csub_flat.specs.Seen.{variable_seen, part_seen};
-ghost use Rattle.csub_slots.specs.Memory.{flat_spot, part_at, spots};
-ghost use Rattle.csub_slots.specs.Acts.{FlatStore};
-ghost use Rattle.csub_slots.specs.Seen.{spot_seen};
+ghost use Rattle.csub_flat.specs.Seen.{form_seen, variable_seen, part_seen};
+ghost use Rattle.csub_slots.specs.Memory.{behind, flat_stand, part_at, spots};
+ghost use Rattle.csub_slots.specs.Acts.{FlatStore, referring_to};
+ghost use Rattle.csub_slots.specs.Seen.{slot_seen, spot_seen};
 ghost use Rattle.csub_slots.specs.States.{Gives};
 
+use crate::slot::{Slot, slot_at};
 use csub_flat::{FlatPart, FlatVariable, Form};
 use csub_semantics::Trap;
+
+/// The greatest number of a slot to which another may refer.
+const MOST_REFERRED: usize = 4_294_967_295;
 
 /// A place among the slots.
 #[derive(Clone, Copy, Debug, PartialEq, Eq)]
@@ -19,20 +24,39 @@ pub struct Spot {
     pub form: Form,
 }
 
-/// Where a variable is, for the frame whose slots begin at a base.
-pub fn stand(base: usize, variable: FlatVariable) -> Spot
-    requires { base ≤ 4294967295 }
-    ensures { spot_seen result ≡ flat_spot base (variable_seen variable) }
+/// Where the array is to which a slot refers; a slot that refers to none is the trap `unset`.
+fn behind(form: Form, slot: Slot) -> Result<Spot, Trap>
+    ensures { (s : FlatStore) → Gives spot_seen (found (behind (form_seen form) (slot_seen slot)) s) result s }
+{
+    match slot {
+        Slot::Referring(at, length) => Ok(Spot {
+            slot: at as usize,
+            form: Form {
+                kind: form.kind,
+                length,
+            },
+        }),
+        Slot::Empty | Slot::Holding(_) => Err(Trap::Unset),
+    }
+}
+
+/// Where a variable is, for the frame whose slots begin at a base. An array parameter is where its slot refers to, and is
+/// the trap `unset` where it got no array.
+pub fn stand(slots: &[Slot], base: u32, variable: FlatVariable) -> Result<Spot, Trap>
+    ensures { (s : FlatStore) → Gives spot_seen (found (flat_stand base (variable_seen variable) (map slot_seen slots.now)) s) result s }
 {
     match variable {
-        FlatVariable::Frame(slot, form) => Spot {
-            slot: base + slot as usize,
+        FlatVariable::Frame(slot, form) => Ok(Spot {
+            slot: base as usize + slot as usize,
             form,
-        },
-        FlatVariable::Global(slot, form) => Spot {
+        }),
+        FlatVariable::Global(slot, form) => Ok(Spot {
             slot: slot as usize,
             form,
-        },
+        }),
+        FlatVariable::Referring(slot, form) => {
+            behind(form, slot_at(slots, base as usize + slot as usize))
+        }
     }
 }
 
@@ -61,4 +85,11 @@ pub fn member(part: FlatPart, spot: Spot) -> Spot
     ensures { spot_seen result ≡ spots.member (part_seen part) (spot_seen spot) }
 {
     part_at(part, spot, part.slots as usize)
+}
+
+/// A reference to the array at a spot.
+pub fn refer_to(spot: Spot) -> Slot
+    ensures { slot_seen result ≡ referring_to (spot_seen spot) }
+{
+    Slot::Referring(spot.slot.min(MOST_REFERRED) as u32, spot.form.length)
 }

@@ -19,8 +19,8 @@ pub struct Store {
     pub slots: Vec<Slot>,
     /// How many slots the run takes.
     pub sizes: Sizes,
-    /// The values of a call's arguments, while it is made.
-    pub values: Vec<i64>,
+    /// What the arguments of a call give to its parameters, while it is made.
+    pub values: Vec<Slot>,
     ghost room: { 16384 ≤ vec_capacity output },
     ghost slots_room: { sizes.globals + 256 * sizes.most ≤ vec_capacity slots },
     ghost values_room: { 16 ≤ vec_capacity values },

@@ -3,8 +3,7 @@ use denote.Param.Weighed.{at_most}
 use Rattle.csub_semantics.specs.declared.expression.Piece.{Piece}
 use Rattle.csub_semantics.specs.declared.expression.RExpr.{RExpr, the_lemmas}
 use Rattle.csub_semantics.specs.Trees.{formatted, exprs_of, expr_tree}
-use Rattle.csub_semantics.proofs.expression.RExpr.TheLaws.{the_size}
-use Rattle.csub_semantics.proofs.LawsRows.{expr_tree-Printf}
+use Rattle.csub_semantics.proofs.LawsRows.{expr_size, expr_tree-Printf}
 use Rattle.csub_flat.specs.Trees.{FlatExpr, FlatExprs}
 use Rattle.csub_flat.specs.Flatten.{flattened}
 use Rattle.csub_flat.specs.Fits.{FitsExpr}
@@ -37,6 +36,6 @@ flatten_expr-returns-in_ok-flatten_exprs-in-Printf t c =
 
 pub flatten_exprs-flatten_expr-requires : goal.flatten_exprs-flatten_expr-requires
 flatten_exprs-flatten_expr-requires t c =
-    let less = at_most the_size c.args.exprs.now c.loop-expr.expr-index c.expr-item.result c.loop-expr-test.true in
-    let same = ap the_size c.expr-item.is in
+    let less = at_most expr_size c.args.exprs.now c.loop-expr.expr-index c.expr-item.result c.loop-expr-test.true in
+    let same = ap expr_size c.expr-item.is in
     (search rules, mapped_has (FitsExpr (globals_at c.args.scope) (function_at c.args.scope)) expr_tree c.args.exprs.now c.loop-expr.expr-index c.expr-item.result c.requires c.loop-expr-test.true c.expr-item.is)

@@ -7,8 +7,8 @@ use Rattle.csub_slots.proofs.act.fill.Given as goal
 abbrev pub invariant-loop-i : goal.invariant-loop-i
 invariant-loop-i l = record {
   slots :
-      flat_entered l.base (map arg_seen (drop l.i l.args)) (drop l.i l.store.values.items) (map slot_seen l.store.slots.items)
-      ≡ flat_entered l.base (map arg_seen l.args) l.fn.store.values.items (map slot_seen l.fn.store.slots.items);
+      flat_entered l.base (map arg_seen (drop l.i l.args)) (map slot_seen (drop l.i l.store.values.items)) (map slot_seen l.store.slots.items)
+      ≡ flat_entered l.base (map arg_seen l.args) (map slot_seen l.fn.store.values.items) (map slot_seen l.fn.store.slots.items);
   count : l.base ≤ length l.store.slots.items;
   values : l.store.values.items ≡ l.fn.store.values.items;
   rest : drop l.store.place l.store.input.items ≡ drop l.fn.store.place l.fn.store.input.items;

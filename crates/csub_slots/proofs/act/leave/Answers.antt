@@ -1,14 +1,10 @@
-use Rattle.std.proofs.Common.{◌≡◌, ◌∙◌, ℕ, zero, suc, [], ◌∷◌, ap, map, take, List, refl}
+use Rattle.std.proofs.Common.{◌∙◌, ap, map, List}
 use Rattle.csub_slots.specs.Layout as layout
 use Rattle.csub_slots.specs.Acts.{FlatStore}
 use Rattle.csub_slots.specs.Seen.{slot_seen}
 use Rattle.csub_slots.specs.States.{state_of}
+use Rattle.csub_slots.proofs.Fills.{map_take}
 use Rattle.csub_slots.proofs.act.leave.Goals as goal
-
-map_take : {X Y : Type 0} (f : X → Y) (n : ℕ) (xs : List X) → map f (take n xs) ≡ take n (map f xs)
-map_take f zero xs = refl
-map_take f (suc n) [] = refl
-map_take f (suc n) (x ∷ xs) = ap (λ ys. f x ∷ ys) (map_take f n xs)
 
 pub returns-clause-value : goal.returns-clause-value
 returns-clause-value c =
