@@ -15,14 +15,18 @@ use csub_types::IntKind;
 
 /// What a called name is.
 #[derive(Clone, Copy)]
-pub(crate) enum Callee<'t> {
+pub enum Callee<'t> {
     /// No function.
     Unknown,
     /// A function of the source.
     User(&'t Signature),
+    /// `getchar` (C11 7.21.7.6).
     Getchar,
+    /// `putchar` (C11 7.21.7.8).
     Putchar,
+    /// `printf` (C11 7.21.6.3).
     Printf,
+    /// `exit` (C11 7.22.4.4).
     Exit,
 }
 
@@ -88,7 +92,7 @@ fn declared_callee<'t>(scope: &'t Scope, name: &[u8]) -> Callee<'t>
 }
 
 /// What a called name is.
-pub(crate) fn callee_of<'t>(scope: &'t Scope, name: &[u8]) -> Callee<'t>
+pub fn callee_of<'t>(scope: &'t Scope, name: &[u8]) -> Callee<'t>
     ensures { the_callee result ≡ callee_of (scope_of scope.now) name.now }
 {
     match library_name(name) {

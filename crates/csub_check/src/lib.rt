@@ -9,7 +9,7 @@
 #![tactic(auto)]
 
 mod arguments;
-mod callee;
+pub mod callee;
 pub mod checked;
 pub mod constants;
 pub mod expression;
@@ -21,6 +21,7 @@ pub mod sort;
 pub mod standing;
 pub mod uses;
 
+pub use callee::{Callee, callee_of};
 pub use checked::Checked;
 pub use constants::{constant, is_constant};
 pub use expression::check;

@@ -1,0 +1,4 @@
+mod Called
+mod Fits
+pub mod LawsExits
+mod Places

@@ -1,0 +1,4 @@
+pub mod Calls
+pub mod Definitions
+pub mod Formats
+pub mod Made
