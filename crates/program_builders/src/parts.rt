@@ -21,11 +21,24 @@ fn member_of(alloc: Global, name: &[u8], kind: IntKind) -> Result<Member, AllocE
 }
 
 /// `struct pair { int x; char y; }`, which is there, since the names differ.
-fn pair_type(alloc: Global) -> Result<Option<CType>, AllocError> {
+pub fn pair_type(alloc: Global) -> Result<Option<CType>, AllocError> {
     let mut members = Vec::new(alloc);
     members.push(member_of(alloc, b"x", IntKind::Int)?)?;
     members.push(member_of(alloc, b"y", IntKind::Char)?)?;
     struct_of(alloc, Text::new(alloc, b"pair")?, members)
+}
+
+/// `struct tag { ctype name; }`, which is there, since it has one member alone.
+pub fn struct_with(
+    alloc: Global,
+    tag: &[u8],
+    name: &[u8],
+    ctype: CType,
+) -> Result<Option<CType>, AllocError> {
+    let mut members = Vec::new(alloc);
+    let name = Text::new(alloc, name)?;
+    members.push(Member { name, ctype })?;
+    struct_of(alloc, Text::new(alloc, tag)?, members)
 }
 
 /// `struct pair [2]`

@@ -9,14 +9,14 @@ use Rattle.std.proofs.lemmas.Int.{ints}
 use Rattle.csub_text.specs.declared.span.Span.{Span}
 use Rattle.csub_types.specs.declared.kind.IntKind.TheVariants.{Int}
 use Rattle.csub_types.specs.Kinds.{IsOf}
-use Rattle.csub_objects.specs.Types.{Name, kinds, IsNumber, IsSized}
+use Rattle.csub_objects.specs.Types.{Name, kinds, IsSized}
 use Rattle.csub_semantics.specs.Syntax.{PartTree, StmtTree, stmts_of, FunctionTree, ProgramTree}
 use Rattle.csub_semantics.specs.Points.{PointTree}
 use Rattle.csub_semantics.specs.Points as points
 use Rattle.csub_semantics.specs.Labels.{exits}
 use Rattle.csub_semantics.specs.Successors.{Node, Around, Mark, leaving, enter_list, marks, marks_list, marks_else, nodes_list}
 use Rattle.csub_semantics.specs.Flows.{to_exit, goto_of, end_rule, function_nodes, PlacedNode, placed, point_list, edges_from, edge_list}
-use Rattle.csub_validity.specs.Valid.{IsPart, AreParts, most_entries, stmt_count, no_loop, IsStmt, AreStmts, IsElse, labels_of, objects_of, AreOther, AreDeclared, frame_cells, AreOf, IsValid}
+use Rattle.csub_validity.specs.Valid.{IsPart, AreParts, most_entries, stmt_count, no_loop, IsStmt, AreStmts, IsElse, labels_of, objects_of, AreOther, AreDeclared, IsParameter, HasOwnNames, AgreeOn, frame_cells, AreOf, IsValid}
 use Rattle.csub_validity.specs.declared.role.Role.TheVariants.{Whole}
 use Rattle.read_small.specs.declared.plain.Plain.{Plain}
 use Rattle.read_small.specs.declared.plain.Plain.TheVariants.{Writes, Gives}
@@ -184,8 +184,10 @@ valid_program place lines spelled fits =
           (subst (λ ms. AllPairs (λ a b. a ≢ b) (map (λ m. m.name) ms)) (sym (no_marks lines 0 points.at to_exit)) (λ i j d less below. absurd (omega (arith, below))));
       objects = two (λ h. AllPairs AreOther (objects_of h)) f g (λ i j d less below. absurd (omega (arith, below))) (λ i j d less below. absurd (omega (arith, below)));
       types = two AreDeclared f g
-          (record { params = All-nil (λ p. IsNumber p.ctype); locals = All-nil (λ v. IsSized v.ctype) })
-          (record { params = All-nil (λ p. IsNumber p.ctype); locals = All-nil (λ v. IsSized v.ctype) });
+          (record { params = All-nil (λ p. IsParameter p.ctype); locals = All-nil (λ v. IsSized v.ctype) })
+          (record { params = All-nil (λ p. IsParameter p.ctype); locals = All-nil (λ v. IsSized v.ctype) });
+      names = All-nil HasOwnNames;
+      tags = All-nil (λ a. All (AgreeOn a) []);
       functions = omega arith;
       points = omega (arith, points_of place lines, counted.points, bytes, fits);
       edges = omega (arith, edges_of place lines, counted.ways, bytes, fits);
