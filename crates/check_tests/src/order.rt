@@ -11,7 +11,7 @@ fn the_earlier_place_is_told(rt: HostRuntime) -> Result<(), Fail> {
         &[
             ("@x = 1; int p;", 1, "x"),
             ("int @p; x = 1;", 2, "p"),
-            ("@break; goto a;", 16, "break;"),
+            ("@break; goto a;", 16, "break"),
             ("goto @a; break;", 17, "a"),
             ("a: ; @a: ; x = 1;", 2, "a"),
             ("a: ; @x = 1; a: ;", 1, "x"),

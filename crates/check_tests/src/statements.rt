@@ -1,4 +1,4 @@
-//! Returns, jumps and the labels of a `switch` (M15 to M18). Where a word is told, its whole line is.
+//! Returns, jumps and the labels of a `switch` (M15 to M18).
 use crate::reading::agrees;
 use std::test::Fail;
 
@@ -10,9 +10,9 @@ fn a_void_function_returns_nothing(rt: HostRuntime) -> Result<(), Fail> {
         rt.alloc(),
         "void f(void)",
         &[
-            ("@return 1;", 15, "return 1;"),
+            ("@return 1;", 15, "return"),
             ("return;", 0, ""),
-            ("@return x;", 15, "return x;"),
+            ("@return x;", 15, "return"),
             ("", 0, ""),
         ],
     )
@@ -26,9 +26,9 @@ fn an_int_function_returns_a_number(rt: HostRuntime) -> Result<(), Fail> {
         rt.alloc(),
         "int f(int p)",
         &[
-            ("@return;", 15, "return;"),
+            ("@return;", 15, "return"),
             ("return 1;", 0, ""),
-            ("if (p) return p; else @return;", 15, "return;"),
+            ("if (p) return p; else @return;", 15, "return"),
             ("struct point s; return @s;", 7, "s"),
             ("", 0, ""),
         ],
@@ -43,14 +43,14 @@ fn jumps_stand_in_what_they_leave(rt: HostRuntime) -> Result<(), Fail> {
         rt.alloc(),
         "int f(int p)",
         &[
-            ("@break;", 16, "break;"),
+            ("@break;", 16, "break"),
             ("while (p) break;", 0, ""),
             ("switch (p) { break; }", 0, ""),
-            ("switch (p) { default: @continue; }", 16, "continue;"),
+            ("switch (p) { default: @continue; }", 16, "continue"),
             ("do switch (p) { default: continue; } while (p);", 0, ""),
             ("for (; ; ) { if (p) continue; else break; }", 0, ""),
-            ("while (p) ; @continue;", 16, "continue;"),
-            ("switch (p) { } if (p) @break;", 16, "break;"),
+            ("while (p) ; @continue;", 16, "continue"),
+            ("switch (p) { } if (p) @break;", 16, "break"),
         ],
     )
 }
@@ -116,7 +116,7 @@ fn a_switch_has_one_default(rt: HostRuntime) -> Result<(), Fail> {
         rt.alloc(),
         "int f(int p)",
         &[
-            ("switch (p) { default: ; @default : ; }", 18, "default :"),
+            ("switch (p) { default: ; @default : ; }", 18, "default"),
             ("switch (p) { default: switch (p) { default: ; } }", 0, ""),
             ("switch (p) { case 0: default: ; case 1: }", 0, ""),
         ],

@@ -56,7 +56,7 @@ pub fn declare(here: &mut Here, name: &Text, ctype: Option<CType>) -> Result<(),
 }
 
 /// Enters a block.
-pub(crate) fn enter(here: &mut Here) -> Result<(), AllocError>
+pub fn enter(here: &mut Here) -> Result<(), AllocError>
     ensures { OnOk result (here_of here.new ≡ entering (here_of here.old)) }
 {
     if here.depth >= 4_294_967_295 {
@@ -67,7 +67,7 @@ pub(crate) fn enter(here: &mut Here) -> Result<(), AllocError>
 }
 
 /// Leaves a block, which was entered at this depth and with so many names in scope.
-pub(crate) fn leave(here: &mut Here, depth: u32, mark: usize)
+pub fn leave(here: &mut Here, depth: u32, mark: usize)
     ensures scope { here_of here.new ≡ closed (here_of here.old) depth mark }
 {
     here.scope.names.close(mark);

@@ -17,8 +17,9 @@ pub mod surroundings;
 mod switch;
 
 pub use body::check_body;
-pub use here::{Here, declare, is_declared};
+pub use here::{Here, declare, enter, is_declared, leave};
 pub use labels::stands_in;
 pub use local::check_declaration;
 pub use statement::check_statement;
 pub use surroundings::Surroundings;
+pub use switch::switch_kind;

@@ -14,7 +14,7 @@ use crate::here::{Here, enter, leave};
 use crate::local::check_declaration;
 use crate::surroundings::{Surroundings, in_first_part, in_loop, in_switch, is_label};
 use crate::switch::{Seen, label_of, note, switch_kind};
-use csub_check::{Use, check_use, is_reserved};
+use csub_check::{Use, check_use, first_bytes, is_reserved};
 use csub_rules::{Fault, earlier, fault_if};
 use csub_scopes::Scope;
 use csub_text::Span;
@@ -37,9 +37,9 @@ fn check_return(around: Surroundings, scope: &Scope, e: &Option<Expr>, at: Span)
     ensures { result ≡ return_fault (the_surroundings around.entry) (scope_of scope.now) (option_map expr_tree e.now) at }
 {
     match e {
-        None => fault_if(around.result.is_some(), 15, at),
+        None => fault_if(around.result.is_some(), 15, first_bytes(6, at)),
         Some(e) => earlier(
-            fault_if(around.result.is_none(), 15, at),
+            fault_if(around.result.is_none(), 15, first_bytes(6, at)),
             check_use(scope, Use::Number, e),
         ),
     }
@@ -111,8 +111,8 @@ pub fn check_statement(
         }
         StmtKind::Case(e) => Ok(check_use(&here.scope, Use::Constant, e)),
         StmtKind::Default => Ok(None),
-        StmtKind::Break => Ok(fault_if(!around.can_break, 16, s.span)),
-        StmtKind::Continue => Ok(fault_if(!around.can_continue, 16, s.span)),
+        StmtKind::Break => Ok(fault_if(!around.can_break, 16, first_bytes(5, s.span))),
+        StmtKind::Continue => Ok(fault_if(!around.can_continue, 16, first_bytes(8, s.span))),
         StmtKind::Goto(x) => Ok(fault_if(!is_label(around, x.text.bytes()), 17, x.span)),
         StmtKind::Label(x, inner) => {
             let reserved = fault_if(is_reserved(x.text.bytes()), 3, x.span);

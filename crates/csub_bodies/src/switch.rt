@@ -9,7 +9,7 @@ ghost use Rattle.csub_tree.specs.Statements.{stmt_tree};
 ghost use Rattle.csub_bodies.specs.Switches.{inserted, label_at, seen_of};
 
 use csub_check::sort::the_kind;
-use csub_check::{Standing, check, constant};
+use csub_check::{Standing, check, constant, first_bytes};
 use csub_rules::{Fault, fault_if};
 use csub_scopes::Scope;
 use csub_text::Span;
@@ -33,7 +33,7 @@ pub(crate) struct Seen {
 }
 
 /// The promoted kind of a switch's expression.
-pub(crate) fn switch_kind(scope: &Scope, e: &Expr) -> IntKind
+pub fn switch_kind(scope: &Scope, e: &Expr) -> IntKind
     ensures { result ≡ switch_kind (scope_of scope.now) (expr_tree e.now) }
 {
     promote(the_kind(check(scope, Standing::Operand, e).sort))
@@ -53,7 +53,7 @@ pub(crate) fn label_of(kind: IntKind, scope: &Scope, line: &Stmt) -> Option<Labe
         },
         StmtKind::Default => Some(LabelAt {
             value: None,
-            span: line.span,
+            span: first_bytes(7, line.span),
         }),
         _ => None,
     }

@@ -1,4 +1,4 @@
-//! Kinds of what operators give.
+//! Kinds of what operators give, and in which they are computed.
 ghost use Rattle.std.specs.Prelude.{◌≡◌};
 ghost use Rattle.csub_types.specs.Arithmetic.{binary_kind, unary_kind};
 ghost use Rattle.csub_types.specs.Kinds.{IsPromoted};
@@ -9,7 +9,7 @@ use csub_tree::TypeName;
 use csub_types::{IntKind, common, promote};
 
 /// The kind of a number as it is written (C11 6.4.4.1p5).
-pub(crate) fn number_literal_kind(number: u32, suffix: bool) -> IntKind
+pub fn number_literal_kind(number: u32, suffix: bool) -> IntKind
     ensures { result ≡ number_literal_kind number suffix }
 {
     if suffix || number > 2_147_483_647 {
@@ -20,7 +20,7 @@ pub(crate) fn number_literal_kind(number: u32, suffix: bool) -> IntKind
 }
 
 /// The kind that a cast names (C11 6.5.4p2).
-pub(crate) fn named_kind(name: &TypeName) -> IntKind
+pub fn named_kind(name: &TypeName) -> IntKind
     ensures { result ≡ named_kind name.now }
 {
     match name {
@@ -34,7 +34,7 @@ pub(crate) fn named_kind(name: &TypeName) -> IntKind
 
 /// The kind in which an operation is computed: a shift promotes its left operand alone (C11 6.5.7p3), the others convert
 /// both to their common kind (6.3.1.8p1).
-pub(crate) fn operation_kind(op: BinOp, a: IntKind, b: IntKind) -> IntKind
+pub fn operation_kind(op: BinOp, a: IntKind, b: IntKind) -> IntKind
     ensures value { result ≡ operation_kind op a b }
     ensures promoted { IsPromoted result }
 {
@@ -45,7 +45,7 @@ pub(crate) fn operation_kind(op: BinOp, a: IntKind, b: IntKind) -> IntKind
 }
 
 /// The kind of an operation's result: `int` for a comparison (C11 6.5.8p6 and 6.5.9p3).
-pub(crate) fn binary_kind(op: BinOp, kind: IntKind) -> IntKind
+pub fn binary_kind(op: BinOp, kind: IntKind) -> IntKind
     ensures { result ≡ binary_kind op kind }
 {
     match op {
@@ -55,7 +55,7 @@ pub(crate) fn binary_kind(op: BinOp, kind: IntKind) -> IntKind
 }
 
 /// The kind of a result of `+`, `-`, `!` or `~`: `int` for `!` (C11 6.5.3.3p5).
-pub(crate) fn unary_kind(op: UnaryOp, kind: IntKind) -> IntKind
+pub fn unary_kind(op: UnaryOp, kind: IntKind) -> IntKind
     ensures { result ≡ unary_kind op kind }
 {
     match op {

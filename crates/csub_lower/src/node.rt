@@ -10,8 +10,8 @@ ghost use Rattle.csub_rules.specs.ExprSorts.{named_kind, number_literal_kind, op
 ghost use Rattle.csub_resolution.specs.Values.{assigned, first_value, no_place};
 ghost use Rattle.csub_lower.specs.Made.{made_place, made_sort, made_value};
 
-use crate::kind::{binary_kind, named_kind, number_literal_kind, operation_kind, unary_kind};
 use crate::made::{Made, Number, to_array, to_number_place, to_struct};
+use csub_check::{binary_kind, named_kind, number_literal_kind, operation_kind, unary_kind};
 use csub_objects::{CType, copy_type};
 use csub_semantics::{Owner, Piece, Place, RExpr};
 use csub_text::{BinOp, StepOp, UnaryOp};

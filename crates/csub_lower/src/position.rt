@@ -1,20 +1,11 @@
 //! The tokens that points are named by.
 ghost use Rattle.std.specs.Prelude.{◌≡◌};
 ghost use Rattle.csub_tree.specs.Expressions.{expr_tree};
-ghost use Rattle.csub_resolution.specs.Positions.{first_bytes, first_of_step, first_token};
+ghost use Rattle.csub_resolution.specs.Positions.{first_of_step, first_token};
 
+use csub_check::first_bytes;
 use csub_text::{Span, StepOp};
 use csub_tree::{Expr, ExprKind};
-
-/// The first bytes of what stands at a place, as many as `count` where it has so many.
-pub fn first_bytes(count: u32, span: Span) -> Span
-    ensures { result ≡ first_bytes count span }
-{
-    Span {
-        start: span.start,
-        end: span.start.saturating_add(count).min(span.end),
-    }
-}
 
 /// The first token of a `++` or `--` at a place, whose operand has its first token there: the operator or the operand
 /// (C11 6.5.3.1 and 6.5.2.4).

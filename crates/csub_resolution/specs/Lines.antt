@@ -25,7 +25,8 @@ use Rattle.csub_rules.specs.Locals.{past_var}
 use Rattle.csub_rules.specs.Past.{past, past_perhaps}
 use Rattle.csub_rules.specs.CaseLabels.{switch_kind}
 use Rattle.csub_units.specs.Heads.{sure_type}
-use Rattle.csub_resolution.specs.Positions.{first_token, word_return, word_goto, word_for}
+use Rattle.csub_rules.specs.Words.{word_return, word_goto, word_for}
+use Rattle.csub_resolution.specs.Positions.{first_token}
 use Rattle.csub_resolution.specs.Values as values
 use Rattle.csub_resolution.specs.Contents.{init_value, init_calls}
 
@@ -68,6 +69,15 @@ abbrev mutual
 -- the own point of a part, at its place
 abbrev pub own : LabelTree → Span → PartTree
 own label at = record { label = label; span = at } ∷ []
+
+-- the parts of an expression statement or a declaration, as the first part of a `for` is one (C11 6.8.5.3p1)
+abbrev pub own_parts : StmtTree → List PartTree
+own_parts (parts ps) = ps
+own_parts s = []
+
+-- the value of a `case`, converted to the kind of its `switch` (C11 6.8.4.2p5)
+abbrev pub case_value : IntKind → Scope → Expr → ℤ
+case_value kind scope e = convert kind (unwrap_or (rules.constant scope e) (pos 0))
 
 module _ (defined : List values.Defined) where
   abbrev pub calls_in : Scope → Expr → List Stage
@@ -126,17 +136,6 @@ module _ (defined : List values.Defined) where
   abbrev pub declare_parts : Here → Declare → List PartTree
   declare_parts here d = vars_parts here (base_type here.scope d.base) d.vars
 
-  -- the first part of a `for`
-  abbrev pub first_parts : Here → Perhaps → List PartTree
-  first_parts here NoStmt = []
-  first_parts here (OneStmt (Line (Declared d) s)) = declare_parts here d
-  first_parts here (OneStmt (Line (Eval e) s)) = effect_part here.scope e ∷ []
-  first_parts here (OneStmt (Line k s)) = []
-
-  -- the value of a `case`, converted to the kind of its `switch` (C11 6.8.4.2p5)
-  abbrev pub case_value : IntKind → Scope → Expr → ℤ
-  case_value kind scope e = convert kind (unwrap_or (rules.constant scope e) (pos 0))
-
   module _ (result : Option IntKind) where
     -- a statement of a function with this result, among the lines of a `switch` of a kind
     abbrev mutual
@@ -162,6 +161,10 @@ module _ (defined : List values.Defined) where
       line_kind kind here (Goto x) s = goes_to x.text (own jumps (word_goto s))
       line_kind kind here (Label x a) s = marked x.text (line Int here a)
       line_kind kind here (Return e) s = parts (return_part result here.scope e s ∷ [])
+
+      pub first_parts : Here → Perhaps → List PartTree
+      first_parts here NoStmt = []
+      first_parts here (OneStmt a) = own_parts (line Int here a)
 
       pub other_line : Here → Perhaps → ElseTree
       other_line here NoStmt = no_else

@@ -1,14 +1,10 @@
--- The places in the source that points are named by: a token each.
-use Rattle.std.specs.Prelude.{ℕ, ◌+◌, min}
+-- The first token of an expression, which its point is named by.
 use Rattle.csub_text.specs.declared.span.Span.{Span}
 use Rattle.csub_text.specs.declared.operator.StepOp.{StepOp}
 use Rattle.csub_text.specs.declared.operator.StepOp.TheVariants.{PreUp, PreDown, PostUp, PostDown}
 use Rattle.csub_tree.specs.Expressions.{Expr, Kind, Node, Number, Char, Text, Named, Paren, Unary, Cast, Step, Binary, And, Or}
 use Rattle.csub_tree.specs.Expressions.{Choose, Assign, Call, Index, Member}
-
--- the first n bytes of what stands at a place
-abbrev pub first_bytes : ℕ → Span → Span
-first_bytes n s = record { start = s.start; end = min (s.start + n) s.end }
+use Rattle.csub_rules.specs.Words.{first_bytes}
 
 -- `++` or `--` stands before its operand or behind it (C11 6.5.3.1 and 6.5.2.4)
 abbrev pub first_of_step : StepOp → Span → Span → Span
@@ -39,13 +35,3 @@ abbrev mutual
   first_of (Call f args) s = f.span
   first_of (Index a i) s = first_token a
   first_of (Member a m) s = first_token a
-
--- the words of a `return`, of a `goto`, and of a `for`, which its test is named by where it has none
-abbrev pub word_return : Span → Span
-word_return s = first_bytes 6 s
-
-abbrev pub word_goto : Span → Span
-word_goto s = first_bytes 4 s
-
-abbrev pub word_for : Span → Span
-word_for s = first_bytes 3 s

@@ -5,6 +5,7 @@ use Rattle.csub_text.specs.declared.span.Span.{Span}
 use Rattle.csub_tree.specs.Statements.{Stmt, Perhaps, Stmts, Line, Declared, Eval, Empty, Block, If, While, Do, For, Switch}
 use Rattle.csub_tree.specs.Statements.{Case, Default, Break, Continue, Goto, Label, Return, NoStmt, OneStmt, NoStmts, MoreStmts}
 use Rattle.csub_scopes.specs.Scopes.{Scope, HasTypes}
+use Rattle.csub_rules.specs.Words.{word_break, word_continue, word_return}
 use Rattle.csub_rules.specs.Faults.{fault_if}
 use Rattle.csub_rules.specs.Uses.{Use, as_part, as_number, as_constant, use_fault}
 use Rattle.csub_rules.specs.Here.{Here, entering, is_reserved}
@@ -37,10 +38,10 @@ fine_part scope u (Some e) types p = fine_use scope types u e p
 
 fine_return : (a : Surroundings) (scope : Scope) (o : Option Expr) (s : Span) → HasTypes scope → return_fault a scope o s ≡ None
     → FineReturn a scope o
-fine_return a scope None s types p = is_false (is_some a.result) (no_test (is_some a.result) 15 s p)
+fine_return a scope None s types p = is_false (is_some a.result) (no_test (is_some a.result) 15 (word_return s) p)
 fine_return a scope (Some e) s types p =
-    let q = neither (fault_if (not (is_some a.result)) 15 s) (use_fault scope as_number e) p in
-    (holds (is_some a.result) 15 s q.0, fine_use scope types as_number e q.1)
+    let q = neither (fault_if (not (is_some a.result)) 15 (word_return s)) (use_fault scope as_number e) p in
+    (holds (is_some a.result) 15 (word_return s) q.0, fine_use scope types as_number e q.1)
 
 mutual
   pub stmt_found : (a : Surroundings) (h : Here) (t : Stmt) → HasTypes h.scope → stmt_fault a h t ≡ None → StmtFound a h t
@@ -86,8 +87,8 @@ mutual
       }
   stmt_found a h (Line (Case e) s) types p = record { fine = fine_use h.scope types as_constant e p; types = types }
   stmt_found a h (Line Default s) types p = record { fine = tt; types = types }
-  stmt_found a h (Line Break s) types p = record { fine = holds a.can_break 16 s p; types = types }
-  stmt_found a h (Line Continue s) types p = record { fine = holds a.can_continue 16 s p; types = types }
+  stmt_found a h (Line Break s) types p = record { fine = holds a.can_break 16 (word_break s) p; types = types }
+  stmt_found a h (Line Continue s) types p = record { fine = holds a.can_continue 16 (word_continue s) p; types = types }
   stmt_found a h (Line (Goto n) s) types p = record { fine = holds (is_label a.labels n.text) 17 n.span p; types = types }
   stmt_found a h (Line (Label n x) s) types p =
       let q = neither (fault_if (is_reserved n.text) 3 n.span) (stmt_fault a h x) p in

@@ -6,6 +6,7 @@ use Rattle.csub_tree.specs.Expressions.{Expr}
 use Rattle.csub_tree.specs.Statements.{Stmt, Perhaps, Stmts, Line, Declared, Eval, Empty, Block, If, While, Do, For, Switch}
 use Rattle.csub_tree.specs.Statements.{Case, Default, Break, Continue, Goto, Label, Return, NoStmt, OneStmt, NoStmts, MoreStmts}
 use Rattle.csub_scopes.specs.Scopes.{Scope}
+use Rattle.csub_rules.specs.Words.{word_break, word_continue, word_return}
 use Rattle.csub_rules.specs.declared.fault.Fault.{Fault}
 use Rattle.csub_rules.specs.Faults.{fault_if, Covers, IsFirst}
 use Rattle.csub_rules.specs.Uses.{Use, as_part, as_number, as_constant, use_fault}
@@ -49,9 +50,9 @@ own a h t f (by_part a' h' t' scope u e g i b) = of_part a h t scope u e f i (co
 own a h t f (by_declaration a' h' d s g b) = covered_declare h d f b
 own a h t f (m3_label a' h' n x s p) = search (on_left, tested)
 own a h t f (m15_value a' h' e s p) = let q = not_some a.result p in search (on_left, tested)
-own a h t f (m15_none a' h' k s p) = tested (is_some a.result) 15 s (some a.result k p)
-own a h t f (m16_break a' h' s p) = tested (not a.can_break) 16 s (is_false a.can_break p)
-own a h t f (m16_continue a' h' s p) = tested (not a.can_continue) 16 s (is_false a.can_continue p)
+own a h t f (m15_none a' h' k s p) = tested (is_some a.result) 15 (word_return s) (some a.result k p)
+own a h t f (m16_break a' h' s p) = tested (not a.can_break) 16 (word_break s) (is_false a.can_break p)
+own a h t f (m16_continue a' h' s p) = tested (not a.can_continue) 16 (word_continue s) (is_false a.can_continue p)
 own a h t f (m17 a' h' n s p) = tested (not (is_label a.labels n.text)) 17 n.span p
 own a h t f (m18 a' h' e ss s at w) = search (on_right, covered_labels (switch_kind h.scope e) (entering h) [] ss at w)
 
@@ -129,7 +130,7 @@ no_flag true h = absurd (cc)
 no_flag false h = refl
 
 has_result : (a : Surroundings) (h : Here) (s : Span) (o : Option IntKind) → a.result ≡ o → IsTrue (is_some o)
-    → StmtBreaks a h (Line (Return None) s) (record { rule = 15; span = s })
+    → StmtBreaks a h (Line (Return None) s) (record { rule = 15; span = word_return s })
 has_result a h s None e p = absurd (cc)
 has_result a h s (Some k) e p = m15_none a h k s e
 
@@ -179,16 +180,16 @@ mutual
       (down_lines (sound_lines (in_switch a) (entering h) ss) (λ c l v w. in_lines e s w))) (labels a h e ss s)
   sound_stmt a h (Line (Case e) s) = part a h (Line (Case e) s) h.scope as_constant e (of_case a h e s)
   sound_stmt a h (Line Default s) = nothing
-  sound_stmt a h (Line Break s) = test a h (Line Break s) (not a.can_break) 16 s (λ p. m16_break a h s (no_flag a.can_break p))
-  sound_stmt a h (Line Continue s) = test a h (Line Continue s) (not a.can_continue) 16 s (λ p. m16_continue a h s (no_flag a.can_continue p))
+  sound_stmt a h (Line Break s) = test a h (Line Break s) (not a.can_break) 16 (word_break s) (λ p. m16_break a h s (no_flag a.can_break p))
+  sound_stmt a h (Line Continue s) = test a h (Line Continue s) (not a.can_continue) 16 (word_continue s) (λ p. m16_continue a h s (no_flag a.can_continue p))
   sound_stmt a h (Line (Goto n) s) = test a h (Line (Goto n) s) (not (is_label a.labels n.text)) 17 n.span (λ p. m17 a h n s p)
   sound_stmt a h (Line (Label n x) s) =
       join (test a h (Line (Label n x) s) (is_reserved n.text) 3 n.span (λ p. m3_label a h n x s p))
       (down (sound_stmt a h x) (λ c l v w. in_label n s w))
   sound_stmt a h (Line (Return None) s) =
-      test a h (Line (Return None) s) (is_some a.result) 15 s (λ p. has_result a h s a.result refl p)
+      test a h (Line (Return None) s) (is_some a.result) 15 (word_return s) (λ p. has_result a h s a.result refl p)
   sound_stmt a h (Line (Return (Some e)) s) =
-      join (test a h (Line (Return (Some e)) s) (not (is_some a.result)) 15 s (λ p. m15_value a h e s (none a.result p)))
+      join (test a h (Line (Return (Some e)) s) (not (is_some a.result)) 15 (word_return s) (λ p. m15_value a h e s (none a.result p)))
       (part a h (Line (Return (Some e)) s) h.scope as_number e (of_return a h e s))
 
   pub sound_lines : (a : Surroundings) (h : Here) (ss : Stmts) → Gives (lines_fault a h ss) (BrokenLines a h ss)

@@ -11,6 +11,7 @@ use Rattle.csub_scopes.specs.Scopes.{Scope}
 use Rattle.csub_rules.specs.declared.fault.Fault.{Fault}
 use Rattle.csub_rules.specs.Uses.{Use, as_part, as_number, as_constant}
 use Rattle.csub_rules.specs.BrokenUse.{BrokenUse}
+use Rattle.csub_rules.specs.Words.{word_break, word_continue, word_return}
 use Rattle.csub_rules.specs.Here.{Here, entering, is_reserved}
 use Rattle.csub_rules.specs.Past.{past, past_perhaps}
 use Rattle.csub_rules.specs.CaseLabels.{switch_kind}
@@ -70,15 +71,16 @@ pub data StmtBreaks : Surroundings → Here → Stmt → Fault → Type 0 where
       → StmtBreaks a h (Line (Label n x) s) (record { rule = 3; span = n.span })
   -- a `return` has a value in a function without one
   m15_value : (a : Surroundings) (h : Here) (e : Expr) (s : Span) → a.result ≡ None
-      → StmtBreaks a h (Line (Return (Some e)) s) (record { rule = 15; span = s })
+      → StmtBreaks a h (Line (Return (Some e)) s) (record { rule = 15; span = word_return s })
   -- a `return` has none in a function with one
   m15_none : (a : Surroundings) (h : Here) (k : IntKind) (s : Span) → a.result ≡ Some k
-      → StmtBreaks a h (Line (Return None) s) (record { rule = 15; span = s })
+      → StmtBreaks a h (Line (Return None) s) (record { rule = 15; span = word_return s })
   -- a `break` stands outside a loop or `switch`
-  m16_break : (a : Surroundings) (h : Here) (s : Span) → a.can_break ≡ false → StmtBreaks a h (Line Break s) (record { rule = 16; span = s })
+  m16_break : (a : Surroundings) (h : Here) (s : Span) → a.can_break ≡ false
+      → StmtBreaks a h (Line Break s) (record { rule = 16; span = word_break s })
   -- a `continue` stands outside a loop
   m16_continue : (a : Surroundings) (h : Here) (s : Span) → a.can_continue ≡ false
-      → StmtBreaks a h (Line Continue s) (record { rule = 16; span = s })
+      → StmtBreaks a h (Line Continue s) (record { rule = 16; span = word_continue s })
   -- a `goto` names no label of its function
   m17 : (a : Surroundings) (h : Here) (n : Name) (s : Span) → IsTrue (not (is_label a.labels n.text))
       → StmtBreaks a h (Line (Goto n) s) (record { rule = 17; span = n.span })

@@ -13,6 +13,7 @@ use Rattle.csub_rules.specs.Faults.{fault_if, ◌or_earlier◌}
 use Rattle.csub_rules.specs.Sorts.{the_kind}
 use Rattle.csub_rules.specs.ExprSorts.{sort_of}
 use Rattle.csub_rules.specs.Constants.{constant}
+use Rattle.csub_rules.specs.Words.{word_default}
 use Rattle.csub_rules.specs.Here.{Here}
 use Rattle.csub_rules.specs.Past.{past}
 
@@ -39,7 +40,7 @@ switch_kind scope e = promote (the_kind (sort_of scope e))
 -- the label that a line of a switch is, its value converted to this kind (C11 6.8.4.2p5); none where it is no constant
 abbrev pub label_of : IntKind → Scope → Stmt → Option LabelAt
 label_of k scope (Line (Case e) s) = option_map (λ v. record { label = a_value (convert k v); span = span_of e }) (constant scope e)
-label_of k scope (Line Default s) = Some (record { label = the_default; span = s })
+label_of k scope (Line Default s) = Some (record { label = the_default; span = word_default s })
 label_of k scope (Line line s) = None
 
 abbrev pub with_label : List CaseLabel → Option LabelAt → List CaseLabel

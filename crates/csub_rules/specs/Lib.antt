@@ -28,5 +28,6 @@ pub mod BrokenLabel
 pub mod BrokenStmt
 pub mod FineStmt
 pub mod StmtLaws
+pub mod Words
 pub mod Labels
 pub mod Bodies

@@ -11,6 +11,7 @@ use Rattle.csub_scopes.specs.Scopes.{Scope}
 use Rattle.csub_rules.specs.declared.fault.Fault.{Fault}
 use Rattle.csub_rules.specs.Faults.{fault_if, ◌or_earlier◌}
 use Rattle.csub_rules.specs.Uses.{Use, as_part, as_number, as_constant, use_fault}
+use Rattle.csub_rules.specs.Words.{word_break, word_continue, word_return}
 use Rattle.csub_rules.specs.Here.{Here, entering, is_reserved}
 use Rattle.csub_rules.specs.Locals.{declare_fault}
 use Rattle.csub_rules.specs.Past.{past, past_perhaps}
@@ -45,8 +46,8 @@ part_fault scope u (Some e) = use_fault scope u e
 
 -- M15: a `return` without a value in a function that has one, or with a value in another (C11 6.8.6.4p1)
 abbrev pub return_fault : Surroundings → Scope → Option Expr → Span → Option Fault
-return_fault around scope None s = fault_if (is_some around.result) 15 s
-return_fault around scope (Some e) s = fault_if (not (is_some around.result)) 15 s or_earlier use_fault scope as_number e
+return_fault around scope None s = fault_if (is_some around.result) 15 (word_return s)
+return_fault around scope (Some e) s = fault_if (not (is_some around.result)) 15 (word_return s) or_earlier use_fault scope as_number e
 
 -- the earliest fault of a statement
 abbrev mutual
@@ -73,8 +74,8 @@ abbrev mutual
   line_fault around here (Case e) s = use_fault here.scope as_constant e
   line_fault around here Default s = None
   -- M16: a `break` outside a loop or `switch`, or a `continue` outside a loop (C11 6.8.6.3p1 and 6.8.6.2p1)
-  line_fault around here Break s = fault_if (not around.can_break) 16 s
-  line_fault around here Continue s = fault_if (not around.can_continue) 16 s
+  line_fault around here Break s = fault_if (not around.can_break) 16 (word_break s)
+  line_fault around here Continue s = fault_if (not around.can_continue) 16 (word_continue s)
   line_fault around here (Goto x) s = fault_if (not (is_label around.labels x.text)) 17 x.span
   line_fault around here (Label x a) s = fault_if (is_reserved x.text) 3 x.span or_earlier stmt_fault around here a
   line_fault around here (Return e) s = return_fault around here.scope e s
