@@ -219,3 +219,14 @@ length-edges_of (f ∷ fs) =
 pub some_is_left : (r : Option ℕ) (P : Type 0) (v : ℕ) → SomeIff r P v → IsTrue (is_some r) ↔ P
 some_is_left None P v h = (λ t. cc, λ p. absurd (h p))
 some_is_left (Some x) P v h = (λ t. h.0, λ p. refl)
+
+-- what is taken away of a limit is the count
+pub none_counted : (r : Option ℕ) (most n : ℕ) → r ≡ None → SomeIff r (n ≤ most) (most - n) → n ≤ most → ⊥
+none_counted r most n is h = let left : SomeIff None (n ≤ most) (most - n) = subst (λ o. SomeIff o (n ≤ most) (most - n)) is h in left
+
+pub counted : (r : Option ℕ) (most n room : ℕ) → r ≡ Some room → SomeIff r (n ≤ most) (most - n) → (n ≤ most) × (most - room ≡ n)
+counted r most n room is h =
+    let left : (n ≤ most) × (room ≡ most - n) = subst (λ o. SomeIff o (n ≤ most) (most - n)) is h in
+    let few = left.0 in
+    let rest = left.1 in
+    (few, omega arith)

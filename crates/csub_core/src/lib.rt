@@ -2,9 +2,10 @@
 //! `csub_semantics`; both are given on from here, with the types of the latter.
 //!
 //! What is promised of the code: [`Program::make`] gives a program exactly where its functions are valid, and a
-//! [`Program`] stays valid (the contracts of its methods). The decisions on statements, on counts and on whole programs
-//! stand here, by those on expressions, objects and calls in `csub_validity`; `specs/Checks` names what they are made
-//! of. Proofs above cite `proofs/LawsThreads`: a program may cross threads.
+//! [`Program`] stays valid (the contracts of its methods). [`point_count`] and [`edge_count`] tell how large functions are.
+//! The decisions on statements, on counts and on whole programs stand here, by those on expressions, objects and calls in
+//! `csub_validity`; `specs/Checks` names what they are made of. Proofs above cite `proofs/LawsThreads`: a program may cross
+//! threads.
 #![tactic(auto)]
 
 pub mod program;
@@ -17,3 +18,4 @@ pub use csub_semantics::{
     copy_label,
 };
 pub use program::Program;
+pub use valid::counts::{edge_count, point_count};

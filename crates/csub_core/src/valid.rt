@@ -11,7 +11,7 @@ ghost use Rattle.csub_validity.specs.Checks.{tree_of};
 ghost use Rattle.csub_core.specs.Checks.{IsWithinLimits, HasEnds, AreNamed, HasFunctions, IsFramed, AreDefined, IsFunction, HasLabels, HasObjects, HasTypes, IsSmall};
 
 mod cases;
-mod counts;
+pub(crate) mod counts;
 mod globals;
 mod labels;
 mod objects;

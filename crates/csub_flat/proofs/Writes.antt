@@ -1,6 +1,6 @@
 -- The steps of an initialiser, part by part.
 use Rattle.std.proofs.Common.{◌≡◌, ◌≤◌, ◌<◌, ◌∙◌, ℕ, zero, suc, ◌+◌, ◌-◌, ◌*◌, nat_lt, List, [], ◌++◌, map, drop, length, get_or, Bool, true, false, Some, None, if◌then◌else◌, IsTrue, refl, ap, sym, subst, arith, add-one, append_assoc}
-use Rattle.std.proofs.lemmas.List.{drop_more, drop_all}
+use Rattle.std.proofs.lemmas.List.{drop_more}
 use Rattle.csub_objects.specs.Types.{Name, TypeTree, number_type, array_type, struct_type, loose_type}
 use Rattle.csub_objects.specs.Types.{MemberTrees, no_member, more_members, cells, member_cells}
 use Rattle.csub_objects.specs.Parts.{member_at, part_type, has_parts}
@@ -8,7 +8,7 @@ use Rattle.csub_semantics.specs.declared.label.RInit.{RInit}
 use Rattle.csub_semantics.specs.Labels.{InitTree, one_value, listed, InitTrees, no_init, more_inits, init_tree, inits_of}
 use Rattle.csub_semantics.specs.Syntax.{LocalTree, FunctionTree}
 use Rattle.csub_flat.specs.Trees.{FlatWrite}
-use Rattle.csub_flat.specs.Flatten.{cleared, flat_writes, element_writes, member_writes}
+use Rattle.csub_flat.specs.Flatten.{flat_writes, element_writes, member_writes}
 use Rattle.csub_flat.specs.Fits.{FitsInit, FitInits}
 
 -- ---- the parts of an object from one on
@@ -89,12 +89,6 @@ module _ (gs : List LocalTree) (f : FunctionTree) where
       ∙ ap (λ j. flat_writes gs f u s x ++ member_writes gs f (members_from ms j) (s + cells u) rest) (sym (add-one i))
   writes_next (loose_type t) i u s x rest e = cc
 
-  writes_last : (t : TypeTree) (i s : ℕ) → writes_from t i s no_init ≡ cleared s (left_from t i)
-  writes_last (number_type k) i s = refl
-  writes_last (array_type t n) i s = refl
-  writes_last (struct_type tag ms) i s = refl
-  writes_last (loose_type t) i s = refl
-
   -- what isn't there has no initialiser
   no_part : (x : InitTree) → FitsInit gs f None x → ⊥
   no_part (one_value e) h = h.0
@@ -152,15 +146,3 @@ module _ {gs : List LocalTree} {f : FunctionTree} {entries : List RInit} {t : Ty
             ∙ ap (λ xs. done ++ writes_from gs f t k at xs) (sym (inits_next gs f entries k x within is))
             ∙ h.steps;
       }
-
-  pub begun_within : at ≤ slot + cells t
-  begun_within = let room = h.room in omega arith
-
-  -- behind the last entry, the parts that are left are cleared
-  pub begun_last : {all : List FlatWrite} → length entries ≤ k → all ≡ done ++ cleared at (slot + cells t - at)
-      → all ≡ old ++ flat_writes gs f t slot (listed (inits_from gs f entries 0))
-  begun_last end added =
-      let left : slot + cells t - at ≡ left_from t k = let room = h.room in omega arith in
-      added ∙ ap (λ n. done ++ cleared at n) left ∙ ap (λ ws. done ++ ws) (sym (writes_last gs f t k at))
-      ∙ ap (λ (xs : List RInit). done ++ writes_from gs f t k at (inits_of (map init_tree xs))) (sym (drop_all k entries end))
-      ∙ h.steps

@@ -63,6 +63,28 @@ pub(crate) fn has_few_edges(functions: &[Function]) -> bool
     room_after_functions(functions, Measure::Edges, MOST_EDGES).is_some()
 }
 
+/// How many points the functions have: each has an entry and an exit, and each stage is one. None where they are more than a
+/// `usize` tells.
+pub fn point_count(functions: &[Function]) -> Option<usize>
+    ensures { SomeIff result (length (points_of (map function_tree functions.now)) ≤ 18446744073709551615) (length (points_of (map function_tree functions.now))) }
+{
+    match room_after_functions(functions, Measure::Points, usize::MAX) {
+        None => None,
+        Some(room) => Some(usize::MAX - room),
+    }
+}
+
+/// How many edges the functions have: an entry and each stage have one, but a test has two, a `switch` one for each case and
+/// one beside, and `exit` none. None where they are more than a `usize` tells.
+pub fn edge_count(functions: &[Function]) -> Option<usize>
+    ensures { SomeIff result (length (edges_of (map function_tree functions.now)) ≤ 18446744073709551615) (length (edges_of (map function_tree functions.now))) }
+{
+    match room_after_functions(functions, Measure::Edges, usize::MAX) {
+        None => None,
+        Some(room) => Some(usize::MAX - room),
+    }
+}
+
 /// What is left of `most` after the count of the functions.
 fn room_after_functions(functions: &[Function], measure: Measure, most: usize) -> Option<usize>
     ensures { SomeIff result (sum_by (λ f. count_function measure (function_tree f)) functions.now ≤ most) (most - sum_by (λ f. count_function measure (function_tree f)) functions.now) }

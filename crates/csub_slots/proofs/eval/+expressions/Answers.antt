@@ -9,8 +9,7 @@ use Rattle.csub_semantics.specs.Evaluation.{locate, eval, indexed}
 use Rattle.csub_flat.specs.Trees.{FlatExpr}
 use Rattle.csub_flat.specs.declared.flat.FlatExpr.{FlatExpr as CodeExpr, the_lemmas}
 use Rattle.csub_flat.specs.Seen.{part_seen, place_seen, expr_seen}
-use Rattle.csub_flat.proofs.flat.FlatExpr.TheLaws.{the_size}
-use Rattle.csub_flat.proofs.LawsRows.{expr_seen-Printf, mapped_has}
+use Rattle.csub_flat.proofs.LawsRows.{expr_seen-Printf, flat_size, mapped_has}
 use Rattle.csub_slots.specs.Memory.{FlatSpot, flat}
 use Rattle.csub_slots.specs.Acts.{FlatStore}
 use Rattle.csub_slots.specs.Seen.{spot_seen}
@@ -58,6 +57,6 @@ eval-returns-in-Printf-clause-value t c =
 
 pub eval_values-eval-requires : goal.eval_values-eval-requires
 eval_values-eval-requires t c =
-    let less = at_most the_size c.args.exprs.now c.loop-expr.expr-index c.expr-item.result c.loop-expr-test.true in
-    let size = ap the_size c.expr-item.is in
+    let less = at_most flat_size c.args.exprs.now c.loop-expr.expr-index c.expr-item.result c.loop-expr-test.true in
+    let size = ap flat_size c.expr-item.is in
     (search rules, mapped_has FewValues expr_seen c.args.exprs.now c.loop-expr.expr-index c.expr-item.result c.requires.each c.loop-expr-test.true c.expr-item.is)
