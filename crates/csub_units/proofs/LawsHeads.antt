@@ -5,7 +5,6 @@ use Rattle.csub_tree.specs.Declarations.{Param, Head}
 use Rattle.csub_scopes.specs.Scopes.{Scope, find}
 use Rattle.csub_rules.specs.declared.fault.Fault.{Fault}
 use Rattle.csub_rules.specs.Faults.{◌or_earlier◌, Covers}
-use Rattle.csub_rules.specs.ExprSorts.{number_of}
 use Rattle.csub_rules.specs.Params.{param_fault, BrokenParam}
 use Rattle.csub_rules.specs.Here.{Here, is_declared, is_reserved}
 use Rattle.csub_rules.proofs.LawsEarlier.{on_left, on_right, tested}

@@ -5,6 +5,7 @@ pub mod LawsEnums
 pub mod LawsHeads
 pub mod LawsItems
 pub mod LawsUnits
+pub mod LawsFineItems
 mod Loops
 mod ParamTypes
 mod ConstantLoop

@@ -7,6 +7,7 @@ pub mod Items
 pub mod Units
 pub mod BrokenObject
 pub mod BrokenItem
+pub mod FineItems
 pub mod UnitLaws
 pub mod Views
 pub mod HeadNames

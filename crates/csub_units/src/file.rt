@@ -64,12 +64,8 @@ pub(crate) fn check_tag(scope: &Scope, x: &Name) -> Option<Fault>
     earlier(twice, reserved)
 }
 
-/// Declares a name at file scope.
-pub(crate) fn declare_name(
-    scope: &mut Scope,
-    name: &Text,
-    meaning: Meaning,
-) -> Result<(), AllocError>
+/// Declares a name at file scope. An `Err` is want of memory.
+pub fn declare_name(scope: &mut Scope, name: &Text, meaning: Meaning) -> Result<(), AllocError>
     ensures { OnOk result (scope_of scope.new ≡ naming (scope_of scope.old) name.now (meaning_of meaning)) }
 {
     scope.names.declare(name, 0, meaning)

@@ -24,7 +24,7 @@ use csub_types::IntKind;
 use std::alloc::{AllocError, Global};
 
 /// The kind of a function's result; none for `void`.
-pub(crate) fn number_of(name: &TypeName) -> Option<IntKind>
+pub fn number_of(name: &TypeName) -> Option<IntKind>
     ensures { result ≡ number_of name.now }
 {
     match name {
@@ -37,7 +37,7 @@ pub(crate) fn number_of(name: &TypeName) -> Option<IntKind>
 }
 
 /// Enters the scope of parameters: a block round which no block stands, and in which nothing is declared (C11 6.2.1p4).
-pub(crate) fn enter_params(alloc: Global, here: &mut Here)
+pub fn enter_params(alloc: Global, here: &mut Here)
     ensures { here_of here.new ≡ at_params (here_of here.old).scope }
 {
     here.depth = 1;
@@ -45,7 +45,7 @@ pub(crate) fn enter_params(alloc: Global, here: &mut Here)
 }
 
 /// Leaves it, which was entered with so many names in scope.
-pub(crate) fn leave_params(here: &mut Here, mark: usize)
+pub fn leave_params(here: &mut Here, mark: usize)
     ensures { (here_of here.new).scope ≡ (closed (here_of here.old) 0 mark).scope }
 {
     here.scope.names.close(mark);

@@ -3,7 +3,7 @@
 //! `specs/` says twice which rule is broken: `BrokenObject` and `BrokenItem` have a constructor for each rule and for each
 //! place, and `Files`, `Objects`, `Structs`, `Enums`, `Heads`, `Items` and `Units` say what is declared behind each item, and
 //! compute the fault that is told. What is promised of them, in the contracts of [`laws`]: a fault is a broken rule, no rule
-//! is broken before it, and where there is no fault, no rule is broken.
+//! is broken before it, and where there is no fault, no rule is broken and each item can be resolved (`FineItems`).
 //!
 //! [`check_unit`] gives the fault of a whole source as `unit_fault` says, and [`check_item`] that of an item in what is declared
 //! before it, a [`File`]. They take time in proportion to the source and the types that it compares, save for a hash of each

@@ -13,8 +13,8 @@ use csub_scopes::{Meaning, Scope};
 use csub_tree::{Declarator, Declare, Init};
 use std::alloc::{AllocError, Global};
 
-/// What a declared object means.
-fn global_meaning(ctype: &Option<CType>) -> Result<Meaning, AllocError>
+/// What a declared object means. An `Err` is want of memory.
+pub fn global_meaning(ctype: &Option<CType>) -> Result<Meaning, AllocError>
     ensures { IfOk result (λ made. meaning_of made ≡ global_meaning (option_map type_tree ctype.now)) }
 {
     match ctype {

@@ -44,8 +44,8 @@ fn loose_if(alloc: Global, element: Option<CType>) -> Result<Option<CType>, Allo
     }
 }
 
-/// The type of a parameter.
-fn param_type(alloc: Global, scope: &Scope, p: &Param) -> Result<Option<CType>, AllocError>
+/// The type of a parameter; none where its declaration breaks a rule. An `Err` is want of memory.
+pub fn param_type(alloc: Global, scope: &Scope, p: &Param) -> Result<Option<CType>, AllocError>
     ensures { IfOk result (λ made. option_map type_tree made ≡ param_type (scope_of scope.now) (param_tree p.now)) }
 {
     if p.array {
@@ -126,8 +126,8 @@ fn check_param_name(here: &Here, name: &Option<Name>) -> Option<Fault>
     }
 }
 
-/// Declares a parameter, where it has a name.
-fn declare_param(
+/// Declares a parameter, where it has a name. An `Err` is want of memory.
+pub fn declare_param(
     here: &mut Here,
     name: &Option<Name>,
     ctype: Option<CType>,
@@ -140,8 +140,8 @@ fn declare_param(
     }
 }
 
-/// The type of a parameter as calls see it, `int` where it breaks a rule.
-fn sure_type(ctype: &Option<CType>) -> Result<CType, AllocError>
+/// The type of a parameter as calls see it, `int` where it breaks a rule. An `Err` is want of memory.
+pub fn sure_type(ctype: &Option<CType>) -> Result<CType, AllocError>
     ensures { IfOk result (λ made. type_tree made ≡ sure_type (option_map type_tree ctype.now)) }
 {
     match ctype {

@@ -1,4 +1,5 @@
 use Rattle.csub_units.proofs.LawsUnits.{sound_unit, least_unit, complete_unit}
+use Rattle.csub_units.proofs.LawsFineItems.{fine_unit}
 use Rattle.csub_units.proofs.laws.units.Goals as goal
 
 pub returns-clause-sound : goal.returns-clause-sound
@@ -9,3 +10,6 @@ returns-clause-least c = least_unit
 
 pub returns-clause-complete : goal.returns-clause-complete
 returns-clause-complete c = complete_unit
+
+pub returns-clause-fine : goal.returns-clause-fine
+returns-clause-fine c = fine_unit
