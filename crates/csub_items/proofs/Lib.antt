@@ -1,0 +1,4 @@
+mod Lists
+mod Leaving
+mod Starts
+mod Bodies

@@ -1,0 +1,4 @@
+mod Zeros
+mod Numbers
+mod Objects
+mod Effects

@@ -1,0 +1,5 @@
+pub mod LawsResolvable
+mod Lines
+mod Made
+mod Most
+mod Trees
