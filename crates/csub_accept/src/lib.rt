@@ -1,0 +1,13 @@
+//! From the bytes of a source to its program.
+//!
+//! What is promised stands in the contract of [`accept`]: a program is given exactly for an accepted source (`Accepted`), and it is
+//! the only one of that source; a refusal names the first stage that refuses, with the place or the count that it tells
+//! (`HasCause`). The only other answer is want of memory.
+#![tactic(auto)]
+
+pub mod error;
+pub mod stages;
+
+pub use csub_lex::FaultKind;
+pub use error::SourceError;
+pub use stages::accept;

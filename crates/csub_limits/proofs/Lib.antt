@@ -1,0 +1,4 @@
+mod Above
+mod Calls
+mod Frames
+mod Parts
