@@ -25,17 +25,14 @@ const SPOILED_HISTORY: &str =
 /// Of `branching`, `changed` and the history: B alone crosses edge 4, which leads to the changed line.
 pub const SELECTION: &str = "left A\nrun B edge 4\nselected 1 of 2\n";
 
-/// The files: three small sources, one that isn't small, two suites and one that is none, two histories and one that
+/// The files: three sources, one that breaks a rule, two suites and one that is none, two histories and one that
 /// is none.
 pub fn files(alloc: Global) -> Result<Vec<(String, Vec<u8>)>, AllocError> {
     let texts: [(&str, &str); 10] = [
         ("branching", BRANCHING),
         ("changed", CHANGED),
         ("empty", "int main(void) { }"),
-        (
-            "large",
-            "int main(void) { int c; c = getchar(); return 0; }",
-        ),
+        ("broken", "int main(void) { return x; }"),
         ("two", "dejavu suite 1\ntest A 100 41\ntest B 100 42\n"),
         ("one", "dejavu suite 1\ntest E 9 -\n"),
         ("none", "dejavu suite 1\ntest A 100 4\n"),

@@ -30,19 +30,19 @@ fn record_writes_the_history(rt: HostRuntime) -> Result<(), Fail> {
 fn record_names_the_first_cause(rt: HostRuntime) -> Result<(), Fail> {
     let rows: [(&[&str], Status8, &str); 5] = [
         (
-            &["record", "large", "two"],
+            &["record", "broken", "two"],
             Status8::Source,
-            "refused: source not built\n",
+            "refused: source rule M1 at 1:25\n",
         ),
         (
-            &["record", "large", "none"],
+            &["record", "broken", "none"],
             Status8::Source,
-            "refused: source not built\n",
+            "refused: source rule M1 at 1:25\n",
         ),
         (
-            &["record", "large", "absent"],
+            &["record", "broken", "absent"],
             Status8::Source,
-            "refused: source not built\n",
+            "refused: source rule M1 at 1:25\n",
         ),
         (
             &["record", "branching", "none"],

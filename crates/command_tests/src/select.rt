@@ -53,27 +53,27 @@ fn a_history_of_another_source_or_with_another_sum_is_refused(rt: HostRuntime) -
 }
 
 #[test]
-fn a_source_that_is_not_small_is_named(rt: HostRuntime) -> Result<(), Fail> {
+fn a_source_that_is_not_accepted_is_named(rt: HostRuntime) -> Result<(), Fail> {
     let rows: [(&[&str], Status8, &str); 4] = [
         (
-            &["select", "large", "changed", "history"],
+            &["select", "broken", "changed", "history"],
             Status8::Source,
-            "refused: old not built\n",
+            "refused: old rule M1 at 1:25\n",
         ),
         (
-            &["select", "large", "absent", "history"],
+            &["select", "broken", "absent", "history"],
             Status8::Source,
-            "refused: old not built\n",
+            "refused: old rule M1 at 1:25\n",
         ),
         (
-            &["select", "branching", "large", "history"],
+            &["select", "branching", "broken", "history"],
             Status8::Source,
-            "refused: new not built\n",
+            "refused: new rule M1 at 1:25\n",
         ),
         (
-            &["select", "branching", "large", "absent"],
+            &["select", "branching", "broken", "absent"],
             Status8::Source,
-            "refused: new not built\n",
+            "refused: new rule M1 at 1:25\n",
         ),
     ];
     for (words, status, text) in rows {
@@ -88,7 +88,7 @@ fn a_source_that_is_not_small_is_named(rt: HostRuntime) -> Result<(), Fail> {
 fn a_file_that_is_absent_is_a_read_fault(rt: HostRuntime) -> Result<(), Fail> {
     let rows: [(&[&str], Status8, &str); 3] = [
         (
-            &["select", "absent", "large", "history"],
+            &["select", "absent", "broken", "history"],
             Status8::ReadFault,
             "refused: read fault\n",
         ),

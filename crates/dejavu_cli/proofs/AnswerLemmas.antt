@@ -4,7 +4,7 @@ use Rattle.std.specs.declared.vec.Vec.{Vec}
 use Rattle.std.specs.declared.alloc.Global.{Global}
 use Rattle.dv_outside.specs.Outside.{Files, file_at, IsFetched}
 use Rattle.csub_semantics.specs.Syntax.{ProgramTree}
-use Rattle.read_small.specs.Small.{IsSmall}
+use Rattle.csub_accept.specs.Accepted.{Accepted}
 use Rattle.test_suite.specs.Tests.{TestParts}
 use Rattle.dejavu_cli.specs.Words.{record_files}
 use Rattle.dejavu_cli.specs.Record.{IsSmallSuite}
@@ -19,36 +19,36 @@ use Rattle.dejavu_cli.proofs.SourceLemmas.{short_file, found_file, rose_since, h
 module _ (s t : List ℕ) (told : Option Files) (before now : List ℕ → ℕ) (source : List ℕ) (fetched : IsFetched told s 1048577 source) where
   pub bad_source : (r : Refusal) → IsSourceCause role.Source source r → HasCauseOf (record_files s t) told before now r
   bad_source refusal.Usage cause = absurd cause
-  bad_source (refusal.Source which) cause =
-      subst (λ (named : Role). HasBadSource (record_files s t) named told) (sym cause.0) (has_no_source told s source fetched cause.1)
+  bad_source (refusal.Source which why) cause =
+      subst (λ (named : Role). HasBadSource (record_files s t) named why told) (sym cause.0) (has_no_source told s source fetched why cause.1)
   bad_source refusal.Suite cause = absurd cause
   bad_source refusal.History cause = absurd cause
   bad_source refusal.ReadFault cause = absurd cause
   bad_source refusal.Memory cause = tt
   bad_source (refusal.TooMuch n) cause = absurd cause
 
-  module _ (P : ProgramTree) (small : IsSmall source P) where
+  module _ (P : ProgramTree) (accepted : Accepted source P) where
     pub no_suite : (r : Refusal) (since : ℕ) → before t ≤ since → IsFetchCause since (now t) r → HasCauseOf (record_files s t) told before now r
     no_suite refusal.Usage since kept cause = absurd cause
-    no_suite (refusal.Source which) since kept cause = absurd cause
+    no_suite (refusal.Source which why) since kept cause = absurd cause
     no_suite refusal.Suite since kept cause = absurd cause
     no_suite refusal.History since kept cause = absurd cause
-    no_suite refusal.ReadFault since kept cause = inr (has_good_source told s source fetched P small, rose_since (before t) since (now t) kept cause)
+    no_suite refusal.ReadFault since kept cause = inr (has_good_source told s source fetched P accepted, rose_since (before t) since (now t) kept cause)
     no_suite refusal.Memory since kept cause = tt
     no_suite (refusal.TooMuch n) since kept cause = absurd cause
 
-  module _ (P : ProgramTree) (small : IsSmall source P) (mid : Option Files) (same : mid ≡ told) (suite : List ℕ) (taken : IsFetched mid t 16777217 suite) where
+  module _ (P : ProgramTree) (accepted : Accepted source P) (mid : Option Files) (same : mid ≡ told) (suite : List ℕ) (taken : IsFetched mid t 16777217 suite) where
     whole_source : (files : Files) → told ≡ Some files → file_at files s ≡ Some source
-    whole_source files at = (has_source told s source fetched P small files at).found
+    whole_source files at = (has_source told s source fetched P accepted files at).found
 
     pub bad_suite : (r : Refusal) → IsSuiteCause suite r → HasCauseOf (record_files s t) told before now r
     bad_suite refusal.Usage cause = absurd cause
-    bad_suite (refusal.Source which) cause = absurd cause
+    bad_suite (refusal.Source which why) cause = absurd cause
     bad_suite refusal.Suite cause = λ files at.
         let file = taken files (same ∙ at) in
         record {
           program = P;
-          source = has_source told s source fetched P small files at;
+          source = has_source told s source fetched P accepted files at;
           bytes = file.0;
           found = file.1;
           none = λ tests reads. cause tests
@@ -73,7 +73,7 @@ module _ (s t : List ℕ) (told : Option Files) (before now : List ℕ → ℕ) 
           suite_found = whole_suite files at;
           tests = tests;
           reads = reads;
-          is = record { program = P; small = small; is = h.is };
+          is = record { program = P; accepted = accepted; is = h.is };
         },
         h.text,
         h.short,
@@ -81,7 +81,7 @@ module _ (s t : List ℕ) (told : Option Files) (before now : List ℕ → ℕ) 
 
       pub no_text : (r : Refusal) → IsTextCause source P tests r → HasCauseOf (record_files s t) told before now r
       no_text refusal.Usage cause = absurd cause
-      no_text (refusal.Source which) cause = absurd cause
+      no_text (refusal.Source which why) cause = absurd cause
       no_text refusal.Suite cause = absurd cause
       no_text refusal.History cause = absurd cause
       no_text refusal.ReadFault cause = absurd cause
@@ -95,7 +95,7 @@ module _ (s t : List ℕ) (told : Option Files) (before now : List ℕ → ℕ) 
           suite_found = whole_suite files at;
           tests = tests;
           reads = reads;
-          is = record { program = P; small = small; is = cause.is };
+          is = record { program = P; accepted = accepted; is = cause.is };
         },
         cause.counted,
         cause.long,

@@ -2,13 +2,14 @@
 use Rattle.std.proofs.Common.{◌≡◌, ℕ, List, Option, Some, None, refl, ◌∙◌, subst, inl, inr, ◌⊎◌}
 use Rattle.dv_outside.specs.Outside.{Files, file_at, Rose}
 use Rattle.csub_semantics.specs.Syntax.{ProgramTree}
-use Rattle.read_small.specs.Small.{IsSmall, MeansOneProgram}
+use Rattle.csub_accept.specs.Accepted.{Accepted}
 use Rattle.test_suite.specs.Tests.{TestParts}
 use Rattle.test_history.specs.Histories.{HistoryParts}
 use Rattle.dejavu_cli.specs.Words.{Command, record_files, select_files, command_of}
 use Rattle.dejavu_cli.specs.Record.{IsSmallSuite}
 use Rattle.dejavu_cli.specs.Select.{IsHistoryFile}
 use Rattle.dejavu_cli.specs.Answers.{HasSource, HasNoSource, HasNoSuite, HasNoHistory, HasReadFault, AreReady, IsDone, HasCause, HasCauseOf, Decides, Says, Refuses, IsComplete, status_of, refusal_line}
+use Rattle.dejavu_cli.specs.declared.cause.SourceCause.{SourceCause}
 use Rattle.dejavu_cli.specs.declared.refusal.Role.TheVariants as role
 use Rattle.dejavu_cli.specs.declared.refusal.Refusal.{Refusal}
 use Rattle.dejavu_cli.specs.declared.refusal.Refusal.TheVariants as refusal
@@ -20,23 +21,21 @@ use Rattle.dejavu_cli.specs.declared.status.Status8.TheVariants as status
 one_file : (files : Files) (name a b : List ℕ) → file_at files name ≡ Some a → file_at files name ≡ Some b → a ≡ b
 one_file files name a b first second = cc
 
-good_source : (files : Files) (name : List ℕ) (P : ProgramTree) → HasSource files name P → HasNoSource files name → ⊥
-good_source files name P good bad =
-    bad.none P (subst (λ (bytes : List ℕ). IsSmall bytes P) (one_file files name good.bytes bad.bytes good.found bad.found) good.small)
+good_source : (files : Files) (name : List ℕ) (P : ProgramTree) (cause : SourceCause) → HasSource files name P → HasNoSource files name cause → ⊥
+good_source files name P cause good bad =
+    bad.is.none P (subst (λ (bytes : List ℕ). Accepted bytes P) (one_file files name good.bytes bad.bytes good.found bad.found) good.accepted)
 
 good_suite : (files : Files) (s t suite : List ℕ) (tests : List TestParts) → file_at files t ≡ Some suite → IsSmallSuite suite tests → HasNoSuite files s t → ⊥
 good_suite files s t suite tests found reads bad =
     bad.none tests (subst (λ (bytes : List ℕ). IsSmallSuite bytes tests) (one_file files t suite bad.bytes found bad.found) reads)
 
-good_history : (files : Files) (o n h : List ℕ) (P : ProgramTree) (source : HasSource files o P) (bytes : List ℕ) (history : HistoryParts) → MeansOneProgram
+good_history : (files : Files) (o n h : List ℕ) (P : ProgramTree) (source : HasSource files o P) (bytes : List ℕ) (history : HistoryParts)
     → file_at files h ≡ Some bytes → IsHistoryFile source.bytes bytes P history → HasNoHistory files o n h → ⊥
-good_history files o n h P source bytes history one found is bad =
+good_history files o n h P source bytes history found is bad =
     let first : source.bytes ≡ bad.old_source.bytes = one_file files o source.bytes bad.old_source.bytes source.found bad.old_source.found in
     let second : bytes ≡ bad.bytes = one_file files h bytes bad.bytes found bad.found in
-    let program : P ≡ bad.old = one bad.old_source.bytes P bad.old (subst (λ (b : List ℕ). IsSmall b P) first source.small) bad.old_source.small in
-    bad.none history
-    (subst (λ (Q : ProgramTree). IsHistoryFile bad.old_source.bytes bad.bytes Q history) program
-    (subst (λ (b : List ℕ). IsHistoryFile bad.old_source.bytes b P history) second (subst (λ (b : List ℕ). IsHistoryFile b bytes P history) first is)))
+    bad.none P (subst (λ (b : List ℕ). Accepted b P) first source.accepted) history
+    (subst (λ (b : List ℕ). IsHistoryFile bad.old_source.bytes b P history) second (subst (λ (b : List ℕ). IsHistoryFile b bytes P history) first is))
 
 -- the statuses that are left
 abbrev IsLeft : Command → Status8 → Type 0
@@ -63,32 +62,32 @@ module _ (words : List (List ℕ)) (told : Option Files) (before now : List ℕ 
   left_of_record : (files : Files) → told ≡ Some files → (s t : List ℕ) → AreReady (record_files s t) files → ¬ HasReadFault (record_files s t) told before now
       → (r : Refusal) → HasCauseOf (record_files s t) told before now r → IsLeft (record_files s t) (status_of r)
   left_of_record files at s t ready read refusal.Usage cause = absurd cause
-  left_of_record files at s t ready read (refusal.Source role.Source) cause = absurd (good_source files s ready.0.0 ready.0.1 (cause files at))
-  left_of_record files at s t ready read (refusal.Source role.Old) cause = absurd cause
-  left_of_record files at s t ready read (refusal.Source role.New) cause = absurd cause
+  left_of_record files at s t ready read (refusal.Source role.Source why) cause = absurd (good_source files s ready.0.0 why ready.0.1 (cause files at))
+  left_of_record files at s t ready read (refusal.Source role.Old why) cause = absurd cause
+  left_of_record files at s t ready read (refusal.Source role.New why) cause = absurd cause
   left_of_record files at s t ready read refusal.Suite cause = absurd (good_suite files s t ready.1.0 ready.1.1 ready.1.2 ready.1.3 (cause files at))
   left_of_record files at s t ready read refusal.History cause = absurd cause
   left_of_record files at s t ready read refusal.ReadFault cause = absurd (read cause)
   left_of_record files at s t ready read refusal.Memory cause = inr refl
   left_of_record files at s t ready read (refusal.TooMuch m) cause = inl refl
 
-  left_of_select : (files : Files) → told ≡ Some files → MeansOneProgram → (o m h : List ℕ) → AreReady (select_files o m h) files → ¬ HasReadFault (select_files o m h) told before now
+  left_of_select : (files : Files) → told ≡ Some files → (o m h : List ℕ) → AreReady (select_files o m h) files → ¬ HasReadFault (select_files o m h) told before now
       → (r : Refusal) → HasCauseOf (select_files o m h) told before now r → IsLeft (select_files o m h) (status_of r)
-  left_of_select files at one o m h ready read refusal.Usage cause = absurd cause
-  left_of_select files at one o m h ready read (refusal.Source role.Source) cause = absurd cause
-  left_of_select files at one o m h ready read (refusal.Source role.Old) cause = absurd (good_source files o ready.0 ready.2 (cause files at))
-  left_of_select files at one o m h ready read (refusal.Source role.New) cause = absurd (good_source files m ready.1 ready.3 (cause files at).1)
-  left_of_select files at one o m h ready read refusal.Suite cause = absurd cause
-  left_of_select files at one o m h ready read refusal.History cause =
-      absurd (good_history files o m h ready.0 ready.2 ready.4 ready.5 one ready.6 ready.7 (cause files at))
-  left_of_select files at one o m h ready read refusal.ReadFault cause = absurd (read cause)
-  left_of_select files at one o m h ready read refusal.Memory cause = refl
-  left_of_select files at one o m h ready read (refusal.TooMuch k) cause = absurd cause
+  left_of_select files at o m h ready read refusal.Usage cause = absurd cause
+  left_of_select files at o m h ready read (refusal.Source role.Source why) cause = absurd cause
+  left_of_select files at o m h ready read (refusal.Source role.Old why) cause = absurd (good_source files o ready.0 why ready.2 (cause files at))
+  left_of_select files at o m h ready read (refusal.Source role.New why) cause = absurd (good_source files m ready.1 why ready.3 (cause files at).1)
+  left_of_select files at o m h ready read refusal.Suite cause = absurd cause
+  left_of_select files at o m h ready read refusal.History cause =
+      absurd (good_history files o m h ready.0 ready.2 ready.4 ready.5 ready.6 ready.7 (cause files at))
+  left_of_select files at o m h ready read refusal.ReadFault cause = absurd (read cause)
+  left_of_select files at o m h ready read refusal.Memory cause = refl
+  left_of_select files at o m h ready read (refusal.TooMuch k) cause = absurd cause
 
-  left_over : (files : Files) → told ≡ Some files → MeansOneProgram → (c : Command) → AreReady c files → ¬ HasReadFault c told before now
+  left_over : (files : Files) → told ≡ Some files → (c : Command) → AreReady c files → ¬ HasReadFault c told before now
       → (r : Refusal) → HasCauseOf c told before now r → IsLeft c (status_of r)
-  left_over files at one (record_files s t) ready read r cause = left_of_record files at s t ready read r cause
-  left_over files at one (select_files o m h) ready read r cause = left_of_select files at one o m h ready read r cause
+  left_over files at (record_files s t) ready read r cause = left_of_record files at s t ready read r cause
+  left_over files at (select_files o m h) ready read r cause = left_of_select files at o m h ready read r cause
 
   left_done : (c : Command) (s : Status8) → IsLeft c s → answer ≡ s → IsDone c answer
   left_done (record_files s t) which left is = elim left [ inl k ↦ inr (inl (is ∙ k)) | inr k ↦ inr (inr (is ∙ k)) ]
@@ -104,7 +103,7 @@ module _ (words : List (List ℕ)) (told : Option Files) (before now : List ℕ 
   said c r left written (inr (inl h)) = left_done c status.Memory (memory_left c) h.0
   said c r left written (inr (inr h)) = absurd (written h.1)
 
-  pub complete_refused : MeansOneProgram → (r : Refusal) → HasCause (command_of words) told before now r → Refuses b n fb fn r answer → IsComplete words told before now fb fn answer
-  complete_refused one r cause refuses files at c is ready read written =
+  pub complete_refused : (r : Refusal) → HasCause (command_of words) told before now r → Refuses b n fb fn r answer → IsComplete words told before now fb fn answer
+  complete_refused r cause refuses files at c is ready read written =
       let here = subst (λ (c : Option Command). HasCause c told before now r) is cause in
-      said c r (left_over files at one c ready read r here) written refuses
+      said c r (left_over files at c ready read r here) written refuses

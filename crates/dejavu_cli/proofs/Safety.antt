@@ -16,7 +16,7 @@ use Rattle.csub_semantics.specs.Books.{Reached, Dangerous}
 use Rattle.program_laws.specs.Bounds.{RunsAreBounded, IsBounded, IsExitStatus}
 use Rattle.program_laws.specs.Numbered.{EdgesHaveNumbers}
 use Rattle.call_walk.specs.Lockstep.{SameRuns, CrossesNone}
-use Rattle.read_small.specs.Small.{IsSmall, MeansOneProgram}
+use Rattle.csub_accept.specs.Accepted.{Accepted}
 use Rattle.test_suite.specs.Tests.{TestParts}
 use Rattle.test_suite.specs.Suites.{names_of as suite_names}
 use Rattle.test_history.specs.Histories.{EntryParts, HistoryParts, IsDigest, IsByteStatus, IsEntryOfBytes, names_of}
@@ -124,21 +124,21 @@ module _ (P P' : ProgramTree) (same : SameRuns (flow_of P) (flow_of P') (Reached
 -- ---- the selection
 
 safe : (P P' : ProgramTree) (old bytes : List ℕ) (found : HistoryParts) (choices : List Choice)
-    → SameRuns (flow_of P) (flow_of P') (Reached (flow_of P) (flow_of P')) (Dangerous (flow_of P) (flow_of P')) → RunsAreBounded (flow_of P) → EdgesHaveNumbers P → MeansOneProgram
-    → IsValid P → IsSmall old P → IsOnlyHistory old bytes P found → AllZip (IsChoice P P') found.entries choices → IsSafe old bytes P P' choices
-safe P P' old bytes found choices same bounded numbered one valid small only chosen suite tests recorded reads is text =
-    let here : IsHistory old P tests recorded = subst (λ (Q : ProgramTree). IsHistory old Q tests recorded) (one old is.program P is.small small) is.is in
+    → SameRuns (flow_of P) (flow_of P') (Reached (flow_of P) (flow_of P')) (Dangerous (flow_of P) (flow_of P')) → RunsAreBounded (flow_of P) → EdgesHaveNumbers P
+    → IsValid P → ((Q : ProgramTree) → Accepted old Q → Q ≡ P) → IsOnlyHistory old bytes P found → AllZip (IsChoice P P') found.entries choices → IsSafe old bytes P P' choices
+safe P P' old bytes found choices same bounded numbered valid alone only chosen suite tests recorded reads is text =
+    let here : IsHistory old P tests recorded = subst (λ (Q : ProgramTree). IsHistory old Q tests recorded) (alone is.program is.accepted) is.is in
     let equal : found ≡ recorded = only.only recorded (recorded_file P old bytes found valid bounded only.file suite tests recorded reads here text) in
     all_behave P P' same numbered tests recorded.entries choices here.entries (subst (λ (h : HistoryParts). AllZip (IsChoice P P') h.entries choices) equal chosen)
 
 pub selection_is : (P P' : ProgramTree) (old bytes : List ℕ) (found : HistoryParts) (text : List ℕ)
-    → SameRuns (flow_of P) (flow_of P') (Reached (flow_of P) (flow_of P')) (Dangerous (flow_of P) (flow_of P')) → RunsAreBounded (flow_of P) → EdgesHaveNumbers P → MeansOneProgram
-    → IsValid P → IsSmall old P → IsOnlyHistory old bytes P found → HasChoices P P' found.entries text → IsSelection old bytes P P' text
-selection_is P P' old bytes found text same bounded numbered one valid small only has = record {
+    → SameRuns (flow_of P) (flow_of P') (Reached (flow_of P) (flow_of P')) (Dangerous (flow_of P) (flow_of P')) → RunsAreBounded (flow_of P) → EdgesHaveNumbers P
+    → IsValid P → ((Q : ProgramTree) → Accepted old Q → Q ≡ P) → IsOnlyHistory old bytes P found → HasChoices P P' found.entries text → IsSelection old bytes P P' text
+selection_is P P' old bytes found text same bounded numbered valid alone only has = record {
   history = found;
   reads = only.file;
   choices = has.choices;
   chosen = has.chosen;
   is = has.text;
-  safe = safe P P' old bytes found has.choices same bounded numbered one valid small only has.chosen;
+  safe = safe P P' old bytes found has.choices same bounded numbered valid alone only has.chosen;
 }

@@ -4,7 +4,7 @@ use Rattle.std.specs.declared.vec.Vec.{Vec}
 use Rattle.std.specs.declared.alloc.Global.{Global}
 use Rattle.dv_outside.specs.Outside.{Files, IsFetched}
 use Rattle.csub_semantics.specs.Syntax.{ProgramTree}
-use Rattle.read_small.specs.Small.{IsSmall, MeansOneProgram}
+use Rattle.csub_accept.specs.Accepted.{Accepted}
 use Rattle.dejavu_cli.specs.Words.{select_files}
 use Rattle.dejavu_cli.specs.Select.{IsHistoryFile, IsSelection}
 use Rattle.dejavu_cli.specs.Steps.{IsFetchCause, IsSourceCause, IsHistoryCause}
@@ -18,88 +18,89 @@ use Rattle.dejavu_cli.proofs.SourceLemmas.{short_file, found_file, rose_since, h
 module _ (o n h : List ℕ) (told : Option Files) (before now : List ℕ → ℕ) (old : List ℕ) (fetched : IsFetched told o 1048577 old) where
   pub bad_old : (r : Refusal) → IsSourceCause role.Old old r → HasCauseOf (select_files o n h) told before now r
   bad_old refusal.Usage cause = absurd cause
-  bad_old (refusal.Source which) cause =
-      subst (λ (named : Role). HasBadSource (select_files o n h) named told) (sym cause.0) (has_no_source told o old fetched cause.1)
+  bad_old (refusal.Source which why) cause =
+      subst (λ (named : Role). HasBadSource (select_files o n h) named why told) (sym cause.0) (has_no_source told o old fetched why cause.1)
   bad_old refusal.Suite cause = absurd cause
   bad_old refusal.History cause = absurd cause
   bad_old refusal.ReadFault cause = absurd cause
   bad_old refusal.Memory cause = tt
   bad_old (refusal.TooMuch m) cause = absurd cause
 
-  pub no_new : (P : ProgramTree) → IsSmall old P → (r : Refusal) (since : ℕ) → before n ≤ since → IsFetchCause since (now n) r → HasCauseOf (select_files o n h) told before now r
-  no_new P small refusal.Usage since kept cause = absurd cause
-  no_new P small (refusal.Source which) since kept cause = absurd cause
-  no_new P small refusal.Suite since kept cause = absurd cause
-  no_new P small refusal.History since kept cause = absurd cause
-  no_new P small refusal.ReadFault since kept cause = inr (inl (has_good_source told o old fetched P small, rose_since (before n) since (now n) kept cause))
-  no_new P small refusal.Memory since kept cause = tt
-  no_new P small (refusal.TooMuch m) since kept cause = absurd cause
+  pub no_new : (P : ProgramTree) → Accepted old P → (r : Refusal) (since : ℕ) → before n ≤ since → IsFetchCause since (now n) r → HasCauseOf (select_files o n h) told before now r
+  no_new P accepted refusal.Usage since kept cause = absurd cause
+  no_new P accepted (refusal.Source which why) since kept cause = absurd cause
+  no_new P accepted refusal.Suite since kept cause = absurd cause
+  no_new P accepted refusal.History since kept cause = absurd cause
+  no_new P accepted refusal.ReadFault since kept cause = inr (inl (has_good_source told o old fetched P accepted, rose_since (before n) since (now n) kept cause))
+  no_new P accepted refusal.Memory since kept cause = tt
+  no_new P accepted (refusal.TooMuch m) since kept cause = absurd cause
 
-  module _ (P : ProgramTree) (small : IsSmall old P) (mid : Option Files) (same : mid ≡ told) (new : List ℕ) (taken : IsFetched mid n 1048577 new) where
+  module _ (P : ProgramTree) (accepted : Accepted old P) (mid : Option Files) (same : mid ≡ told) (new : List ℕ) (taken : IsFetched mid n 1048577 new) where
     pub bad_new : (r : Refusal) → IsSourceCause role.New new r → HasCauseOf (select_files o n h) told before now r
     bad_new refusal.Usage cause = absurd cause
-    bad_new (refusal.Source which) cause =
-        subst (λ (named : Role). HasBadSource (select_files o n h) named told) (sym cause.0)
-        (λ files at. ((P, has_source told o old fetched P small files at), has_no_source mid n new taken cause.1 files (same ∙ at)))
+    bad_new (refusal.Source which why) cause =
+        subst (λ (named : Role). HasBadSource (select_files o n h) named why told) (sym cause.0)
+        (λ files at. ((P, has_source told o old fetched P accepted files at), has_no_source mid n new taken why cause.1 files (same ∙ at)))
     bad_new refusal.Suite cause = absurd cause
     bad_new refusal.History cause = absurd cause
     bad_new refusal.ReadFault cause = absurd cause
     bad_new refusal.Memory cause = tt
     bad_new (refusal.TooMuch m) cause = absurd cause
 
-    pub no_bytes : (P' : ProgramTree) → IsSmall new P' → (r : Refusal) (since : ℕ) → before h ≤ since → IsFetchCause since (now h) r → HasCauseOf (select_files o n h) told before now r
-    no_bytes P' small' refusal.Usage since kept cause = absurd cause
-    no_bytes P' small' (refusal.Source which) since kept cause = absurd cause
-    no_bytes P' small' refusal.Suite since kept cause = absurd cause
-    no_bytes P' small' refusal.History since kept cause = absurd cause
-    no_bytes P' small' refusal.ReadFault since kept cause =
+    pub no_bytes : (P' : ProgramTree) → Accepted new P' → (r : Refusal) (since : ℕ) → before h ≤ since → IsFetchCause since (now h) r → HasCauseOf (select_files o n h) told before now r
+    no_bytes P' accepted' refusal.Usage since kept cause = absurd cause
+    no_bytes P' accepted' (refusal.Source which why) since kept cause = absurd cause
+    no_bytes P' accepted' refusal.Suite since kept cause = absurd cause
+    no_bytes P' accepted' refusal.History since kept cause = absurd cause
+    no_bytes P' accepted' refusal.ReadFault since kept cause =
         inr (inr (
-          has_good_source told o old fetched P small,
-          (λ files at. (P', has_source mid n new taken P' small' files (same ∙ at))),
+          has_good_source told o old fetched P accepted,
+          (λ files at. (P', has_source mid n new taken P' accepted' files (same ∙ at))),
           rose_since (before h) since (now h) kept cause,
         ))
-    no_bytes P' small' refusal.Memory since kept cause = tt
-    no_bytes P' small' (refusal.TooMuch m) since kept cause = absurd cause
+    no_bytes P' accepted' refusal.Memory since kept cause = tt
+    no_bytes P' accepted' (refusal.TooMuch m) since kept cause = absurd cause
 
-    module _ (P' : ProgramTree) (small' : IsSmall new P') (last : Option Files) (same' : last ≡ told) (bytes : List ℕ) (read : IsFetched last h 134217729 bytes) where
+    module _ (alone : (Q : ProgramTree) → Accepted old Q → Q ≡ P) (P' : ProgramTree) (accepted' : Accepted new P') (alone' : (Q : ProgramTree) → Accepted new Q → Q ≡ P') (last : Option Files) (same' : last ≡ told) (bytes : List ℕ) (read : IsFetched last h 134217729 bytes) where
       no_history : (r : Refusal) → IsHistoryCause old bytes P r → HasCauseOf (select_files o n h) told before now r
       no_history refusal.Usage cause = absurd cause
-      no_history (refusal.Source which) cause = absurd cause
+      no_history (refusal.Source which why) cause = absurd cause
       no_history refusal.Suite cause = absurd cause
       no_history refusal.History cause = λ files at.
           let file = read files (same' ∙ at) in
           record {
             old = P;
             new = P';
-            old_source = has_source told o old fetched P small files at;
-            new_source = has_source mid n new taken P' small' files (same ∙ at);
+            old_source = has_source told o old fetched P accepted files at;
+            new_source = has_source mid n new taken P' accepted' files (same ∙ at);
             bytes = file.0;
             found = file.1;
-            none = λ history is. cause history
-                (subst (λ (text : List ℕ). IsHistoryFile old text P history) (sym (short_file 134217729 file.0 bytes file.2 (omega (arith, is.short)))) is);
+            none = λ Q other history is. cause history
+                (subst (λ (R : ProgramTree). IsHistoryFile old bytes R history) (alone Q other)
+                (subst (λ (text : List ℕ). IsHistoryFile old text Q history) (sym (short_file 134217729 file.0 bytes file.2 (omega (arith, is.short)))) is));
           }
       no_history refusal.ReadFault cause = absurd cause
       no_history refusal.Memory cause = tt
       no_history (refusal.TooMuch m) cause = absurd cause
 
-      has_selection : MeansOneProgram → (text : List ℕ) → IsSelection old bytes P P' text → HasTextOf (Some (select_files o n h)) told text
-      has_selection one text is files at = record {
+      has_selection : (text : List ℕ) → IsSelection old bytes P P' text → HasTextOf (Some (select_files o n h)) told text
+      has_selection text is files at = record {
         old = P;
         new = P';
-        old_source = has_source told o old fetched P small files at;
-        new_source = has_source mid n new taken P' small' files (same ∙ at);
-        old_alone = λ Q other. one old Q P other small;
-        new_alone = λ Q other. one new Q P' other small';
+        old_source = has_source told o old fetched P accepted files at;
+        new_source = has_source mid n new taken P' accepted' files (same ∙ at);
+        old_alone = alone;
+        new_alone = alone';
         bytes = bytes;
         found = found_file last h 134217729 bytes read (omega (arith, is.reads.short)) files (same' ∙ at);
         is = is;
       }
 
-      pub selected : MeansOneProgram → (r : Result (Vec ℕ Global) Refusal) (first second : List ℕ) → first ≡ old → second ≡ bytes
+      pub selected : (r : Result (Vec ℕ Global) Refusal) (first second : List ℕ) → first ≡ old → second ≡ bytes
           → MatchResult r (λ text. IsSelection first second P P' text.items) (IsHistoryCause first second P)
           → MatchResult r (λ text. HasTextOf (Some (select_files o n h)) told text.items) (HasCauseOf (select_files o n h) told before now)
-      selected one (Ok text) first second is are done =
-          has_selection one text.items
+      selected (Ok text) first second is are done =
+          has_selection text.items
           (subst (λ (b : List ℕ). IsSelection old b P P' text.items) are (subst (λ (b : List ℕ). IsSelection b second P P' text.items) is done))
-      selected one (Err r) first second is are failed =
+      selected (Err r) first second is are failed =
           no_history r (subst (λ (b : List ℕ). IsHistoryCause old b P r) are (subst (λ (b : List ℕ). IsHistoryCause b second P r) is failed))

@@ -1,5 +1,5 @@
 -- From what is fetched to what the files hold.
-use Rattle.std.proofs.Common.{◌≡◌, ℕ, ◌<◌, ◌≤◌, inl, inr, List, length, take, Option, Some, Result, Ok, Err, MatchResult, sym, ap, ◌∙◌, subst, arith}
+use Rattle.std.proofs.Common.{◌≡◌, ℕ, ◌<◌, ◌≤◌, refl, inl, inr, List, length, take, Option, Some, Result, Ok, Err, MatchResult, sym, ap, ◌∙◌, subst, arith}
 use Rattle.std.specs.Result.{IsErrAnd}
 use Rattle.std.specs.declared.vec.Vec.{Vec}
 use Rattle.std.specs.declared.alloc.Global.{Global}
@@ -7,7 +7,11 @@ use Rattle.std.proofs.lemmas.List.{length-take}
 use Rattle.std.proofs.lemmas.Grind.{common_steps}
 use Rattle.dv_outside.specs.Outside.{Files, file_at, IsFetched, Rose}
 use Rattle.csub_semantics.specs.Syntax.{ProgramTree}
-use Rattle.read_small.specs.Small.{IsSmall}
+use Rattle.csub_accept.specs.Accepted.{Accepted, HasCause}
+use Rattle.csub_accept.specs.declared.error.SourceError.{SourceError}
+use Rattle.csub_accept.specs.declared.error.SourceError.TheVariants as errors
+use Rattle.dejavu_cli.specs.Causes.{NotAccepted, cause_of}
+use Rattle.dejavu_cli.specs.declared.cause.SourceCause.{SourceCause}
 use Rattle.dejavu_cli.specs.Answers.{HasSource, HasGoodSource, HasNoSource, WhereTold}
 use Rattle.dejavu_cli.specs.declared.refusal.Refusal.{Refusal}
 
@@ -37,22 +41,48 @@ pub rose_since : (before since now : ℕ) → before ≤ since → Rose since no
 rose_since before since now kept (inl more) = inl (omega arith)
 rose_since before since now kept (inr full) = inr full
 
+-- a beginning that has all that was asked for shows that the list has as much
+pub long_file : (most : ℕ) (whole bytes : List ℕ) → bytes ≡ take most whole → most ≤ length bytes → most ≤ length whole
+long_file most whole bytes is long =
+    let count : length bytes ≡ length (take most whole) = ap length is in
+    grind (arith, common_steps, is, count, long, length-take most whole)
+
+-- what is told of a beginning that is longer than a source may be, or is the whole file, holds of the file
+module _ (source whole : List ℕ) (cause : SourceCause) (begins : source ≡ take 1048577 whole) (n : NotAccepted source cause) where
+  of_whole : length source ≤ 1048576 → NotAccepted whole cause
+  of_whole short = subst (λ bytes. NotAccepted bytes cause) (whole_file 1048577 whole source begins (omega (arith, short))) n
+
+  told_by : (error : SourceError) → HasCause source error → cause_of source error ≡ Some cause → NotAccepted whole cause
+  told_by (errors.TooLong k) why is =
+      let all : 1048577 ≤ length whole = long_file 1048577 whole source begins (omega (arith, why.0)) in
+      let long : 1048576 < length whole = omega (arith, all) in
+      record {
+        none = λ P accepted. let short = accepted.reads.short in absurd (omega (arith, long, short));
+        error = errors.TooLong (length whole);
+        why = (long, refl);
+        is = is;
+      }
+  told_by (errors.Lex kind at) why is = of_whole why.0
+  told_by (errors.Syntax at) why is = of_whole why.short
+  told_by (errors.Meaning rule at) why is = of_whole why.reads.short
+  told_by (errors.Limit number count) why is = of_whole why.reads.short
+  told_by errors.Memory why is = absurd (cc)
+
+  pub not_accepted : NotAccepted whole cause
+  not_accepted = told_by n.error n.why n.is
+
 module _ (told : Option Files) (name source : List ℕ) (fetched : IsFetched told name 1048577 source) where
-  abbrev pub has_source : (P : ProgramTree) → IsSmall source P → (files : Files) → told ≡ Some files → HasSource files name P
-  has_source P small files at = record {
+  abbrev pub has_source : (P : ProgramTree) → Accepted source P → (files : Files) → told ≡ Some files → HasSource files name P
+  has_source P accepted files at = record {
     bytes = source;
-    found = found_file told name 1048577 source fetched (omega (arith, small.size)) files at;
-    small = small;
+    found = let short = accepted.reads.short in found_file told name 1048577 source fetched (omega (arith, short)) files at;
+    accepted = accepted;
   }
 
-  pub has_good_source : (P : ProgramTree) → IsSmall source P → HasGoodSource name told
-  has_good_source P small files at = (P, has_source P small files at)
+  pub has_good_source : (P : ProgramTree) → Accepted source P → HasGoodSource name told
+  has_good_source P accepted files at = (P, has_source P accepted files at)
 
-  pub has_no_source : ((P : ProgramTree) → IsSmall source P → ⊥) → WhereTold told (λ files. HasNoSource files name)
-  has_no_source none files at =
+  pub has_no_source : (cause : SourceCause) → NotAccepted source cause → WhereTold told (λ files. HasNoSource files name cause)
+  has_no_source cause n files at =
       let file = fetched files at in
-      record {
-        bytes = file.0;
-        found = file.1;
-        none = λ P small. none P (subst (λ bytes. IsSmall bytes P) (sym (short_file 1048577 file.0 source file.2 (omega (arith, small.size)))) small);
-      }
+      record { bytes = file.0; found = file.1; is = not_accepted source file.0 cause file.2 n }

@@ -3,13 +3,15 @@ use Rattle.std.specs.Prelude.{ℕ, ◌≡◌, ◌<◌, ◌≤◌, ◌⊎◌, Lis
 use Rattle.std.specs.Fmt.{decimal}
 use Rattle.dv_outside.specs.Outside.{Files, file_at, Rose, Appends, AppendsPrefix}
 use Rattle.csub_semantics.specs.Syntax.{ProgramTree}
-use Rattle.read_small.specs.Small.{IsSmall}
+use Rattle.csub_accept.specs.Accepted.{Accepted}
 use Rattle.test_suite.specs.Tests.{TestParts}
 use Rattle.test_history.specs.Histories.{HistoryParts}
 use Rattle.test_history.specs.HistoryTexts.{history_text, most_history_bytes}
 use Rattle.dejavu_cli.specs.Words.{Command, record_files, select_files, command_of}
+use Rattle.dejavu_cli.specs.Causes.{NotAccepted, cause_text}
 use Rattle.dejavu_cli.specs.Record.{IsHistoryOf, IsSmallSuite}
 use Rattle.dejavu_cli.specs.Select.{IsHistoryFile, IsSelection}
+use Rattle.dejavu_cli.specs.declared.cause.SourceCause.{SourceCause}
 use Rattle.dejavu_cli.specs.declared.refusal.Role.{Role}
 use Rattle.dejavu_cli.specs.declared.refusal.Role.TheVariants as role
 use Rattle.dejavu_cli.specs.declared.refusal.Refusal.{Refusal}
@@ -32,19 +34,19 @@ number_of status.TooMuch = 9
 
 -- ---- what the files hold
 
--- the file of this name is there, and a small source of the program
+-- the file of this name is there, and an accepted source of the program
 pub record HasSource (files : Files) (name : List ℕ) (P : ProgramTree) : Type 0 where
   pub bytes : List ℕ
   pub found : file_at files name ≡ Some bytes
-  pub small : IsSmall bytes P
+  pub accepted : Accepted bytes P
 
--- the file of this name is there, and no small source
-pub record HasNoSource (files : Files) (name : List ℕ) : Type 0 where
+-- the file of this name is there, and isn't accepted, of which this is told
+pub record HasNoSource (files : Files) (name : List ℕ) (cause : SourceCause) : Type 0 where
   pub bytes : List ℕ
   pub found : file_at files name ≡ Some bytes
-  pub none : (P : ProgramTree) → IsSmall bytes P → ⊥
+  pub is : NotAccepted bytes cause
 
--- both files are there; the first is a small source, the second a small suite, and this is their history
+-- both files are there; the first is an accepted source, the second a small suite, and this is their history
 pub record HasHistory (files : Files) (source_name suite_name : List ℕ) (history : HistoryParts) : Type 0 where
   pub source : List ℕ
   pub found : file_at files source_name ≡ Some source
@@ -54,7 +56,7 @@ pub record HasHistory (files : Files) (source_name suite_name : List ℕ) (histo
   pub reads : IsSmallSuite suite tests
   pub is : IsHistoryOf source tests history
 
--- the first file is a small source, and the second is there and no small suite
+-- the first file is an accepted source, and the second is there and no small suite
 pub record HasNoSuite (files : Files) (source_name suite_name : List ℕ) : Type 0 where
   pub program : ProgramTree
   pub source : HasSource files source_name program
@@ -62,20 +64,21 @@ pub record HasNoSuite (files : Files) (source_name suite_name : List ℕ) : Type
   pub found : file_at files suite_name ≡ Some bytes
   pub none : (tests : List TestParts) → IsSmallSuite bytes tests → ⊥
 
--- the three files are there: two small sources, each of one program alone, and a history of the old one; this is the
+-- the three files are there: two accepted sources, each of one program alone, and a history of the old one; this is the
 -- text of their selection
 pub record HasSelection (files : Files) (old_name new_name history_name text : List ℕ) : Type 0 where
   pub old : ProgramTree
   pub new : ProgramTree
   pub old_source : HasSource files old_name old
   pub new_source : HasSource files new_name new
-  pub old_alone : (P : ProgramTree) → IsSmall old_source.bytes P → P ≡ old
-  pub new_alone : (P : ProgramTree) → IsSmall new_source.bytes P → P ≡ new
+  pub old_alone : (P : ProgramTree) → Accepted old_source.bytes P → P ≡ old
+  pub new_alone : (P : ProgramTree) → Accepted new_source.bytes P → P ≡ new
   pub bytes : List ℕ
   pub found : file_at files history_name ≡ Some bytes
   pub is : IsSelection old_source.bytes bytes old new text
 
--- the first two files are small sources, and the third is there and no history of the first with few entries
+-- the first two files are accepted sources, and the third is there and no history of the first with few entries, whatever its
+-- program
 pub record HasNoHistory (files : Files) (old_name new_name history_name : List ℕ) : Type 0 where
   pub old : ProgramTree
   pub new : ProgramTree
@@ -83,7 +86,7 @@ pub record HasNoHistory (files : Files) (old_name new_name history_name : List �
   pub new_source : HasSource files new_name new
   pub bytes : List ℕ
   pub found : file_at files history_name ≡ Some bytes
-  pub none : (history : HistoryParts) → IsHistoryFile old_source.bytes bytes old history → ⊥
+  pub none : (P : ProgramTree) → Accepted old_source.bytes P → (history : HistoryParts) → IsHistoryFile old_source.bytes bytes P history → ⊥
 
 -- ---- the text of a command
 
@@ -105,14 +108,14 @@ HasTextOf (Some c) told text = WhereTold told (λ files. IsTextOf c files text)
 -- ---- why a command isn't done
 
 -- the source in this role isn't accepted, and the sources before it are
-abbrev pub HasBadSource : Command → Role → Option Files → Type 0
-HasBadSource (record_files source suite) role.Source told = WhereTold told (λ files. HasNoSource files source)
-HasBadSource (record_files source suite) role.Old told = ⊥
-HasBadSource (record_files source suite) role.New told = ⊥
-HasBadSource (select_files old new history) role.Source told = ⊥
-HasBadSource (select_files old new history) role.Old told = WhereTold told (λ files. HasNoSource files old)
-HasBadSource (select_files old new history) role.New told =
-    WhereTold told (λ files. ((P : ProgramTree) × HasSource files old P) × HasNoSource files new)
+abbrev pub HasBadSource : Command → Role → SourceCause → Option Files → Type 0
+HasBadSource (record_files source suite) role.Source cause told = WhereTold told (λ files. HasNoSource files source cause)
+HasBadSource (record_files source suite) role.Old cause told = ⊥
+HasBadSource (record_files source suite) role.New cause told = ⊥
+HasBadSource (select_files old new history) role.Source cause told = ⊥
+HasBadSource (select_files old new history) role.Old cause told = WhereTold told (λ files. HasNoSource files old cause)
+HasBadSource (select_files old new history) role.New cause told =
+    WhereTold told (λ files. ((P : ProgramTree) × HasSource files old P) × HasNoSource files new cause)
 
 -- the source is accepted, and the suite isn't
 abbrev pub HasBadSuite : Command → Option Files → Type 0
@@ -147,7 +150,7 @@ HasTooMuch (select_files old new history) told bytes = ⊥
 -- why a command isn't done; want of memory may come at any time before the write
 abbrev pub HasCauseOf : Command → Option Files → (List ℕ → ℕ) → (List ℕ → ℕ) → Refusal → Type 0
 HasCauseOf c told before now refusal.Usage = ⊥
-HasCauseOf c told before now (refusal.Source which) = HasBadSource c which told
+HasCauseOf c told before now (refusal.Source which cause) = HasBadSource c which cause told
 HasCauseOf c told before now refusal.Suite = HasBadSuite c told
 HasCauseOf c told before now refusal.History = HasBadHistory c told
 HasCauseOf c told before now refusal.ReadFault = HasReadFault c told before now
@@ -170,7 +173,7 @@ role_word role.New = codes "new"
 -- the line of a refusal
 abbrev pub refusal_line : Refusal → List ℕ
 refusal_line refusal.Usage = codes "refused: usage\n"
-refusal_line (refusal.Source which) = codes "refused: " ++ role_word which ++ codes " not built\n"
+refusal_line (refusal.Source which cause) = codes "refused: " ++ role_word which ++ cause_text cause ++ codes "\n"
 refusal_line refusal.Suite = codes "refused: suite not built\n"
 refusal_line refusal.History = codes "refused: history not built\n"
 refusal_line refusal.ReadFault = codes "refused: read fault\n"
@@ -179,7 +182,7 @@ refusal_line (refusal.TooMuch bytes) = codes "refused: history too much " ++ dec
 
 abbrev pub status_of : Refusal → Status8
 status_of refusal.Usage = status.Usage
-status_of (refusal.Source which) = status.Source
+status_of (refusal.Source which cause) = status.Source
 status_of refusal.Suite = status.Suite
 status_of refusal.History = status.History
 status_of refusal.ReadFault = status.ReadFault
@@ -216,8 +219,8 @@ Refuses before now faults_before faults_now r answer =
 
 -- ---- completeness
 
--- the files of a command are there and are what it asks for: for `record` a small source and a small suite, for `select`
--- two small sources and a history of the old one
+-- the files of a command are there and are what it asks for: for `record` an accepted source and a small suite, for `select`
+-- two accepted sources and a history of the old one
 abbrev pub AreReady : Command → Files → Type 0
 AreReady (record_files source_name suite_name) files =
     ((P : ProgramTree) × HasSource files source_name P)

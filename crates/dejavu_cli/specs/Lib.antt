@@ -1,3 +1,4 @@
+pub mod Causes
 pub mod Words
 pub mod Shown
 pub mod Record

@@ -7,7 +7,7 @@ use Rattle.csub_semantics.specs.Flows.{flow_of, edge_list}
 use Rattle.csub_semantics.specs.Numbers.{IsCrossed}
 use Rattle.csub_semantics.specs.Runs.{Results, run_of}
 use Rattle.edge_trace.specs.Rows.{has}
-use Rattle.read_small.specs.Small.{IsSmall}
+use Rattle.csub_accept.specs.Accepted.{Accepted}
 use Rattle.test_suite.specs.Tests.{TestParts}
 use Rattle.test_suite.specs.Suites.{SaysTests, IsSuite}
 use Rattle.test_history.specs.Histories.{EntryParts, HistoryParts}
@@ -34,10 +34,10 @@ pub record IsHistory (source : List ℕ) (P : ProgramTree) (tests : List TestPar
   pub edges : history.edges ≡ length (edge_list P)
   pub entries : AllZip (IsEntry P) tests history.entries
 
--- the history of a small source and a suite
+-- the history of an accepted source and a suite
 pub record IsHistoryOf (source : List ℕ) (tests : List TestParts) (history : HistoryParts) : Type 0 where
   pub program : ProgramTree
-  pub small : IsSmall source program
+  pub accepted : Accepted source program
   pub is : IsHistory source program tests history
 
 -- how many tests a suite may have

@@ -7,12 +7,12 @@ use Rattle.csub_semantics.specs.Flows.{Edge, edge_list, flow_of}
 use Rattle.csub_semantics.specs.Numbers.{edge_at}
 use Rattle.csub_semantics.specs.Books.{Dangerous}
 use Rattle.edge_trace.specs.Rows.{has}
-use Rattle.read_small.specs.Small.{IsSmall}
 use Rattle.test_suite.specs.Tests.{TestParts}
 use Rattle.test_history.specs.Histories.{EntryParts, HistoryParts}
 use Rattle.test_history.specs.HistoryTexts.{history_text, most_history_bytes}
 use Rattle.test_select.specs.declared.choice.Choice.{Choice}
 use Rattle.test_select.specs.SelectTexts.{select_text}
+use Rattle.dejavu_cli.specs.Causes.{NotAccepted}
 use Rattle.dejavu_cli.specs.Record.{IsHistory, IsSmallSuite}
 use Rattle.dejavu_cli.specs.Select.{IsHistoryFile, IsChoice}
 use Rattle.dejavu_cli.specs.declared.refusal.Role.{Role}
@@ -25,10 +25,10 @@ IsFetchCause before now refusal.Memory = Unit {0}
 IsFetchCause before now refusal.ReadFault = Rose before now
 IsFetchCause before now r = ⊥
 
--- the source in a role isn't read for want of memory, or where it is no small one
+-- the source in a role isn't read for want of memory, or where it isn't accepted
 abbrev pub IsSourceCause : Role → List ℕ → Refusal → Type 0
 IsSourceCause which bytes refusal.Memory = Unit {0}
-IsSourceCause which bytes (refusal.Source named) = (named ≡ which) × ((P : ProgramTree) → IsSmall bytes P → ⊥)
+IsSourceCause which bytes (refusal.Source named cause) = (named ≡ which) × NotAccepted bytes cause
 IsSourceCause which bytes r = ⊥
 
 -- a suite isn't read for want of memory, or where it is no small one

@@ -3,14 +3,15 @@ ghost use Rattle.std.specs.Prelude.{◌≡◌, ◌+◌, ◌≤◌, IfOk, IfErr, 
 ghost use Rattle.dv_outside.specs.Outside.{IsFetched, NeverFalls};
 ghost use Rattle.csub_semantics.specs.Syntax.{ProgramTree, program_tree};
 ghost use Rattle.csub_semantics.specs.Flows.{edge_list};
-ghost use Rattle.read_small.specs.Small.{IsSmall};
+ghost use Rattle.csub_accept.specs.Accepted.{Accepted};
 ghost use Rattle.dejavu_cli.specs.Record.{IsSmallSuite};
 ghost use Rattle.dejavu_cli.specs.Steps.{IsFetchCause, IsSourceCause, IsSuiteCause, IsOnlyHistory, IsHistoryCause};
 
+use crate::cause::cause_of;
 use crate::refusal::{Refusal, Role};
+use csub_accept::accept;
 use csub_core::Program;
 use dv_outside::{FetchError, Shelf};
-use read_small::read_small;
 use std::alloc::Global;
 use test_history::{History, HistoryError, read_history};
 use test_suite::{SuiteError, Test, read_suite};
@@ -47,13 +48,16 @@ pub(crate) fn fetch_file<S: Shelf>(
 
 /// The program of the source in a role.
 pub(crate) fn read_source(alloc: Global, role: Role, bytes: &[u8]) -> Result<Program, Refusal>
-    ensures small { IfOk result (λ program. IsSmall bytes.now (program_tree program)) }
+    ensures accepted { IfOk result (λ program. Accepted bytes.now (program_tree program)) }
+    ensures only { IfOk result (λ program. (P : ProgramTree) → Accepted bytes.now P → P ≡ program_tree program) }
     ensures cause { IfErr result (IsSourceCause role bytes.now) }
 {
-    match read_small(alloc, bytes) {
-        Ok(Some(program)) => Ok(program),
-        Ok(None) => Err(Refusal::Source(role)),
-        Err(_) => Err(Refusal::Memory),
+    match accept(alloc, bytes) {
+        Ok(program) => Ok(program),
+        Err(error) => match cause_of(bytes, error) {
+            None => Err(Refusal::Memory),
+            Some(cause) => Err(Refusal::Source(role, cause)),
+        },
     }
 }
 

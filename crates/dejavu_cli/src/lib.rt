@@ -12,6 +12,7 @@ ghost use Rattle.dv_outside.specs.Outside.{Rose, NeverFalls};
 ghost use Rattle.dejavu_cli.specs.Words.{texts_of, command_of};
 ghost use Rattle.dejavu_cli.specs.Answers.{Decides, Says, Refuses, IsHeadline, IsComplete};
 
+pub mod cause;
 mod files;
 mod record;
 mod refusal;
@@ -24,15 +25,14 @@ mod work;
 use crate::refusal::{MEMORY_LINE, Refusal, refusal_status, refusal_text};
 use crate::work::work;
 use dv_outside::{Gate, Shelf, Sink, write_whole};
-use read_small::a_small_source_means_one_program;
 pub use status::Status8;
 use std::alloc::Global;
 use std::thread::Threads;
 
 /// Does what the words say: the text of the command is made whole, and then written to the output.
 ///
-/// Commands: `record SOURCE SUITE` writes the history of a small source and a small suite. `select OLD NEW HISTORY`
-/// reads two small sources and a history of OLD with at most 64 tests, and writes a line for each test in order, `run
+/// Commands: `record SOURCE SUITE` writes the history of an accepted source and a small suite. `select OLD NEW HISTORY`
+/// reads two accepted sources and a history of OLD with at most 64 tests, and writes a line for each test in order, `run
 /// NAME edge E` where its recorded run crossed a dangerous edge, E the least number of these, and `left NAME` where it
 /// crossed none; then `selected K of N`.
 ///
@@ -62,8 +62,6 @@ pub fn dejavu<R: Threads + Sync, S: Shelf, K: Sink, G: Gate>(
 {
     let _runtime = rt;
     let _gate = gate;
-    // A history that is one of the old source's program is one of the program that was read: there is no other.
-    a_small_source_means_one_program();
     match work(alloc, words, shelf) {
         Ok(text) => say(out, Status8::Done, &text),
         Err(refusal) => refuse(alloc, out, refusal),

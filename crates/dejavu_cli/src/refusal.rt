@@ -1,7 +1,9 @@
 //! Refusals and their lines.
 ghost use Rattle.std.specs.Prelude.{◌≡◌, IfOk};
-ghost use Rattle.dejavu_cli.specs.Answers.{refusal_line, status_of};
+ghost use Rattle.dejavu_cli.specs.Answers.{refusal_line, role_word, status_of};
+ghost use Rattle.dejavu_cli.specs.declared.refusal.Refusal.TheVariants as refusal;
 
+use crate::cause::{SourceCause, push_cause};
 use crate::status::Status8;
 use line_text::push_decimal;
 use std::alloc::{AllocError, Global};
@@ -23,7 +25,7 @@ pub enum Refusal {
     /// The words are no command.
     Usage,
     /// The source in this role isn't accepted.
-    Source(Role),
+    Source(Role, SourceCause),
     /// The suite isn't read.
     Suite,
     /// The history isn't read.
@@ -39,15 +41,34 @@ pub enum Refusal {
 /// The line for want of memory, which is there without memory.
 pub(crate) const MEMORY_LINE: &[u8] = b"refused: memory\n";
 
+fn role_word(role: Role) -> &'static [u8]
+    ensures { result.now ≡ role_word role }
+{
+    match role {
+        Role::Source => b"source",
+        Role::Old => b"old",
+        Role::New => b"new",
+    }
+}
+
+/// The line of a refused source.
+fn source_line(alloc: Global, which: Role, cause: SourceCause) -> Result<Vec<u8>, AllocError>
+    ensures { IfOk result (λ line. line.items ≡ refusal_line (refusal.Source which cause)) }
+{
+    let mut line = b"refused: ".to_vec(alloc)?;
+    line.extend_from_slice(role_word(which))?;
+    push_cause(&mut line, cause)?;
+    line.push(b'\n')?;
+    Ok(line)
+}
+
 /// The line of a refusal.
 pub(crate) fn refusal_text(alloc: Global, refusal: Refusal) -> Result<Vec<u8>, AllocError>
     ensures { IfOk result (λ line. line.items ≡ refusal_line refusal) }
 {
     match refusal {
         Refusal::Usage => b"refused: usage\n".to_vec(alloc),
-        Refusal::Source(Role::Source) => b"refused: source not built\n".to_vec(alloc),
-        Refusal::Source(Role::Old) => b"refused: old not built\n".to_vec(alloc),
-        Refusal::Source(Role::New) => b"refused: new not built\n".to_vec(alloc),
+        Refusal::Source(which, cause) => source_line(alloc, which, cause),
         Refusal::Suite => b"refused: suite not built\n".to_vec(alloc),
         Refusal::History => b"refused: history not built\n".to_vec(alloc),
         Refusal::ReadFault => b"refused: read fault\n".to_vec(alloc),
@@ -67,7 +88,7 @@ pub(crate) fn refusal_status(refusal: Refusal) -> Status8
 {
     match refusal {
         Refusal::Usage => Status8::Usage,
-        Refusal::Source(_) => Status8::Source,
+        Refusal::Source(_, _) => Status8::Source,
         Refusal::Suite => Status8::Suite,
         Refusal::History => Status8::History,
         Refusal::ReadFault => Status8::ReadFault,

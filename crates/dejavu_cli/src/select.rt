@@ -1,7 +1,7 @@
 //! What has to run again.
 ghost use Rattle.std.specs.Prelude.{◌≡◌, ◌<◌, IfOk, MatchResult, map, length};
 ghost use Rattle.csub_semantics.specs.Syntax.{ProgramTree, program_tree};
-ghost use Rattle.read_small.specs.Small.{IsSmall};
+ghost use Rattle.csub_accept.specs.Accepted.{Accepted};
 ghost use Rattle.flow_graph.specs.Graph.{IsGraphOf};
 ghost use Rattle.call_walk.specs.Walks.{IsWalk};
 ghost use Rattle.dejavu_cli.specs.Select.{IsSelection};
@@ -16,7 +16,6 @@ use edge_label::Steps;
 use edge_trace::EdgeRow;
 use flow_graph::Graph;
 use program_laws::{bounds, edges};
-use read_small::a_small_source_means_one_program;
 use std::alloc::{AllocError, Global};
 use std::marker::Brand;
 use std::sync::ledger::{Blank, Ledger};
@@ -65,7 +64,8 @@ pub(crate) fn selection_text(
     new: &Program,
     bytes: &[u8],
 ) -> Result<Vec<u8>, Refusal>
-    requires { IsSmall source.now (program_tree old.now) }
+    requires accepted { Accepted source.now (program_tree old.now) }
+    requires only { (P : ProgramTree) → Accepted source.now P → P ≡ program_tree old.now }
     ensures { MatchResult result
         (λ text. IsSelection source.now bytes.now (program_tree old.now) (program_tree new.now) text.items)
         (IsHistoryCause source.now bytes.now (program_tree old.now)) }
@@ -85,7 +85,6 @@ pub(crate) fn selection_text(
     lockstep();
     bounds();
     edges();
-    a_small_source_means_one_program();
     match choices_text(alloc, &history, &danger) {
         Ok(text) => Ok(text),
         Err(_) => Err(Refusal::Memory),

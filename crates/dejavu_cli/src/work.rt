@@ -12,7 +12,6 @@ use crate::refusal::{Refusal, Role};
 use crate::select::selection_text;
 use crate::words::{Command, read_words};
 use dv_outside::Shelf;
-use read_small::a_small_source_means_one_program;
 use std::alloc::Global;
 
 /// The text of the command that the words are, before anything is written.
@@ -81,7 +80,6 @@ fn select<S: Shelf>(
         Ok(program) => program,
         Err(refusal) => return Err(refusal),
     };
-    a_small_source_means_one_program();
     let bytes = fetch_file(shelf, history_name, HISTORY_AND_ONE)?;
     selection_text(alloc, &old_source, &old, &new, &bytes)
 }

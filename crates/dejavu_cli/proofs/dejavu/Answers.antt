@@ -10,7 +10,7 @@ returns-in-Ok-clause-complete g c =
 pub returns-in-Err-clause-complete : goal.returns-in-Err-clause-complete
 returns-in-Err-clause-complete g c =
     complete_refused (texts_of c.args.words.now) (g.S.Shelf.files c.args.shelf.now) (g.S.Shelf.faults c.args.shelf.now) (g.S.Shelf.faults c.work.new.shelf)
-    (g.K.Sink.written c.args.out.now) (g.K.Sink.written c.refuse.new.out) (g.K.Sink.faults c.args.out.now) (g.K.Sink.faults c.refuse.new.out) c.refuse.result c.a_small_source_means_one_program.ensures c.in-Err.refusal c.in-Err.ensures.answer c.refuse.ensures
+    (g.K.Sink.written c.args.out.now) (g.K.Sink.written c.refuse.new.out) (g.K.Sink.faults c.args.out.now) (g.K.Sink.faults c.refuse.new.out) c.refuse.result c.in-Err.refusal c.in-Err.ensures.answer c.refuse.ensures
 
 pub returns-in-Err-clause-answer : goal.returns-in-Err-clause-answer
 returns-in-Err-clause-answer g c =

@@ -18,5 +18,5 @@ returns-in-Ok-choices_text c =
     let valid = c.in-Ok.ensures.valid in
     let counted = c.edges.ensures.listed P c.in-Ok.ensures in
     selection_is P P' c.args.source.now c.args.bytes.now c.in-Ok-read_entries.history c.in-Ok-choices_text.text.items
-    (c.lockstep.ensures.runs P P' valid c.functions-valid.ensures.valid) (c.bounds.ensures (flow_of P)) (c.edges-2.ensures P) c.a_small_source_means_one_program.ensures
-    valid c.requires (c.in-Ok-read_entries.ensures P counted) (c.in-Ok-choices_text.ensures P P' (c.in-Ok-dangerous_edges.ensures P c.in-Ok.ensures))
+    (c.lockstep.ensures.runs P P' valid c.functions-valid.ensures.valid) (c.bounds.ensures (flow_of P)) (c.edges-2.ensures P)
+    valid c.requires.only (c.in-Ok-read_entries.ensures P counted) (c.in-Ok-choices_text.ensures P P' (c.in-Ok-dangerous_edges.ensures P c.in-Ok.ensures))

@@ -21,7 +21,7 @@ returns-in_err-suite-clause-answer g c =
     (HasCauseOf files (g.S.Shelf.files c.args.shelf.now) (g.S.Shelf.faults c.args.shelf.now) (g.S.Shelf.faults c.fetch_file-2.new.shelf))
     c.in_err-suite.field-0.0 c.from_residual-in_err-suite.ensures.1
     (no_suite c.args.source_name.now c.args.suite_name.now (g.S.Shelf.files c.args.shelf.now) (g.S.Shelf.faults c.args.shelf.now) (g.S.Shelf.faults c.fetch_file-2.new.shelf)
-    c.deref.result.now fetched (program_tree c.in-Ok.program) c.in-Ok.ensures.small c.in_err-suite.field-0.0
+    c.deref.result.now fetched (program_tree c.in-Ok.program) c.in-Ok.ensures.accepted c.in_err-suite.field-0.0
     (g.S.Shelf.faults c.fetch_file.new.shelf c.args.suite_name.now) (c.in_ok-source.ensures.counts c.args.suite_name.now) c.in_err-suite.ensures.cause)
 
 pub returns-in-Ok-read_tests-clause-answer : goal.returns-in-Ok-read_tests-clause-answer
@@ -29,7 +29,7 @@ returns-in-Ok-read_tests-clause-answer g c =
     let fetched = subst (IsFetched (g.S.Shelf.files c.args.shelf.now) c.args.source_name.now 1048577) (sym c.deref.ensures.value) c.in_ok-source.ensures.bytes in
     let taken = subst (IsFetched (g.S.Shelf.files c.fetch_file.new.shelf) c.args.suite_name.now 16777217) (sym c.deref-2.ensures.value) c.in_ok-suite.ensures.bytes in
     answered c.args.source_name.now c.args.suite_name.now (g.S.Shelf.files c.args.shelf.now) (g.S.Shelf.faults c.args.shelf.now) (g.S.Shelf.faults c.fetch_file-2.new.shelf)
-    c.deref.result.now fetched (program_tree c.in-Ok.program) c.in-Ok.ensures.small (g.S.Shelf.files c.fetch_file.new.shelf) c.in_ok-source.ensures.same
+    c.deref.result.now fetched (program_tree c.in-Ok.program) c.in-Ok.ensures.accepted (g.S.Shelf.files c.fetch_file.new.shelf) c.in_ok-source.ensures.same
     c.deref-2.result.now taken c.in-Ok-read_tests.tests.items c.in-Ok-read_tests.ensures.tests
     c.record_text.result c.deref-in-Ok-read_tests.result.now c.deref-in-Ok-read_tests-2.result.now
     (c.deref-in-Ok-read_tests.ensures.value ∙ sym c.deref.ensures.value) c.deref-in-Ok-read_tests-2.ensures.value c.record_text.ensures.text c.record_text.ensures.cause
@@ -39,5 +39,5 @@ returns-clause-answer g c =
     let fetched = subst (IsFetched (g.S.Shelf.files c.args.shelf.now) c.args.source_name.now 1048577) (sym c.deref.ensures.value) c.in_ok-source.ensures.bytes in
     let taken = subst (IsFetched (g.S.Shelf.files c.fetch_file.new.shelf) c.args.suite_name.now 16777217) (sym c.deref-2.ensures.value) c.in_ok-suite.ensures.bytes in
     bad_suite c.args.source_name.now c.args.suite_name.now (g.S.Shelf.files c.args.shelf.now) (g.S.Shelf.faults c.args.shelf.now) (g.S.Shelf.faults c.fetch_file-2.new.shelf)
-    c.deref.result.now fetched (program_tree c.in-Ok.program) c.in-Ok.ensures.small (g.S.Shelf.files c.fetch_file.new.shelf) c.in_ok-source.ensures.same
+    c.deref.result.now fetched (program_tree c.in-Ok.program) c.in-Ok.ensures.accepted (g.S.Shelf.files c.fetch_file.new.shelf) c.in_ok-source.ensures.same
     c.deref-2.result.now taken c.in-Err-read_tests.refusal c.in-Err-read_tests.ensures.cause

@@ -1,0 +1,71 @@
+#include <stdio.h>
+
+/* Counts lines, words, bytes and digits. */
+enum { OUT = 0, IN = 1, KINDS = 4 };
+
+struct counts {
+    int lines;
+    int words;
+    int bytes;
+    int digits;
+};
+
+struct counts total;
+int kinds[KINDS];
+
+int kind_of(int c)
+{
+    if (c >= '0' && c <= '9')
+        return 1;
+    switch (c) {
+    case ' ':
+    case '\t':
+        return 2;
+    case '\n':
+        return 3;
+    default:
+        return 0;
+    }
+}
+
+int sum(int list[], int n)
+{
+    int i;
+    int s = 0;
+    for (i = 0; i < n; i++)
+        s += list[i];
+    return s;
+}
+
+int main(void)
+{
+    int c;
+    int state = OUT;
+
+    while ((c = getchar()) != -1) {
+        int k = kind_of(c);
+        total.bytes++;
+        kinds[k]++;
+        switch (k) {
+        case 1:
+            total.digits++;
+            state = IN;
+            break;
+        case 3:
+            total.lines++;
+            state = OUT;
+            break;
+        case 2:
+            state = OUT;
+            break;
+        default:
+            if (state == OUT)
+                total.words++;
+            state = IN;
+        }
+    }
+    printf("%d %d %d\n", total.lines, total.words, total.bytes);
+    if (sum(kinds, KINDS) != total.bytes)
+        return 1;
+    return 0;
+}
