@@ -1,0 +1,6 @@
+mod WorkerLemmas
+mod Steps
+mod Cuts
+mod Classes
+mod Walks
+mod RestLemmas

@@ -1,0 +1,87 @@
+-- Which words are which command.
+use Rattle.std.specs.Prelude.{ℕ, ◌==◌, nat_lt, nat_eq, ◌&&◌, Bool, false, if◌then◌else◌}
+use Rattle.std.specs.Prelude.{List, [], ◌∷◌, map, length, drop, find, Option, Some, None, String, codes}
+use Rattle.std.specs.Option.{option_map, option_and_then}
+use Rattle.std.specs.List.{range_with_len, starts_with}
+use Rattle.std.specs.Fmt.{decimal}
+use Rattle.std.specs.declared.alloc.Global.{Global}
+use Rattle.std.specs.String.{string_bytes}
+use Rattle.std.specs.Str.{bytes_eq}
+
+abbrev pub texts_of : List (String Global) → List (List ℕ)
+texts_of words = map (λ word. string_bytes word) words
+
+-- a command, with its plain words, and the number of its workers where it has any
+pub data Command : Type 0 where
+  record_files : (source suite : List ℕ) (workers : ℕ) → Command
+  select_files : (old new history : List ℕ) → Command
+
+-- a word that begins with `-` and has more bytes is an option; the word `-` is plain
+abbrev pub is_option : List ℕ → Bool
+is_option [] = false
+is_option (first ∷ more) = (first == 45) && nat_lt 0 (length more)
+
+-- the words behind a command's name: the plain ones, and those that are given for the number of workers
+pub record Rest : Type 0 where
+  pub plain : List (List ℕ)
+  pub workers : List (List ℕ)
+
+abbrev pub plain_too : List ℕ → Rest → Rest
+plain_too word rest = record { plain = word ∷ rest.plain; workers = rest.workers }
+
+abbrev pub workers_too : List ℕ → Rest → Rest
+workers_too word rest = record { plain = rest.plain; workers = word ∷ rest.workers }
+
+-- The word `--` makes every later word a plain one. Before it `--workers` takes the next word, whatever that is, and
+-- `--workers=N` has its number; no other option is known.
+abbrev mutual
+  pub rest_of : List (List ℕ) → Option Rest
+  rest_of [] = Some (record { plain = []; workers = [] })
+  rest_of (word ∷ more) =
+      if bytes_eq word (codes "--") then Some (record { plain = more; workers = [] })
+      else if bytes_eq word (codes "--workers") then value_in more
+      else if starts_with nat_eq word (codes "--workers=") then option_map (workers_too (drop 10 word)) (rest_of more)
+      else if is_option word then None
+      else option_map (plain_too word) (rest_of more)
+
+  pub value_in : List (List ℕ) → Option Rest
+  value_in [] = None
+  value_in (word ∷ more) = option_map (workers_too word) (rest_of more)
+
+-- the most workers
+abbrev pub most_workers : ℕ
+most_workers = 64
+
+-- the number from 1 to 64 that a word spells, in decimal without a leading zero
+abbrev pub workers_in : List ℕ → Option ℕ
+workers_in word = find (λ n. bytes_eq word (decimal n)) (range_with_len 1 most_workers)
+
+-- the number of workers: 1 where none is given, and it is given once at most
+abbrev pub workers_of : List (List ℕ) → Option ℕ
+workers_of [] = Some 1
+workers_of (word ∷ []) = workers_in word
+workers_of (word ∷ other ∷ more) = None
+
+-- `record SOURCE SUITE`, with a number of workers
+abbrev pub record_with : List (List ℕ) → ℕ → Option Command
+record_with (source ∷ suite ∷ []) workers = Some (record_files source suite workers)
+record_with plain workers = None
+
+abbrev pub record_of : Rest → Option Command
+record_of rest = option_and_then (record_with rest.plain) (workers_of rest.workers)
+
+-- `select OLD NEW HISTORY`, which takes no number of workers
+abbrev pub select_with : List (List ℕ) → List (List ℕ) → Option Command
+select_with (old ∷ new ∷ history ∷ []) [] = Some (select_files old new history)
+select_with plain workers = None
+
+abbrev pub select_of : Rest → Option Command
+select_of rest = select_with rest.plain rest.workers
+
+-- the first word names the command; words that are none are a fault of usage
+abbrev pub command_of : List (List ℕ) → Option Command
+command_of [] = None
+command_of (name ∷ more) =
+    if bytes_eq name (codes "record") then option_and_then record_of (rest_of more)
+    else if bytes_eq name (codes "select") then option_and_then select_of (rest_of more)
+    else None

@@ -1,0 +1,24 @@
+//! What words ask for.
+
+/// A command, with the names of its files and the number of its workers.
+#[derive(Clone, Copy)]
+pub enum Command<'a> {
+    /// `record SOURCE SUITE`
+    Record {
+        /// The source's file.
+        source: &'a str,
+        /// The suite's file.
+        suite: &'a str,
+        /// How many workers run the tests, from 1 to 64.
+        workers: usize,
+    },
+    /// `select OLD NEW HISTORY`
+    Select {
+        /// The old source's file.
+        old: &'a str,
+        /// The new source's file.
+        new: &'a str,
+        /// The file of the history of the old source.
+        history: &'a str,
+    },
+}

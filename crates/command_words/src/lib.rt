@@ -1,0 +1,13 @@
+//! The words of the command line.
+//!
+//! Which words are which command is said by `command_of` of `specs/Words`; [`read_words`] gives that command, and `None`
+//! exactly where the words are none. It reads the command's name itself, and the words behind it by clap.
+#![tactic(auto)]
+
+pub mod command;
+mod reading;
+mod rest;
+mod workers;
+
+pub use command::Command;
+pub use reading::read_words;
