@@ -1,0 +1,4 @@
+mod JoinLemmas
+mod RunLemmas
+mod Threads
+mod Zips
