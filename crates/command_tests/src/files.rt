@@ -5,7 +5,7 @@ use std::alloc::{AllocError, Global};
 use std::test::Fail;
 use std::thread::Threads;
 
-const BRANCHING: &str =
+pub const BRANCHING: &str =
     "int main(void) { if (getchar() == 65) { putchar(66); } else { putchar(67); } return 0; }";
 
 // The same, but for what is written for another byte than 65.
@@ -76,6 +76,34 @@ pub fn answer<R: Threads + Sync>(
     let owned = owned_words(alloc, words)?;
     let mut shelf = shelf_of_files(alloc)?;
     let mut out = MemorySink::new(alloc, 1000, 7)?;
+    let status = dejavu(rt, alloc, &owned, &mut shelf, &mut out, &OpenGate);
+    Ok((status, out.bytes().to_vec(alloc)?))
+}
+
+/// A shelf of these texts.
+pub fn shelf_of(alloc: Global, texts: &[(&str, &str)]) -> Result<MemoryShelf, Fail> {
+    let mut files = Vec::new(alloc);
+    for (name, text) in texts {
+        let content = text.as_bytes().to_vec(alloc)?;
+        files.push((String::from_str(alloc, name)?, content))?;
+    }
+    if names_differ(&files) {
+        Ok(MemoryShelf::new(alloc, files))
+    } else {
+        Err("two files of one name")?
+    }
+}
+
+/// The answer and the text for words that name these texts.
+pub fn answer_about<R: Threads + Sync>(
+    rt: &R,
+    alloc: Global,
+    texts: &[(&str, &str)],
+    words: &[&str],
+) -> Result<(Status8, Vec<u8>), Fail> {
+    let owned = owned_words(alloc, words)?;
+    let mut shelf = shelf_of(alloc, texts)?;
+    let mut out = MemorySink::new(alloc, 100_000, 1000)?;
     let status = dejavu(rt, alloc, &owned, &mut shelf, &mut out, &OpenGate);
     Ok((status, out.bytes().to_vec(alloc)?))
 }

@@ -3,12 +3,24 @@
 #![tactic(auto)]
 
 #[cfg(test)]
+mod entries;
+#[cfg(test)]
 mod faults;
 #[cfg(test)]
 mod files;
+#[cfg(test)]
+mod histories;
 #[cfg(test)]
 mod record;
 #[cfg(test)]
 mod select;
 #[cfg(test)]
+mod selections;
+#[cfg(test)]
+mod sources;
+#[cfg(test)]
+mod suites;
+#[cfg(test)]
 mod usage;
+#[cfg(test)]
+mod workers;

@@ -47,7 +47,7 @@ fn record_names_the_first_cause(rt: HostRuntime) -> Result<(), Fail> {
         (
             &["record", "branching", "none"],
             Status8::Suite,
-            "refused: suite not built\n",
+            "refused: suite line 2 rule S6\n",
         ),
         (
             &["record", "branching", "absent"],

@@ -31,17 +31,17 @@ fn a_history_of_another_source_or_with_another_sum_is_refused(rt: HostRuntime) -
         (
             &["select", "branching", "changed", "spoiled history"],
             Status8::History,
-            "refused: history not built\n",
+            "refused: history sum 1ae825afb57f73619266aa578ec04b64a79208545da7c94d4ecd2544b127df50 5b81abb3cba59f84add359f72965014da0e0cd63c3c1ea7083750dd75d2ed967\n",
         ),
         (
             &["select", "branching", "changed", "empty history"],
             Status8::History,
-            "refused: history not built\n",
+            "refused: history source 24243bfac9f6afa167d0b0fe14c3ac8b5b4e34d974861164ca11dfab4601216b 720637fdcd894bb8ccb9d36c0cd133613d681911fdf1f57983db95d5bb25131b\n",
         ),
         (
             &["select", "changed", "branching", "history"],
             Status8::History,
-            "refused: history not built\n",
+            "refused: history source 720637fdcd894bb8ccb9d36c0cd133613d681911fdf1f57983db95d5bb25131b e841ea8b95ec1bac52ed842deb3200e79c8bc48ebb059a47f511cc58e6eb1e98\n",
         ),
     ];
     for (words, status, text) in rows {

@@ -5,10 +5,15 @@ use std::test::Fail;
 
 #[test]
 fn words_that_are_no_command_are_a_fault_of_usage(rt: HostRuntime) -> Result<(), Fail> {
-    let rows: [&[&str]; 7] = [
+    let rows: [&[&str]; 12] = [
         &[],
         &["record", "branching"],
         &["record", "a", "b", "--workers", "0"],
+        &["record", "a", "b", "--workers", "65"],
+        &["record", "a", "b", "--workers", "2", "--workers", "3"],
+        &["record", "a", "b", "--workers"],
+        &["record", "a", "b", "--workers=02"],
+        &["record", "--help"],
         &["select", "branching", "two"],
         &["select", "a", "b"],
         &["select", "a", "b", "c", "d"],

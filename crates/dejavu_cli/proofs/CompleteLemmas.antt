@@ -5,14 +5,17 @@ use Rattle.csub_semantics.specs.Syntax.{ProgramTree}
 use Rattle.csub_accept.specs.Accepted.{Accepted}
 use Rattle.test_suite.specs.Tests.{TestParts}
 use Rattle.test_history.specs.Histories.{HistoryParts}
-use Rattle.dejavu_cli.specs.Words.{Command, record_files, select_files, command_of}
-use Rattle.dejavu_cli.specs.Record.{IsSmallSuite}
+use Rattle.command_words.specs.Words.{Command, record_files, select_files, command_of}
+use Rattle.dejavu_cli.specs.Record.{IsSuiteFile}
 use Rattle.dejavu_cli.specs.Select.{IsHistoryFile}
-use Rattle.dejavu_cli.specs.Answers.{HasSource, HasNoSource, HasNoSuite, HasNoHistory, HasReadFault, AreReady, IsDone, HasCause, HasCauseOf, Decides, Says, Refuses, IsComplete, status_of, refusal_line}
-use Rattle.dejavu_cli.specs.declared.cause.SourceCause.{SourceCause}
-use Rattle.dejavu_cli.specs.declared.refusal.Role.TheVariants as role
-use Rattle.dejavu_cli.specs.declared.refusal.Refusal.{Refusal}
-use Rattle.dejavu_cli.specs.declared.refusal.Refusal.TheVariants as refusal
+use Rattle.dejavu_cli.specs.Answers.{HasSource, HasNoSource, HasNoSuite, HasNoHistory, HasReadFault, AreReady, IsDone, HasCause, HasCauseOf, Decides, Says, Refuses, IsComplete, status_of}
+use Rattle.command_refusals.specs.Refusals.{refusal_line}
+use Rattle.command_refusals.specs.declared.suite.SuiteCause.{SuiteCause}
+use Rattle.command_refusals.specs.declared.history.HistoryCause.{HistoryCause}
+use Rattle.command_refusals.specs.declared.source.SourceCause.{SourceCause}
+use Rattle.command_refusals.specs.declared.refusal.Role.TheVariants as role
+use Rattle.command_refusals.specs.declared.refusal.Refusal.{Refusal}
+use Rattle.command_refusals.specs.declared.refusal.Refusal.TheVariants as refusal
 use Rattle.dejavu_cli.specs.declared.status.Status8.{Status8}
 use Rattle.dejavu_cli.specs.declared.status.Status8.TheVariants as status
 
@@ -25,26 +28,27 @@ good_source : (files : Files) (name : List ℕ) (P : ProgramTree) (cause : Sourc
 good_source files name P cause good bad =
     bad.is.none P (subst (λ (bytes : List ℕ). Accepted bytes P) (one_file files name good.bytes bad.bytes good.found bad.found) good.accepted)
 
-good_suite : (files : Files) (s t suite : List ℕ) (tests : List TestParts) → file_at files t ≡ Some suite → IsSmallSuite suite tests → HasNoSuite files s t → ⊥
-good_suite files s t suite tests found reads bad =
-    bad.none tests (subst (λ (bytes : List ℕ). IsSmallSuite bytes tests) (one_file files t suite bad.bytes found bad.found) reads)
+good_suite : (files : Files) (s t suite : List ℕ) (tests : List TestParts) (cause : SuiteCause) → file_at files t ≡ Some suite → IsSuiteFile suite tests → HasNoSuite files s t cause → ⊥
+good_suite files s t suite tests cause found reads bad =
+    bad.is.none tests (subst (λ (bytes : List ℕ). IsSuiteFile bytes tests) (one_file files t suite bad.bytes found bad.found) reads)
 
-good_history : (files : Files) (o n h : List ℕ) (P : ProgramTree) (source : HasSource files o P) (bytes : List ℕ) (history : HistoryParts)
-    → file_at files h ≡ Some bytes → IsHistoryFile source.bytes bytes P history → HasNoHistory files o n h → ⊥
-good_history files o n h P source bytes history found is bad =
+good_history : (files : Files) (o n h : List ℕ) (P : ProgramTree) (source : HasSource files o P) (bytes : List ℕ) (history : HistoryParts) (cause : HistoryCause)
+    → file_at files h ≡ Some bytes → IsHistoryFile source.bytes bytes P history → HasNoHistory files o n h cause → ⊥
+good_history files o n h P source bytes history cause found is bad =
     let first : source.bytes ≡ bad.old_source.bytes = one_file files o source.bytes bad.old_source.bytes source.found bad.old_source.found in
     let second : bytes ≡ bad.bytes = one_file files h bytes bad.bytes found bad.found in
-    bad.none P (subst (λ (b : List ℕ). Accepted b P) first source.accepted) history
-    (subst (λ (b : List ℕ). IsHistoryFile bad.old_source.bytes b P history) second (subst (λ (b : List ℕ). IsHistoryFile b bytes P history) first is))
+    let one : P ≡ bad.old = bad.alone P (subst (λ (b : List ℕ). Accepted b P) first source.accepted) in
+    bad.is.none history (subst (λ (Q : ProgramTree). IsHistoryFile bad.old_source.bytes bad.bytes Q history) one
+    (subst (λ (b : List ℕ). IsHistoryFile bad.old_source.bytes b P history) second (subst (λ (b : List ℕ). IsHistoryFile b bytes P history) first is)))
 
 -- the statuses that are left
 abbrev IsLeft : Command → Status8 → Type 0
-IsLeft (record_files s t) answer = (answer ≡ status.TooMuch) ⊎ (answer ≡ status.Memory)
+IsLeft (record_files s t w) answer = (answer ≡ status.TooMuch) ⊎ (answer ≡ status.Memory)
 IsLeft (select_files o n h) answer = answer ≡ status.Memory
 
 module _ (words : List (List ℕ)) (told : Option Files) (before now : List ℕ → ℕ) (b n : Option (List ℕ)) (fb fn : ℕ) (answer : Status8) where
   is_done : (c : Command) → answer ≡ status.Done → IsDone c answer
-  is_done (record_files s t) is = inl is
+  is_done (record_files s t w) is = inl is
   is_done (select_files o m h) is = inl is
 
   memory_cause : (c : Option Command) → HasCause c told before now refusal.Memory
@@ -59,17 +63,17 @@ module _ (words : List (List ℕ)) (told : Option Files) (before now : List ℕ 
   pub complete_done : (text : List ℕ) → Says b n fb fn status.Done text answer → IsComplete words told before now fb fn answer
   complete_done text says files at c is ready read written = elim says [ inl h ↦ is_done c h.0 | inr h ↦ absurd (written h.1) ]
 
-  left_of_record : (files : Files) → told ≡ Some files → (s t : List ℕ) → AreReady (record_files s t) files → ¬ HasReadFault (record_files s t) told before now
-      → (r : Refusal) → HasCauseOf (record_files s t) told before now r → IsLeft (record_files s t) (status_of r)
-  left_of_record files at s t ready read refusal.Usage cause = absurd cause
-  left_of_record files at s t ready read (refusal.Source role.Source why) cause = absurd (good_source files s ready.0.0 why ready.0.1 (cause files at))
-  left_of_record files at s t ready read (refusal.Source role.Old why) cause = absurd cause
-  left_of_record files at s t ready read (refusal.Source role.New why) cause = absurd cause
-  left_of_record files at s t ready read refusal.Suite cause = absurd (good_suite files s t ready.1.0 ready.1.1 ready.1.2 ready.1.3 (cause files at))
-  left_of_record files at s t ready read refusal.History cause = absurd cause
-  left_of_record files at s t ready read refusal.ReadFault cause = absurd (read cause)
-  left_of_record files at s t ready read refusal.Memory cause = inr refl
-  left_of_record files at s t ready read (refusal.TooMuch m) cause = inl refl
+  left_of_record : (files : Files) → told ≡ Some files → (s t : List ℕ) (w : ℕ) → AreReady (record_files s t w) files → ¬ HasReadFault (record_files s t w) told before now
+      → (r : Refusal) → HasCauseOf (record_files s t w) told before now r → IsLeft (record_files s t w) (status_of r)
+  left_of_record files at s t w ready read refusal.Usage cause = absurd cause
+  left_of_record files at s t w ready read (refusal.Source role.Source why) cause = absurd (good_source files s ready.0.0 why ready.0.1 (cause files at))
+  left_of_record files at s t w ready read (refusal.Source role.Old why) cause = absurd cause
+  left_of_record files at s t w ready read (refusal.Source role.New why) cause = absurd cause
+  left_of_record files at s t w ready read (refusal.Suite why) cause = absurd (good_suite files s t ready.1.0 ready.1.1 why ready.1.2 ready.1.3 (cause files at))
+  left_of_record files at s t w ready read (refusal.History why) cause = absurd cause
+  left_of_record files at s t w ready read refusal.ReadFault cause = absurd (read cause)
+  left_of_record files at s t w ready read refusal.Memory cause = inr refl
+  left_of_record files at s t w ready read (refusal.TooMuch m) cause = inl refl
 
   left_of_select : (files : Files) → told ≡ Some files → (o m h : List ℕ) → AreReady (select_files o m h) files → ¬ HasReadFault (select_files o m h) told before now
       → (r : Refusal) → HasCauseOf (select_files o m h) told before now r → IsLeft (select_files o m h) (status_of r)
@@ -77,24 +81,24 @@ module _ (words : List (List ℕ)) (told : Option Files) (before now : List ℕ 
   left_of_select files at o m h ready read (refusal.Source role.Source why) cause = absurd cause
   left_of_select files at o m h ready read (refusal.Source role.Old why) cause = absurd (good_source files o ready.0 why ready.2 (cause files at))
   left_of_select files at o m h ready read (refusal.Source role.New why) cause = absurd (good_source files m ready.1 why ready.3 (cause files at).1)
-  left_of_select files at o m h ready read refusal.Suite cause = absurd cause
-  left_of_select files at o m h ready read refusal.History cause =
-      absurd (good_history files o m h ready.0 ready.2 ready.4 ready.5 ready.6 ready.7 (cause files at))
+  left_of_select files at o m h ready read (refusal.Suite why) cause = absurd cause
+  left_of_select files at o m h ready read (refusal.History why) cause =
+      absurd (good_history files o m h ready.0 ready.2 ready.4 ready.5 why ready.6 ready.7 (cause files at))
   left_of_select files at o m h ready read refusal.ReadFault cause = absurd (read cause)
   left_of_select files at o m h ready read refusal.Memory cause = refl
   left_of_select files at o m h ready read (refusal.TooMuch k) cause = absurd cause
 
   left_over : (files : Files) → told ≡ Some files → (c : Command) → AreReady c files → ¬ HasReadFault c told before now
       → (r : Refusal) → HasCauseOf c told before now r → IsLeft c (status_of r)
-  left_over files at (record_files s t) ready read r cause = left_of_record files at s t ready read r cause
+  left_over files at (record_files s t w) ready read r cause = left_of_record files at s t w ready read r cause
   left_over files at (select_files o m h) ready read r cause = left_of_select files at o m h ready read r cause
 
   left_done : (c : Command) (s : Status8) → IsLeft c s → answer ≡ s → IsDone c answer
-  left_done (record_files s t) which left is = elim left [ inl k ↦ inr (inl (is ∙ k)) | inr k ↦ inr (inr (is ∙ k)) ]
+  left_done (record_files s t w) which left is = elim left [ inl k ↦ inr (inl (is ∙ k)) | inr k ↦ inr (inr (is ∙ k)) ]
   left_done (select_files o m h) which left is = inr (is ∙ left)
 
   memory_left : (c : Command) → IsLeft c status.Memory
-  memory_left (record_files s t) = inr refl
+  memory_left (record_files s t w) = inr refl
   memory_left (select_files o m h) = refl
 
   said : (c : Command) (r : Refusal) → IsLeft c (status_of r) → ¬ Rose fb fn → Refuses b n fb fn r answer → IsDone c answer

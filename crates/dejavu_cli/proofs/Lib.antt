@@ -1,9 +1,10 @@
 mod AnswerLemmas
 mod ChoiceLemmas
 mod CompleteLemmas
+mod FileLemmas
 mod RunLemmas
 mod Safety
 mod SelectionLemmas
 mod SourceLemmas
-mod WordLemmas
+mod TopLemmas
 mod Zips

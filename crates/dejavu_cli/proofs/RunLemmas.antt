@@ -1,48 +1,14 @@
--- From what a machine shows to entries and histories.
-use Rattle.std.proofs.Common.{◌≡◌, ◌↔◌, ℕ, suc, ◌≤◌, List, [], ◌∷◌, length, map, Bool, IsTrue, Some, refl, sym, ap, ◌∙◌, subst, arith, All}
+-- From entries to histories.
+use Rattle.std.proofs.Common.{◌≡◌, ℕ, suc, ◌≤◌, List, [], ◌∷◌, length, refl, sym, ap, ◌∙◌, subst, arith, All}
 use Rattle.std.specs.List.{AllZip}
 use Rattle.std.proofs.lemmas.List.Elements.{All-cons, All-head, All-tail, All-nil}
-use Rattle.csub_semantics.specs.declared.status.Status.{Status}
-use Rattle.csub_semantics.specs.Syntax.{ProgramParts, ProgramTree, program_tree}
+use Rattle.csub_semantics.specs.Syntax.{ProgramTree}
 use Rattle.csub_semantics.specs.Flows.{flow_of, edge_list}
-use Rattle.csub_semantics.specs.Numbers.{IsCrossed}
-use Rattle.csub_semantics.specs.Runs.{run_of}
 use Rattle.csub_core.specs.Valid.{IsValid}
-use Rattle.csub_machine.specs.Moments.{Seen, moment_of, output_of, turns_of, crossed_of, results_of}
-use Rattle.edge_trace.specs.Rows.{has}
 use Rattle.program_laws.specs.Bounds.{RunsAreBounded, IsBounded}
 use Rattle.test_suite.specs.Tests.{TestParts, IsWithin}
 use Rattle.test_history.specs.Histories.{EntryParts, HistoryParts, HaveRows, IsEntryWithin, IsHistoryWithin}
-use Rattle.dejavu_cli.specs.Record.{IsRowOf, IsEntry}
-
--- what a machine shows after a whole run of a test is the test's entry
-pub entry_is : (program : ProgramParts) (asked copy : TestParts) (entry : EntryParts) (status : Status) (old new : Seen) (input : List ℕ) (budget turns : ℕ) (output : List ℕ) (row : List Bool)
-    → old ≡ record { program = program; input = input; done = 0 }
-    → input ≡ asked.input → budget ≡ asked.budget
-    → new ≡ record old { done = budget }
-    → run_of (flow_of (program_tree old.program)) old.input budget ≡ Some (results_of status new)
-    → output ≡ output_of (moment_of new) → turns ≡ turns_of new.done (moment_of new)
-    → length row ≡ length (edge_list (program_tree new.program))
-    → ((e : ℕ) → IsTrue (has row e) ↔ IsCrossed (program_tree new.program) (crossed_of (moment_of new)) e)
-    → copy ≡ asked
-    → entry ≡ record { test = copy; status = status; turns = turns; output = output; crossed = row }
-    → IsEntry (program_tree program) asked entry
-entry_is program asked copy entry status old new input budget turns output row is inputs budgets later ran written done edges crossed copied made =
-    let same : new.program ≡ program = ap (λ (s : Seen). s.program) later ∙ ap (λ (s : Seen). s.program) is in
-    let begun = subst (λ (s : Seen). run_of (flow_of (program_tree s.program)) s.input budget ≡ Some (results_of status new)) is ran in
-    let fed = subst (λ (bytes : List ℕ). run_of (flow_of (program_tree program)) bytes budget ≡ Some (results_of status new)) inputs begun in
-    let whole = subst (λ (n : ℕ). run_of (flow_of (program_tree program)) asked.input n ≡ Some (results_of status new)) budgets fed in
-    let rows : IsRowOf (program_tree new.program) (results_of status new) row = record { edges = edges; crossed = crossed } in
-    let placed = subst (λ (p : ProgramParts). IsRowOf (program_tree p) (results_of status new) row) same rows in
-    record {
-      test = ap (λ (e : EntryParts). e.test) made ∙ copied;
-      results = results_of status new;
-      run = whole;
-      status = ap (λ (e : EntryParts). e.status) made;
-      turns = ap (λ (e : EntryParts). e.turns) made ∙ done;
-      output = ap (λ (e : EntryParts). e.output) made ∙ written;
-      crossed = subst (IsRowOf (program_tree program) (results_of status new)) (sym (ap (λ (e : EntryParts). e.crossed) made)) placed;
-    }
+use Rattle.suite_run.specs.Entries.{IsEntry}
 
 -- the rows of entries have the program's number of edges
 pub have_rows : (P : ProgramTree) (edges : ℕ) (tests : List TestParts) (entries : List EntryParts) → edges ≡ length (edge_list P) → AllZip (IsEntry P) tests entries → HaveRows edges entries
@@ -75,9 +41,9 @@ entries_within P (t ∷ tests) [] bounded within each = absurd each
 entries_within P (t ∷ tests) (e ∷ entries) bounded within each =
     All-cons IsEntryWithin e entries (entry_within P t e bounded (All-head IsWithin t tests within) each.0) (entries_within P tests entries bounded (All-tail IsWithin t tests within) each.1)
 
--- the history of a valid program and few tests is within the limits of its text
+-- the history of a valid program and the tests of a suite is within the limits of its text
 pub history_within : (P : ProgramTree) (digest : List ℕ) (edges : ℕ) (tests : List TestParts) (entries : List EntryParts) (history : HistoryParts) → IsValid P → RunsAreBounded (flow_of P) → edges ≡ length (edge_list P)
-    → All IsWithin tests → length tests ≤ 64 → AllZip (IsEntry P) tests entries → history ≡ record { digest = digest; edges = edges; entries = entries } → IsHistoryWithin history
+    → All IsWithin tests → length tests ≤ 8192 → AllZip (IsEntry P) tests entries → history ≡ record { digest = digest; edges = edges; entries = entries } → IsHistoryWithin history
 history_within P digest edges tests entries history valid bounded is within few each made =
     subst IsHistoryWithin (sym made) (record {
       edges = omega (arith, is, valid.edges);

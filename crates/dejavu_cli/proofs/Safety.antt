@@ -23,10 +23,11 @@ use Rattle.test_history.specs.Histories.{EntryParts, HistoryParts, IsDigest, IsB
 use Rattle.test_history.specs.HistoryTexts.{history_text}
 use Rattle.test_select.specs.declared.choice.Choice.{Choice}
 use Rattle.test_select.specs.declared.choice.Choice.TheVariants.{Left}
-use Rattle.dejavu_cli.specs.Record.{IsRowOf, IsEntry, IsHistory, IsSmallSuite}
+use Rattle.suite_run.specs.Entries.{IsRowOf, IsEntry}
+use Rattle.dejavu_cli.specs.Record.{IsHistory, IsSuiteFile}
 use Rattle.dejavu_cli.specs.Select.{CrossesDanger, IsChoice, BehavesTheSame, IsSafe, IsHistoryFile, IsSelection}
 use Rattle.dejavu_cli.specs.Steps.{IsOnlyHistory, HasChoices}
-use Rattle.dejavu_cli.proofs.RunLemmas.{as_many, history_within}
+use Rattle.dejavu_cli.proofs.RunLemmas.{history_within}
 
 -- ---- what `record` writes of a source can be read back
 
@@ -67,20 +68,19 @@ same_names P (t ∷ tests) (e ∷ entries) each =
 
 -- the digest of the source is that of a history that was read
 recorded_file : (P : ProgramTree) (old bytes : List ℕ) (found : HistoryParts) → IsValid P → RunsAreBounded (flow_of P) → IsHistoryFile old bytes P found
-    → (suite : List ℕ) (tests : List TestParts) (recorded : HistoryParts) → IsSmallSuite suite tests → IsHistory old P tests recorded → bytes ≡ history_text recorded → IsHistoryFile old bytes P recorded
+    → (suite : List ℕ) (tests : List TestParts) (recorded : HistoryParts) → IsSuiteFile suite tests → IsHistory old P tests recorded → bytes ≡ history_text recorded → IsHistoryFile old bytes P recorded
 recorded_file P old bytes found valid bounded file suite tests recorded reads is text = record {
   text = text;
   short = file.short;
   readable =
       record {
-        within = history_within P recorded.digest recorded.edges tests recorded.entries recorded valid bounded is.edges reads.says.within reads.few is.entries refl;
+        within = history_within P recorded.digest recorded.edges tests recorded.entries recorded valid bounded is.edges reads.says.within reads.suite.few is.entries refl;
         apart = subst (AllPairs (λ name other. name ≢ other)) (sym (same_names P tests recorded.entries is.entries)) reads.suite.apart;
         digest = subst IsDigest (file.digest ∙ sym is.digest) file.readable.digest;
         bytes = entries_of_bytes P tests recorded.entries bounded reads.says.bytes is.entries;
       };
   digest = is.digest;
   edges = is.edges;
-  few = subst (λ n. n ≤ 64) (sym (as_many P tests recorded.entries is.entries)) reads.few;
 }
 
 -- ---- a test whose run crossed no dangerous edge

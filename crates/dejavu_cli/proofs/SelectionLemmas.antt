@@ -5,23 +5,24 @@ use Rattle.std.specs.declared.alloc.Global.{Global}
 use Rattle.dv_outside.specs.Outside.{Files, IsFetched}
 use Rattle.csub_semantics.specs.Syntax.{ProgramTree}
 use Rattle.csub_accept.specs.Accepted.{Accepted}
-use Rattle.dejavu_cli.specs.Words.{select_files}
-use Rattle.dejavu_cli.specs.Select.{IsHistoryFile, IsSelection}
+use Rattle.command_words.specs.Words.{select_files}
+use Rattle.dejavu_cli.specs.Select.{IsSelection}
 use Rattle.dejavu_cli.specs.Steps.{IsFetchCause, IsSourceCause, IsHistoryCause}
 use Rattle.dejavu_cli.specs.Answers.{HasTextOf, HasCauseOf, HasBadSource}
-use Rattle.dejavu_cli.specs.declared.refusal.Role.{Role}
-use Rattle.dejavu_cli.specs.declared.refusal.Role.TheVariants as role
-use Rattle.dejavu_cli.specs.declared.refusal.Refusal.{Refusal}
-use Rattle.dejavu_cli.specs.declared.refusal.Refusal.TheVariants as refusal
-use Rattle.dejavu_cli.proofs.SourceLemmas.{short_file, found_file, rose_since, has_source, has_good_source, has_no_source}
+use Rattle.command_refusals.specs.declared.refusal.Role.{Role}
+use Rattle.command_refusals.specs.declared.refusal.Role.TheVariants as role
+use Rattle.command_refusals.specs.declared.refusal.Refusal.{Refusal}
+use Rattle.command_refusals.specs.declared.refusal.Refusal.TheVariants as refusal
+use Rattle.dejavu_cli.proofs.FileLemmas.{no_history_in}
+use Rattle.dejavu_cli.proofs.SourceLemmas.{found_file, rose_since, has_source, has_good_source, has_no_source}
 
 module _ (o n h : List ℕ) (told : Option Files) (before now : List ℕ → ℕ) (old : List ℕ) (fetched : IsFetched told o 1048577 old) where
   pub bad_old : (r : Refusal) → IsSourceCause role.Old old r → HasCauseOf (select_files o n h) told before now r
   bad_old refusal.Usage cause = absurd cause
   bad_old (refusal.Source which why) cause =
       subst (λ (named : Role). HasBadSource (select_files o n h) named why told) (sym cause.0) (has_no_source told o old fetched why cause.1)
-  bad_old refusal.Suite cause = absurd cause
-  bad_old refusal.History cause = absurd cause
+  bad_old (refusal.Suite why) cause = absurd cause
+  bad_old (refusal.History why) cause = absurd cause
   bad_old refusal.ReadFault cause = absurd cause
   bad_old refusal.Memory cause = tt
   bad_old (refusal.TooMuch m) cause = absurd cause
@@ -29,8 +30,8 @@ module _ (o n h : List ℕ) (told : Option Files) (before now : List ℕ → ℕ
   pub no_new : (P : ProgramTree) → Accepted old P → (r : Refusal) (since : ℕ) → before n ≤ since → IsFetchCause since (now n) r → HasCauseOf (select_files o n h) told before now r
   no_new P accepted refusal.Usage since kept cause = absurd cause
   no_new P accepted (refusal.Source which why) since kept cause = absurd cause
-  no_new P accepted refusal.Suite since kept cause = absurd cause
-  no_new P accepted refusal.History since kept cause = absurd cause
+  no_new P accepted (refusal.Suite why) since kept cause = absurd cause
+  no_new P accepted (refusal.History why) since kept cause = absurd cause
   no_new P accepted refusal.ReadFault since kept cause = inr (inl (has_good_source told o old fetched P accepted, rose_since (before n) since (now n) kept cause))
   no_new P accepted refusal.Memory since kept cause = tt
   no_new P accepted (refusal.TooMuch m) since kept cause = absurd cause
@@ -41,8 +42,8 @@ module _ (o n h : List ℕ) (told : Option Files) (before now : List ℕ → ℕ
     bad_new (refusal.Source which why) cause =
         subst (λ (named : Role). HasBadSource (select_files o n h) named why told) (sym cause.0)
         (λ files at. ((P, has_source told o old fetched P accepted files at), has_no_source mid n new taken why cause.1 files (same ∙ at)))
-    bad_new refusal.Suite cause = absurd cause
-    bad_new refusal.History cause = absurd cause
+    bad_new (refusal.Suite why) cause = absurd cause
+    bad_new (refusal.History why) cause = absurd cause
     bad_new refusal.ReadFault cause = absurd cause
     bad_new refusal.Memory cause = tt
     bad_new (refusal.TooMuch m) cause = absurd cause
@@ -50,8 +51,8 @@ module _ (o n h : List ℕ) (told : Option Files) (before now : List ℕ → ℕ
     pub no_bytes : (P' : ProgramTree) → Accepted new P' → (r : Refusal) (since : ℕ) → before h ≤ since → IsFetchCause since (now h) r → HasCauseOf (select_files o n h) told before now r
     no_bytes P' accepted' refusal.Usage since kept cause = absurd cause
     no_bytes P' accepted' (refusal.Source which why) since kept cause = absurd cause
-    no_bytes P' accepted' refusal.Suite since kept cause = absurd cause
-    no_bytes P' accepted' refusal.History since kept cause = absurd cause
+    no_bytes P' accepted' (refusal.Suite why) since kept cause = absurd cause
+    no_bytes P' accepted' (refusal.History why) since kept cause = absurd cause
     no_bytes P' accepted' refusal.ReadFault since kept cause =
         inr (inr (
           has_good_source told o old fetched P accepted,
@@ -65,19 +66,18 @@ module _ (o n h : List ℕ) (told : Option Files) (before now : List ℕ → ℕ
       no_history : (r : Refusal) → IsHistoryCause old bytes P r → HasCauseOf (select_files o n h) told before now r
       no_history refusal.Usage cause = absurd cause
       no_history (refusal.Source which why) cause = absurd cause
-      no_history refusal.Suite cause = absurd cause
-      no_history refusal.History cause = λ files at.
+      no_history (refusal.Suite why) cause = absurd cause
+      no_history (refusal.History why) cause = λ files at.
           let file = read files (same' ∙ at) in
           record {
             old = P;
             new = P';
             old_source = has_source told o old fetched P accepted files at;
             new_source = has_source mid n new taken P' accepted' files (same ∙ at);
+            alone = alone;
             bytes = file.0;
             found = file.1;
-            none = λ Q other history is. cause history
-                (subst (λ (R : ProgramTree). IsHistoryFile old bytes R history) (alone Q other)
-                (subst (λ (text : List ℕ). IsHistoryFile old text Q history) (sym (short_file 134217729 file.0 bytes file.2 (omega (arith, is.short)))) is));
+            is = no_history_in old bytes file.0 P why file.2 cause;
           }
       no_history refusal.ReadFault cause = absurd cause
       no_history refusal.Memory cause = tt

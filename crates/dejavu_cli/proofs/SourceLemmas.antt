@@ -10,10 +10,11 @@ use Rattle.csub_semantics.specs.Syntax.{ProgramTree}
 use Rattle.csub_accept.specs.Accepted.{Accepted, HasCause}
 use Rattle.csub_accept.specs.declared.error.SourceError.{SourceError}
 use Rattle.csub_accept.specs.declared.error.SourceError.TheVariants as errors
-use Rattle.dejavu_cli.specs.Causes.{NotAccepted, cause_of}
-use Rattle.dejavu_cli.specs.declared.cause.SourceCause.{SourceCause}
+use Rattle.command_refusals.specs.Causes.{source_cause}
+use Rattle.command_refusals.specs.declared.source.SourceCause.{SourceCause}
+use Rattle.command_refusals.specs.declared.refusal.Refusal.{Refusal}
+use Rattle.dejavu_cli.specs.Causes.{NotAccepted}
 use Rattle.dejavu_cli.specs.Answers.{HasSource, HasGoodSource, HasNoSource, WhereTold}
-use Rattle.dejavu_cli.specs.declared.refusal.Refusal.{Refusal}
 
 -- a beginning of a list that is shorter than was asked for is the whole list
 pub whole_file : (most : ℕ) (whole bytes : List ℕ) → bytes ≡ take most whole → length bytes < most → bytes ≡ whole
@@ -52,7 +53,7 @@ module _ (source whole : List ℕ) (cause : SourceCause) (begins : source ≡ ta
   of_whole : length source ≤ 1048576 → NotAccepted whole cause
   of_whole short = subst (λ bytes. NotAccepted bytes cause) (whole_file 1048577 whole source begins (omega (arith, short))) n
 
-  told_by : (error : SourceError) → HasCause source error → cause_of source error ≡ Some cause → NotAccepted whole cause
+  told_by : (error : SourceError) → HasCause source error → source_cause source error ≡ Some cause → NotAccepted whole cause
   told_by (errors.TooLong k) why is =
       let all : 1048577 ≤ length whole = long_file 1048577 whole source begins (omega (arith, why.0)) in
       let long : 1048576 < length whole = omega (arith, all) in

@@ -1,21 +1,23 @@
 -- What is written, and when each answer comes.
-use Rattle.std.specs.Prelude.{ℕ, ◌≡◌, ◌<◌, ◌≤◌, ◌⊎◌, List, ◌++◌, length, Option, Some, None, codes}
-use Rattle.std.specs.Fmt.{decimal}
+use Rattle.std.specs.Prelude.{ℕ, ◌≡◌, ◌<◌, ◌≤◌, ◌⊎◌, List, ◌++◌, length, Option, Some, None}
 use Rattle.dv_outside.specs.Outside.{Files, file_at, Rose, Appends, AppendsPrefix}
 use Rattle.csub_semantics.specs.Syntax.{ProgramTree}
 use Rattle.csub_accept.specs.Accepted.{Accepted}
 use Rattle.test_suite.specs.Tests.{TestParts}
 use Rattle.test_history.specs.Histories.{HistoryParts}
 use Rattle.test_history.specs.HistoryTexts.{history_text, most_history_bytes}
-use Rattle.dejavu_cli.specs.Words.{Command, record_files, select_files, command_of}
-use Rattle.dejavu_cli.specs.Causes.{NotAccepted, cause_text}
-use Rattle.dejavu_cli.specs.Record.{IsHistoryOf, IsSmallSuite}
+use Rattle.command_words.specs.Words.{Command, record_files, select_files, command_of}
+use Rattle.command_refusals.specs.Refusals.{refusal_line}
+use Rattle.command_refusals.specs.declared.source.SourceCause.{SourceCause}
+use Rattle.command_refusals.specs.declared.suite.SuiteCause.{SuiteCause}
+use Rattle.command_refusals.specs.declared.history.HistoryCause.{HistoryCause}
+use Rattle.command_refusals.specs.declared.refusal.Role.{Role}
+use Rattle.command_refusals.specs.declared.refusal.Role.TheVariants as role
+use Rattle.command_refusals.specs.declared.refusal.Refusal.{Refusal}
+use Rattle.command_refusals.specs.declared.refusal.Refusal.TheVariants as refusal
+use Rattle.dejavu_cli.specs.Causes.{NotAccepted, NoSuite, NoHistory}
+use Rattle.dejavu_cli.specs.Record.{IsHistoryOf, IsSuiteFile}
 use Rattle.dejavu_cli.specs.Select.{IsHistoryFile, IsSelection}
-use Rattle.dejavu_cli.specs.declared.cause.SourceCause.{SourceCause}
-use Rattle.dejavu_cli.specs.declared.refusal.Role.{Role}
-use Rattle.dejavu_cli.specs.declared.refusal.Role.TheVariants as role
-use Rattle.dejavu_cli.specs.declared.refusal.Refusal.{Refusal}
-use Rattle.dejavu_cli.specs.declared.refusal.Refusal.TheVariants as refusal
 use Rattle.dejavu_cli.specs.declared.status.Status8.{Status8}
 use Rattle.dejavu_cli.specs.declared.status.Status8.TheVariants as status
 
@@ -46,23 +48,23 @@ pub record HasNoSource (files : Files) (name : List ℕ) (cause : SourceCause) :
   pub found : file_at files name ≡ Some bytes
   pub is : NotAccepted bytes cause
 
--- both files are there; the first is an accepted source, the second a small suite, and this is their history
+-- both files are there; the first is an accepted source, the second a suite, and this is their history
 pub record HasHistory (files : Files) (source_name suite_name : List ℕ) (history : HistoryParts) : Type 0 where
   pub source : List ℕ
   pub found : file_at files source_name ≡ Some source
   pub suite : List ℕ
   pub suite_found : file_at files suite_name ≡ Some suite
   pub tests : List TestParts
-  pub reads : IsSmallSuite suite tests
+  pub reads : IsSuiteFile suite tests
   pub is : IsHistoryOf source tests history
 
--- the first file is an accepted source, and the second is there and no small suite
-pub record HasNoSuite (files : Files) (source_name suite_name : List ℕ) : Type 0 where
+-- the first file is an accepted source, and the second is there and no suite, of which this is told
+pub record HasNoSuite (files : Files) (source_name suite_name : List ℕ) (cause : SuiteCause) : Type 0 where
   pub program : ProgramTree
   pub source : HasSource files source_name program
   pub bytes : List ℕ
   pub found : file_at files suite_name ≡ Some bytes
-  pub none : (tests : List TestParts) → IsSmallSuite bytes tests → ⊥
+  pub is : NoSuite bytes cause
 
 -- the three files are there: two accepted sources, each of one program alone, and a history of the old one; this is the
 -- text of their selection
@@ -77,22 +79,22 @@ pub record HasSelection (files : Files) (old_name new_name history_name text : L
   pub found : file_at files history_name ≡ Some bytes
   pub is : IsSelection old_source.bytes bytes old new text
 
--- the first two files are accepted sources, and the third is there and no history of the first with few entries, whatever its
--- program
-pub record HasNoHistory (files : Files) (old_name new_name history_name : List ℕ) : Type 0 where
+-- the first two files are accepted sources, and the third is there and no history of the first, of which this is told
+pub record HasNoHistory (files : Files) (old_name new_name history_name : List ℕ) (cause : HistoryCause) : Type 0 where
   pub old : ProgramTree
   pub new : ProgramTree
   pub old_source : HasSource files old_name old
   pub new_source : HasSource files new_name new
+  pub alone : (P : ProgramTree) → Accepted old_source.bytes P → P ≡ old
   pub bytes : List ℕ
   pub found : file_at files history_name ≡ Some bytes
-  pub none : (P : ProgramTree) → Accepted old_source.bytes P → (history : HistoryParts) → IsHistoryFile old_source.bytes bytes P history → ⊥
+  pub is : NoHistory old_source.bytes bytes old cause
 
 -- ---- the text of a command
 
 -- the text of a command by its files
 abbrev pub IsTextOf : Command → Files → List ℕ → Type 0
-IsTextOf (record_files source suite) files text =
+IsTextOf (record_files source suite workers) files text =
     (history : HistoryParts) × HasHistory files source suite history × (text ≡ history_text history) × (length text ≤ most_history_bytes)
 IsTextOf (select_files old new history) files text = HasSelection files old new history text
 
@@ -109,23 +111,23 @@ HasTextOf (Some c) told text = WhereTold told (λ files. IsTextOf c files text)
 
 -- the source in this role isn't accepted, and the sources before it are
 abbrev pub HasBadSource : Command → Role → SourceCause → Option Files → Type 0
-HasBadSource (record_files source suite) role.Source cause told = WhereTold told (λ files. HasNoSource files source cause)
-HasBadSource (record_files source suite) role.Old cause told = ⊥
-HasBadSource (record_files source suite) role.New cause told = ⊥
+HasBadSource (record_files source suite workers) role.Source cause told = WhereTold told (λ files. HasNoSource files source cause)
+HasBadSource (record_files source suite workers) role.Old cause told = ⊥
+HasBadSource (record_files source suite workers) role.New cause told = ⊥
 HasBadSource (select_files old new history) role.Source cause told = ⊥
 HasBadSource (select_files old new history) role.Old cause told = WhereTold told (λ files. HasNoSource files old cause)
 HasBadSource (select_files old new history) role.New cause told =
     WhereTold told (λ files. ((P : ProgramTree) × HasSource files old P) × HasNoSource files new cause)
 
 -- the source is accepted, and the suite isn't
-abbrev pub HasBadSuite : Command → Option Files → Type 0
-HasBadSuite (record_files source suite) told = WhereTold told (λ files. HasNoSuite files source suite)
-HasBadSuite (select_files old new history) told = ⊥
+abbrev pub HasBadSuite : Command → SuiteCause → Option Files → Type 0
+HasBadSuite (record_files source suite workers) cause told = WhereTold told (λ files. HasNoSuite files source suite cause)
+HasBadSuite (select_files old new history) cause told = ⊥
 
 -- both sources are accepted, and the history isn't
-abbrev pub HasBadHistory : Command → Option Files → Type 0
-HasBadHistory (record_files source suite) told = ⊥
-HasBadHistory (select_files old new history) told = WhereTold told (λ files. HasNoHistory files old new history)
+abbrev pub HasBadHistory : Command → HistoryCause → Option Files → Type 0
+HasBadHistory (record_files source suite workers) cause told = ⊥
+HasBadHistory (select_files old new history) cause told = WhereTold told (λ files. HasNoHistory files old new history cause)
 
 -- the source of this name is accepted
 abbrev pub HasGoodSource : List ℕ → Option Files → Type 0
@@ -133,7 +135,7 @@ HasGoodSource name told = WhereTold told (λ files. (P : ProgramTree) × HasSour
 
 -- the count of faults of a named file rose, and the sources before that file are accepted
 abbrev pub HasReadFault : Command → Option Files → (List ℕ → ℕ) → (List ℕ → ℕ) → Type 0
-HasReadFault (record_files source suite) told before now =
+HasReadFault (record_files source suite workers) told before now =
     Rose (before source) (now source)
     ⊎ (HasGoodSource source told × Rose (before suite) (now suite))
 HasReadFault (select_files old new history) told before now =
@@ -143,7 +145,7 @@ HasReadFault (select_files old new history) told before now =
 
 -- the history would have more bytes than a history may have, so many
 abbrev pub HasTooMuch : Command → Option Files → ℕ → Type 0
-HasTooMuch (record_files source suite) told bytes = WhereTold told (λ files.
+HasTooMuch (record_files source suite workers) told bytes = WhereTold told (λ files.
     (history : HistoryParts) × HasHistory files source suite history × (bytes ≡ length (history_text history)) × (most_history_bytes < bytes))
 HasTooMuch (select_files old new history) told bytes = ⊥
 
@@ -151,8 +153,8 @@ HasTooMuch (select_files old new history) told bytes = ⊥
 abbrev pub HasCauseOf : Command → Option Files → (List ℕ → ℕ) → (List ℕ → ℕ) → Refusal → Type 0
 HasCauseOf c told before now refusal.Usage = ⊥
 HasCauseOf c told before now (refusal.Source which cause) = HasBadSource c which cause told
-HasCauseOf c told before now refusal.Suite = HasBadSuite c told
-HasCauseOf c told before now refusal.History = HasBadHistory c told
+HasCauseOf c told before now (refusal.Suite cause) = HasBadSuite c cause told
+HasCauseOf c told before now (refusal.History cause) = HasBadHistory c cause told
 HasCauseOf c told before now refusal.ReadFault = HasReadFault c told before now
 HasCauseOf c told before now refusal.Memory = Unit {0}
 HasCauseOf c told before now (refusal.TooMuch bytes) = HasTooMuch c told bytes
@@ -164,27 +166,12 @@ HasCause None told before now refusal.Usage = Unit {0}
 HasCause None told before now refusal.Memory = Unit {0}
 HasCause None told before now r = ⊥
 
--- the word for a source in a refusal's line
-abbrev pub role_word : Role → List ℕ
-role_word role.Source = codes "source"
-role_word role.Old = codes "old"
-role_word role.New = codes "new"
-
--- the line of a refusal
-abbrev pub refusal_line : Refusal → List ℕ
-refusal_line refusal.Usage = codes "refused: usage\n"
-refusal_line (refusal.Source which cause) = codes "refused: " ++ role_word which ++ cause_text cause ++ codes "\n"
-refusal_line refusal.Suite = codes "refused: suite not built\n"
-refusal_line refusal.History = codes "refused: history not built\n"
-refusal_line refusal.ReadFault = codes "refused: read fault\n"
-refusal_line refusal.Memory = codes "refused: memory\n"
-refusal_line (refusal.TooMuch bytes) = codes "refused: history too much " ++ decimal bytes ++ codes "\n"
-
+-- the status of a refusal
 abbrev pub status_of : Refusal → Status8
 status_of refusal.Usage = status.Usage
 status_of (refusal.Source which cause) = status.Source
-status_of refusal.Suite = status.Suite
-status_of refusal.History = status.History
+status_of (refusal.Suite cause) = status.Suite
+status_of (refusal.History cause) = status.History
 status_of refusal.ReadFault = status.ReadFault
 status_of refusal.Memory = status.Memory
 status_of (refusal.TooMuch bytes) = status.TooMuch
@@ -219,12 +206,12 @@ Refuses before now faults_before faults_now r answer =
 
 -- ---- completeness
 
--- the files of a command are there and are what it asks for: for `record` an accepted source and a small suite, for `select`
+-- the files of a command are there and are what it asks for: for `record` an accepted source and a suite, for `select`
 -- two accepted sources and a history of the old one
 abbrev pub AreReady : Command → Files → Type 0
-AreReady (record_files source_name suite_name) files =
+AreReady (record_files source_name suite_name workers) files =
     ((P : ProgramTree) × HasSource files source_name P)
-    × ((suite : List ℕ) × (tests : List TestParts) × (file_at files suite_name ≡ Some suite) × IsSmallSuite suite tests)
+    × ((suite : List ℕ) × (tests : List TestParts) × (file_at files suite_name ≡ Some suite) × IsSuiteFile suite tests)
 AreReady (select_files old_name new_name history_name) files =
     (old new : ProgramTree) × (source : HasSource files old_name old) × HasSource files new_name new
     × (bytes : List ℕ) × (history : HistoryParts) × (file_at files history_name ≡ Some bytes) × IsHistoryFile source.bytes bytes old history
@@ -232,7 +219,7 @@ AreReady (select_files old_name new_name history_name) files =
 -- the answer of a command that nothing stands in the way of: it is done, or for `record` the history would be too long,
 -- or memory was wanted
 abbrev pub IsDone : Command → Status8 → Type 0
-IsDone (record_files source suite) answer = (answer ≡ status.Done) ⊎ ((answer ≡ status.TooMuch) ⊎ (answer ≡ status.Memory))
+IsDone (record_files source suite workers) answer = (answer ≡ status.Done) ⊎ ((answer ≡ status.TooMuch) ⊎ (answer ≡ status.Memory))
 IsDone (select_files old new history) answer = (answer ≡ status.Done) ⊎ (answer ≡ status.Memory)
 
 -- Completeness: where the words are a command whose files are told and ready, and none had a fault, nor the output, it is

@@ -1,7 +1,5 @@
-pub mod Causes
-pub mod Words
-pub mod Shown
 pub mod Record
 pub mod Select
+pub mod Causes
 pub mod Steps
 pub mod Answers

@@ -14,7 +14,7 @@ use Rattle.test_history.specs.HistoryTexts.{history_text, most_history_bytes}
 use Rattle.test_select.specs.declared.choice.Choice.{Choice}
 use Rattle.test_select.specs.declared.choice.Choice.TheVariants.{Selected, Left}
 use Rattle.test_select.specs.SelectTexts.{select_text}
-use Rattle.dejavu_cli.specs.Record.{IsHistoryOf, IsSmallSuite, most_small_tests}
+use Rattle.dejavu_cli.specs.Record.{IsHistoryOf, IsSuiteFile}
 
 -- the old edge with this number was crossed, and it is dangerous
 pub record CrossesDanger (P P' : ProgramTree) (crossed : List Bool) (e : ℕ) : Type 0 where
@@ -44,17 +44,16 @@ pub record BehavesTheSame (P P' : ProgramTree) (test : TestParts) : Type 0 where
 abbrev pub IsSafe : List ℕ → List ℕ → ProgramTree → ProgramTree → List Choice → Type 0
 IsSafe old bytes P P' choices =
     (suite : List ℕ) (tests : List TestParts) (recorded : HistoryParts) →
-    IsSmallSuite suite tests → IsHistoryOf old tests recorded → bytes ≡ history_text recorded →
+    IsSuiteFile suite tests → IsHistoryOf old tests recorded → bytes ≡ history_text recorded →
     AllZip (λ test choice. choice ≡ Left → BehavesTheSame P P' test) tests choices
 
--- the bytes are the text of a history of this source, whose program is P, with few entries
+-- the bytes are the text of a history of this source, whose program is P
 pub record IsHistoryFile (source bytes : List ℕ) (P : ProgramTree) (history : HistoryParts) : Type 0 where
   pub text : bytes ≡ history_text history
   pub short : length bytes ≤ most_history_bytes
   pub readable : IsReadable history
   pub digest : history.digest ≡ sha256 source
   pub edges : history.edges ≡ length (edge_list P)
-  pub few : length history.entries ≤ most_small_tests
 
 -- the text of `select` for the old source's program, the new program and the bytes of a history file
 pub record IsSelection (old bytes : List ℕ) (P P' : ProgramTree) (text : List ℕ) : Type 0 where

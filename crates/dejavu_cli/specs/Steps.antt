@@ -12,12 +12,12 @@ use Rattle.test_history.specs.Histories.{EntryParts, HistoryParts}
 use Rattle.test_history.specs.HistoryTexts.{history_text, most_history_bytes}
 use Rattle.test_select.specs.declared.choice.Choice.{Choice}
 use Rattle.test_select.specs.SelectTexts.{select_text}
-use Rattle.dejavu_cli.specs.Causes.{NotAccepted}
-use Rattle.dejavu_cli.specs.Record.{IsHistory, IsSmallSuite}
+use Rattle.command_refusals.specs.declared.refusal.Role.{Role}
+use Rattle.command_refusals.specs.declared.refusal.Refusal.{Refusal}
+use Rattle.command_refusals.specs.declared.refusal.Refusal.TheVariants as refusal
+use Rattle.dejavu_cli.specs.Causes.{NotAccepted, NoSuite, NoHistory}
+use Rattle.dejavu_cli.specs.Record.{IsHistory}
 use Rattle.dejavu_cli.specs.Select.{IsHistoryFile, IsChoice}
-use Rattle.dejavu_cli.specs.declared.refusal.Role.{Role}
-use Rattle.dejavu_cli.specs.declared.refusal.Refusal.{Refusal}
-use Rattle.dejavu_cli.specs.declared.refusal.Refusal.TheVariants as refusal
 
 -- a file isn't fetched for want of memory, or where the count of its faults rose
 abbrev pub IsFetchCause : ℕ → ℕ → Refusal → Type 0
@@ -31,10 +31,10 @@ IsSourceCause which bytes refusal.Memory = Unit {0}
 IsSourceCause which bytes (refusal.Source named cause) = (named ≡ which) × NotAccepted bytes cause
 IsSourceCause which bytes r = ⊥
 
--- a suite isn't read for want of memory, or where it is no small one
+-- a suite isn't read for want of memory, or where it is none
 abbrev pub IsSuiteCause : List ℕ → Refusal → Type 0
 IsSuiteCause bytes refusal.Memory = Unit {0}
-IsSuiteCause bytes refusal.Suite = (tests : List TestParts) → IsSmallSuite bytes tests → ⊥
+IsSuiteCause bytes (refusal.Suite cause) = NoSuite bytes cause
 IsSuiteCause bytes r = ⊥
 
 -- the text of the history of a source's program and the tests
@@ -62,10 +62,10 @@ pub record IsOnlyHistory (source bytes : List ℕ) (P : ProgramTree) (history : 
   pub file : IsHistoryFile source bytes P history
   pub only : (other : HistoryParts) → IsHistoryFile source bytes P other → history ≡ other
 
--- a history isn't read for want of memory, or where the bytes are no history of the source with few entries
+-- a history isn't read for want of memory, or where the bytes are no history of the source
 abbrev pub IsHistoryCause : List ℕ → List ℕ → ProgramTree → Refusal → Type 0
 IsHistoryCause source bytes P refusal.Memory = Unit {0}
-IsHistoryCause source bytes P refusal.History = (history : HistoryParts) → IsHistoryFile source bytes P history → ⊥
+IsHistoryCause source bytes P (refusal.History cause) = NoHistory source bytes P cause
 IsHistoryCause source bytes P r = ⊥
 
 -- the row has the numbers of the dangerous edges

@@ -1,20 +1,19 @@
 //! Files that a command names.
-ghost use Rattle.std.specs.Prelude.{◌≡◌, ◌+◌, ◌≤◌, IfOk, IfErr, MatchResult, length, map};
+ghost use Rattle.std.specs.Prelude.{◌≡◌, IfOk, IfErr, MatchResult, length, map};
 ghost use Rattle.dv_outside.specs.Outside.{IsFetched, NeverFalls};
 ghost use Rattle.csub_semantics.specs.Syntax.{ProgramTree, program_tree};
 ghost use Rattle.csub_semantics.specs.Flows.{edge_list};
 ghost use Rattle.csub_accept.specs.Accepted.{Accepted};
-ghost use Rattle.dejavu_cli.specs.Record.{IsSmallSuite};
+ghost use Rattle.dejavu_cli.specs.Record.{IsSuiteFile};
 ghost use Rattle.dejavu_cli.specs.Steps.{IsFetchCause, IsSourceCause, IsSuiteCause, IsOnlyHistory, IsHistoryCause};
 
-use crate::cause::cause_of;
-use crate::refusal::{Refusal, Role};
+use command_refusals::{Refusal, Role, history_cause, source_cause, suite_cause};
 use csub_accept::accept;
 use csub_core::Program;
 use dv_outside::{FetchError, Shelf};
 use std::alloc::Global;
-use test_history::{History, HistoryError, read_history};
-use test_suite::{SuiteError, Test, read_suite};
+use test_history::{History, read_history};
+use test_suite::{Test, read_suite};
 
 /// The most bytes of a source that are read: one more than a source may have.
 pub(crate) const SOURCE_AND_ONE: usize = 1_048_577;
@@ -24,9 +23,6 @@ pub(crate) const SUITE_AND_ONE: usize = 16_777_217;
 
 /// The most bytes of a history that are read: one more than a history may have.
 pub(crate) const HISTORY_AND_ONE: usize = 134_217_729;
-
-/// The most tests of a small suite, and the most entries of a history that is selected from.
-const MOST_SMALL_TESTS: usize = 64;
 
 /// The first `most` bytes of a file, or all if it has fewer.
 pub(crate) fn fetch_file<S: Shelf>(
@@ -54,7 +50,7 @@ pub(crate) fn read_source(alloc: Global, role: Role, bytes: &[u8]) -> Result<Pro
 {
     match accept(alloc, bytes) {
         Ok(program) => Ok(program),
-        Err(error) => match cause_of(bytes, error) {
+        Err(error) => match source_cause(bytes, error) {
             None => Err(Refusal::Memory),
             Some(cause) => Err(Refusal::Source(role, cause)),
         },
@@ -63,14 +59,15 @@ pub(crate) fn read_source(alloc: Global, role: Role, bytes: &[u8]) -> Result<Pro
 
 /// The tests of a suite.
 pub(crate) fn read_tests(alloc: Global, bytes: &[u8]) -> Result<Vec<Test>, Refusal>
-    ensures tests { IfOk result (λ tests. IsSmallSuite bytes.now tests.items) }
+    ensures tests { IfOk result (λ tests. IsSuiteFile bytes.now tests.items) }
     ensures cause { IfErr result (IsSuiteCause bytes.now) }
 {
     match read_suite(alloc, bytes) {
-        Ok(tests) if tests.len() <= MOST_SMALL_TESTS => Ok(tests),
-        Ok(_) => Err(Refusal::Suite),
-        Err(SuiteError::Memory) => Err(Refusal::Memory),
-        Err(_) => Err(Refusal::Suite),
+        Ok(tests) => Ok(tests),
+        Err(error) => match suite_cause(error) {
+            None => Err(Refusal::Memory),
+            Some(cause) => Err(Refusal::Suite(cause)),
+        },
     }
 }
 
@@ -83,13 +80,11 @@ pub(crate) fn read_entries(
 ) -> Result<History, Refusal>
     ensures { (P : ProgramTree) → edges ≡ length (edge_list P) → MatchResult result (IsOnlyHistory old.now bytes.now P) (IsHistoryCause old.now bytes.now P) }
 {
-    if bytes.len() >= HISTORY_AND_ONE {
-        return Err(Refusal::History);
-    }
     match read_history(alloc, bytes, old, edges) {
-        Ok(history) if history.entries().len() <= MOST_SMALL_TESTS => Ok(history),
-        Ok(_) => Err(Refusal::History),
-        Err(HistoryError::Memory) => Err(Refusal::Memory),
-        Err(_) => Err(Refusal::History),
+        Ok(history) => Ok(history),
+        Err(error) => match history_cause(error) {
+            None => Err(Refusal::Memory),
+            Some(cause) => Err(Refusal::History(cause)),
+        },
     }
 }

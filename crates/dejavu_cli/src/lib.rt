@@ -9,21 +9,18 @@
 
 ghost use Rattle.std.specs.Prelude.{◌≡◌, ℕ, List, None};
 ghost use Rattle.dv_outside.specs.Outside.{Rose, NeverFalls};
-ghost use Rattle.dejavu_cli.specs.Words.{texts_of, command_of};
+ghost use Rattle.command_words.specs.Words.{texts_of, command_of};
 ghost use Rattle.dejavu_cli.specs.Answers.{Decides, Says, Refuses, IsHeadline, IsComplete};
 
-pub mod cause;
 mod files;
 mod record;
-mod refusal;
-mod run;
 mod select;
 mod status;
-mod words;
 mod work;
 
-use crate::refusal::{MEMORY_LINE, Refusal, refusal_status, refusal_text};
+use crate::status::refusal_status;
 use crate::work::work;
+use command_refusals::{MEMORY_LINE, Refusal, refusal_text};
 use dv_outside::{Gate, Shelf, Sink, write_whole};
 pub use status::Status8;
 use std::alloc::Global;
@@ -31,10 +28,12 @@ use std::thread::Threads;
 
 /// Does what the words say: the text of the command is made whole, and then written to the output.
 ///
-/// Commands: `record SOURCE SUITE` writes the history of an accepted source and a small suite. `select OLD NEW HISTORY`
-/// reads two accepted sources and a history of OLD with at most 64 tests, and writes a line for each test in order, `run
-/// NAME edge E` where its recorded run crossed a dangerous edge, E the least number of these, and `left NAME` where it
-/// crossed none; then `selected K of N`.
+/// Commands: `record SOURCE SUITE` writes the history of an accepted source and a suite; with `--workers N`, N from 1 to 64, so
+/// many threads run the tests, and the history is the same. `select OLD NEW HISTORY` reads two accepted sources and a history
+/// of OLD, and writes a line for each test in order, `run NAME edge E` where its recorded run crossed a dangerous edge, E the
+/// least number of these, and `left NAME` where it crossed none; then `selected K of N`.
+///
+/// Before a worker makes the machine of a test it calls the gate with the test's place in the suite.
 ///
 /// Where the command can't be done its refusal line is written in place of the text, and nothing else; the status says
 /// why. An earlier cause hides a later one, in the order of the words, each file, the work, the write. Nothing is
@@ -60,9 +59,7 @@ pub fn dejavu<R: Threads + Sync, S: Shelf, K: Sink, G: Gate>(
     ensures complete { IsComplete (texts_of words.now) (S.files shelf.old) (S.faults shelf.old) (S.faults shelf.new) (K.faults out.old) (K.faults out.new) result }
     ensures counts { NeverFalls (S.faults shelf.old) (S.faults shelf.new) }
 {
-    let _runtime = rt;
-    let _gate = gate;
-    match work(alloc, words, shelf) {
+    match work(rt, alloc, words, shelf, gate) {
         Ok(text) => say(out, Status8::Done, &text),
         Err(refusal) => refuse(alloc, out, refusal),
     }

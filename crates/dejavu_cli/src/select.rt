@@ -8,9 +8,9 @@ ghost use Rattle.dejavu_cli.specs.Select.{IsSelection};
 ghost use Rattle.dejavu_cli.specs.Steps.{IsHistoryCause, IsDangerRow, HasChoices};
 
 use crate::files::read_entries;
-use crate::refusal::Refusal;
 use call_walk::laws::lockstep;
 use call_walk::{WalkResult, walk};
+use command_refusals::Refusal;
 use csub_core::Program;
 use edge_label::Steps;
 use edge_trace::EdgeRow;

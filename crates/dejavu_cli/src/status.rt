@@ -1,6 +1,8 @@
 //! What the program ends with.
 ghost use Rattle.std.specs.Prelude.{◌≡◌};
-ghost use Rattle.dejavu_cli.specs.Answers.{number_of};
+ghost use Rattle.dejavu_cli.specs.Answers.{number_of, status_of};
+
+use command_refusals::Refusal;
 
 /// How a call of [`dejavu`](crate::dejavu) ended.
 #[derive(Clone, Copy, Debug, PartialEq, Eq)]
@@ -44,5 +46,20 @@ impl Status8 {
             Status8::Memory => 8,
             Status8::TooMuch => 9,
         }
+    }
+}
+
+/// The status of a refusal.
+pub(crate) fn refusal_status(refusal: Refusal) -> Status8
+    ensures { result ≡ status_of refusal }
+{
+    match refusal {
+        Refusal::Usage => Status8::Usage,
+        Refusal::Source(_, _) => Status8::Source,
+        Refusal::Suite(_) => Status8::Suite,
+        Refusal::History(_) => Status8::History,
+        Refusal::ReadFault => Status8::ReadFault,
+        Refusal::Memory => Status8::Memory,
+        Refusal::TooMuch(_) => Status8::TooMuch,
     }
 }

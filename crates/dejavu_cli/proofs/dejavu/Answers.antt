@@ -1,5 +1,10 @@
-use Rattle.dejavu_cli.specs.Words.{texts_of}
+use Rattle.std.proofs.Common.{refl, subst}
+use Rattle.dejavu_cli.specs.Answers.{Says}
+use Rattle.command_words.specs.Words.{command_of}
+use Rattle.dejavu_cli.specs.declared.status.Status8.TheVariants as status
+use Rattle.command_words.specs.Words.{texts_of}
 use Rattle.dejavu_cli.proofs.CompleteLemmas.{complete_done, complete_refused, refused}
+use Rattle.dejavu_cli.proofs.TopLemmas.{headline_is, usage_is}
 use Rattle.dejavu_cli.proofs.dejavu.Goals as goal
 
 pub returns-in-Ok-clause-complete : goal.returns-in-Ok-clause-complete
@@ -16,3 +21,16 @@ pub returns-in-Err-clause-answer : goal.returns-in-Err-clause-answer
 returns-in-Err-clause-answer g c =
     refused (texts_of c.args.words.now) (g.S.Shelf.files c.args.shelf.now) (g.S.Shelf.faults c.args.shelf.now) (g.S.Shelf.faults c.work.new.shelf)
     (g.K.Sink.written c.args.out.now) (g.K.Sink.written c.refuse.new.out) (g.K.Sink.faults c.args.out.now) (g.K.Sink.faults c.refuse.new.out) c.refuse.result c.in-Err.refusal c.in-Err.ensures.answer c.refuse.ensures
+
+pub returns-in-Ok-clause-headline : goal.returns-in-Ok-clause-headline
+returns-in-Ok-clause-headline g c =
+    let says = subst (λ text. Says (g.K.Sink.written c.args.out.now) (g.K.Sink.written c.say.new.out) (g.K.Sink.faults c.args.out.now) (g.K.Sink.faults c.say.new.out) status.Done text c.say.result)
+    c.deref.ensures.value c.say.ensures in
+    headline_is (texts_of c.args.words.now) (g.S.Shelf.files c.args.shelf.now) (g.K.Sink.written c.args.out.now) (g.K.Sink.written c.say.new.out)
+    (g.K.Sink.faults c.args.out.now) (g.K.Sink.faults c.say.new.out) c.say.result c.in-Ok.text.items (command_of (texts_of c.args.words.now)) refl c.in-Ok.ensures.answer says
+
+pub returns-in-Err-clause-usage : goal.returns-in-Err-clause-usage
+returns-in-Err-clause-usage g c =
+    usage_is (texts_of c.args.words.now) (g.S.Shelf.files c.args.shelf.now) (g.K.Sink.written c.args.out.now) (g.K.Sink.written c.refuse.new.out)
+    (g.K.Sink.faults c.args.out.now) (g.K.Sink.faults c.refuse.new.out) c.refuse.result (g.S.Shelf.faults c.args.shelf.now) (g.S.Shelf.faults c.work.new.shelf)
+    c.in-Err.refusal (command_of (texts_of c.args.words.now)) refl c.in-Err.ensures.answer c.refuse.ensures

@@ -2,7 +2,7 @@ use Rattle.std.proofs.Common.{◌≡◌, ℕ, List, map, Some, sym, subst, ◌�
 use Rattle.dv_outside.specs.Outside.{IsFetched}
 use Rattle.csub_semantics.specs.Syntax.{ProgramTree, program_tree}
 use Rattle.csub_accept.specs.Accepted.{Accepted}
-use Rattle.dejavu_cli.specs.Words.{select_files}
+use Rattle.command_words.specs.Words.{select_files}
 use Rattle.dejavu_cli.specs.Answers.{HasTextOf, HasCauseOf}
 use Rattle.dejavu_cli.proofs.SourceLemmas.{passed_on}
 use Rattle.dejavu_cli.proofs.SelectionLemmas.{bad_old, no_new, bad_new, no_bytes, selected}

@@ -1,0 +1,176 @@
+//! What `record` writes between the source's digest and the sum.
+use crate::files::answer_about;
+use dejavu_cli::Status8;
+use std::alloc::Global;
+use std::process::Abort;
+use std::test::Fail;
+use std::thread::Threads;
+
+/// The lines of a history behind the two that every history of the source has, and before its last.
+fn inner<'a>(history: &'a str) -> Result<&'a str, Fail> {
+    let (_, behind) = history.split_once("source ").ok_or("no digest")?;
+    let (_, lines) = behind.split_once("\n").ok_or("no line")?;
+    let (lines, _) = lines.split_once("end ").ok_or("no end")?;
+    Ok(lines)
+}
+
+/// The answer to a recording of a source with a suite.
+fn recorded<R: Threads + Sync>(
+    rt: &R,
+    alloc: Global,
+    source: &str,
+    suite: &str,
+) -> Result<(Status8, Vec<u8>), Fail> {
+    let files = [("source", source), ("suite", suite)];
+    answer_about(rt, alloc, &files, &["record", "source", "suite"])
+}
+
+/// The history of the tests of a suite on a source has those lines.
+fn record_agrees<R: Threads + Abort + Sync>(
+    rt: &R,
+    alloc: Global,
+    source: &str,
+    tests: &str,
+    expected: &str,
+) -> Result<(), Fail> {
+    let suite = format!(in alloc; "dejavu suite 1\n{tests}")?;
+    let (status, bytes) = recorded(rt, alloc, source, suite.as_str())?;
+    assert_eq!(rt; status, Status8::Done);
+    let text = String::from_utf8(bytes)?;
+    let lines = inner(text.as_str())?;
+    assert!(rt; lines == expected, "{source} gave {lines}");
+    Ok(())
+}
+
+/// Each row has a source, the tests of a suite, and those lines.
+fn records_agree<R: Threads + Abort + Sync>(
+    rt: &R,
+    alloc: Global,
+    rows: &[(&str, &str, &str)],
+) -> Result<(), Fail> {
+    for (source, tests, expected) in rows {
+        record_agrees(rt, alloc, source, tests, expected)?;
+    }
+    Ok(())
+}
+
+const ASSIGNED: &str =
+    "int main(void) { int c; c = getchar(); if (c == 65) { putchar(66); } else { putchar(67); } return 0; }";
+
+const DEEP: &str = "int f(int n) { return f(n + 1); } int main(void) { return f(0); }";
+
+const FOUR_CALLS: &str =
+    "int f(int n) { if (n == 0) { return 1; } return f(n - 1); } int main(void) { if (getchar() == 65) { return f(3); } return 0; }";
+
+#[test]
+fn an_entry_has_what_the_run_gives(rt: HostRuntime) -> Result<(), Fail> {
+    records_agree(
+        &rt,
+        rt.alloc(),
+        &[
+            (
+                ASSIGNED,
+                "test A 100 41\ntest B 100 42\n",
+                "edges 9\ntests 2\ntest A\nbudget 100\ninput 41\nstatus exit 0\nturns 9\noutput 42\ncrossed 5f01\ntest B\nbudget 100\ninput 42\nstatus exit 0\nturns 9\noutput 43\ncrossed af01\n",
+            ),
+            (ASSIGNED, "", "edges 9\ntests 0\n"),
+            (
+                ASSIGNED,
+                "test Z 0 -\n",
+                "edges 9\ntests 1\ntest Z\nbudget 0\ninput -\nstatus turns\nturns 0\noutput -\ncrossed 0000\n",
+            ),
+            (
+                DEEP,
+                "test D 1000 -\n",
+                "edges 8\ntests 1\ntest D\nbudget 1000\ninput -\nstatus trap depth\nturns 512\noutput -\ncrossed 25\n",
+            ),
+            (
+                FOUR_CALLS,
+                "test A 100 41\ntest B 100 42\n",
+                "edges 14\ntests 2\ntest A\nbudget 100\ninput 41\nstatus exit 1\nturns 27\noutput -\ncrossed ff1b\ntest B\nbudget 100\ninput 42\nstatus exit 0\nturns 7\noutput -\ncrossed 0325\n",
+            ),
+            (
+                "int main(void) { putchar(120); 2147483647 + 1; return 0; }",
+                "test O 100 -\n",
+                "edges 6\ntests 1\ntest O\nbudget 100\ninput -\nstatus trap overflow\nturns 5\noutput 78\ncrossed 0d\n",
+            ),
+            (
+                "int f(int a[]) { return a[2]; } int main(void) { int b[2]; b[0] = 1; return f(b); }",
+                "test T 100 -\n",
+                "edges 8\ntests 1\ntest T\nbudget 100\ninput -\nstatus trap bounds\nturns 7\noutput -\ncrossed 35\n",
+            ),
+            (
+                "int f(int a[]) { return a[1]; } int main(void) { int b[2]; b[0] = 1; return f(b); }",
+                "test T 100 -\n",
+                "edges 8\ntests 1\ntest T\nbudget 100\ninput -\nstatus trap unset\nturns 7\noutput -\ncrossed 35\n",
+            ),
+        ],
+    )
+}
+
+/// The lines of the history of a loop that writes `x` so many times, whose output has at most 16,384 bytes.
+fn loop_lines(alloc: Global, before: &str, behind: &str) -> Result<String, Fail> {
+    let mut text = String::from_str(alloc, before)?;
+    for _ in 0..16_384 {
+        text.push_str("78")?;
+    }
+    text.push_str(behind)?;
+    Ok(text)
+}
+
+#[test]
+fn an_output_of_16384_bytes_is_whole_and_a_longer_one_floods(rt: HostRuntime) -> Result<(), Fail> {
+    let alloc = rt.alloc();
+    let whole = loop_lines(
+        alloc,
+        "edges 9\ntests 1\ntest L\nbudget 100000\ninput -\nstatus exit 0\nturns 49160\noutput ",
+        "\ncrossed ff01\n",
+    )?;
+    let flooded = loop_lines(
+        alloc,
+        "edges 9\ntests 1\ntest L\nbudget 100000\ninput -\nstatus trap flood\nturns 49158\noutput ",
+        "\ncrossed dd00\n",
+    )?;
+    records_agree(
+        &rt,
+        alloc,
+        &[
+            (
+                "int main(void) { int i; for (i = 0; i < 16384; i++) { putchar(120); } return 0; }",
+                "test L 100000 -\n",
+                whole.as_str(),
+            ),
+            (
+                "int main(void) { int i; for (i = 0; i < 16385; i++) { putchar(120); } return 0; }",
+                "test L 100000 -\n",
+                flooded.as_str(),
+            ),
+        ],
+    )
+}
+
+// Each of 4,096 tests writes 16,384 bytes in 776 turns: entries of 32,857 bytes, and 177 bytes in the other lines.
+#[test]
+fn a_history_of_more_than_134217728_bytes_is_too_much(rt: HostRuntime) -> Result<(), Fail> {
+    let alloc = rt.alloc();
+    let mut line = String::new(alloc);
+    for _ in 0..64 {
+        line.push('x')?;
+    }
+    let source = format!(in alloc;
+        "int main(void) {{ int i; for (i = 0; i < 256; i++) {{ printf(\"{line}\"); }} return 0; }}"
+    )?;
+    let mut suite = String::from_str(alloc, "dejavu suite 1\n")?;
+    for number in 1..4097 {
+        let line = format!(in alloc; "test t{number:04} 1000 -\n")?;
+        suite.push_str(line.as_str())?;
+    }
+    let files = [("source", source.as_str()), ("suite", suite.as_str())];
+    let (status, bytes) = answer_about(&rt, alloc, &files, &["record", "source", "suite"])?;
+    assert_eq!(rt; status, Status8::TooMuch);
+    assert_eq!(rt;
+        bytes.as_slice(),
+        b"refused: history too much 134529201\n".as_slice()
+    );
+    Ok(())
+}
