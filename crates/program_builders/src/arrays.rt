@@ -1,7 +1,7 @@
 //! Arrays that are passed to functions, locals of every type, and lists of initialisers. An initialiser stands in a box,
 //! so that one which waits for its object is dropped by one call.
 use csub_core::{CType, IntKind, Label, LocalVar, Member, Owner, Place, RArg, RExpr, RInit, Text};
-use csub_objects::{copy_type, loose_of};
+use csub_objects::copy_type;
 use std::alloc::{AllocError, Global};
 
 /// One parameter alone, of a type.
@@ -14,15 +14,6 @@ pub fn one_parameter_of(
     let name = Text::new(alloc, name)?;
     params.push(Member { name, ctype })?;
     Ok(params)
-}
-
-/// One array parameter alone, with elements of a type.
-pub fn one_array_parameter(
-    alloc: Global,
-    name: &[u8],
-    element: CType,
-) -> Result<Vec<Member>, AllocError> {
-    one_parameter_of(alloc, name, loose_of(alloc, element)?)
 }
 
 /// One array alone as an argument.

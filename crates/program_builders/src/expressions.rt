@@ -58,35 +58,6 @@ pub fn equality(
     binary(alloc, BinOp::Eq, kind, left, right)
 }
 
-/// `left && right`
-pub fn conjunction(
-    alloc: Global,
-    left: Box<RExpr>,
-    right: Box<RExpr>,
-) -> Result<Box<RExpr>, AllocError> {
-    boxed(alloc, RExpr::And(left, right))
-}
-
-/// `left || right`
-pub fn disjunction(
-    alloc: Global,
-    left: Box<RExpr>,
-    right: Box<RExpr>,
-) -> Result<Box<RExpr>, AllocError> {
-    boxed(alloc, RExpr::Or(left, right))
-}
-
-/// `test ? left : right` in a kind.
-pub fn choice(
-    alloc: Global,
-    kind: IntKind,
-    test: Box<RExpr>,
-    left: Box<RExpr>,
-    right: Box<RExpr>,
-) -> Result<Box<RExpr>, AllocError> {
-    boxed(alloc, RExpr::Choose(kind, test, left, right))
-}
-
 /// `putchar(value)`
 pub fn output(alloc: Global, value: Box<RExpr>) -> Result<Box<RExpr>, AllocError> {
     boxed(alloc, RExpr::Putchar(value))

@@ -55,11 +55,6 @@ pub fn int_call_line(alloc: Global, callee: &[u8]) -> Result<RStmt, AllocError> 
     call_line(alloc, call(alloc, callee, Some(IntKind::Int), Some(1))?)
 }
 
-/// A call of a `void` function without parameters as a statement.
-pub fn void_call_line(alloc: Global, callee: &[u8]) -> Result<RStmt, AllocError> {
-    call_line(alloc, call(alloc, callee, None, None)?)
-}
-
 /// A function without objects; its parts have at most so many temporaries.
 pub fn function(
     alloc: Global,

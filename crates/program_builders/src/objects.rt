@@ -2,8 +2,7 @@
 //! places in boxes, so that one which waits for its index or its name is dropped by one call.
 use crate::expressions::boxed;
 use csub_core::{
-    BinOp, CType, GlobalVar, IntKind, Label, LocalVar, Member, Owner, Place, RExpr, RInit, StepOp,
-    Text,
+    CType, GlobalVar, IntKind, Label, LocalVar, Member, Owner, Place, RExpr, RInit, StepOp, Text,
 };
 use std::alloc::{AllocError, Global};
 
@@ -96,17 +95,6 @@ pub fn assignment(
     boxed(alloc, RExpr::Assign(place(alloc, object)?, value))
 }
 
-/// A compound assignment to the object, with the kind of its operation.
-pub fn update(
-    alloc: Global,
-    object: Object<'_>,
-    op: BinOp,
-    kind: IntKind,
-    value: Box<RExpr>,
-) -> Result<Box<RExpr>, AllocError> {
-    boxed(alloc, RExpr::Update(place(alloc, object)?, op, kind, value))
-}
-
 /// A step of the object by one.
 pub fn step(alloc: Global, op: StepOp, object: Object<'_>) -> Result<Box<RExpr>, AllocError> {
     boxed(alloc, RExpr::Step(op, place(alloc, object)?))
@@ -145,11 +133,4 @@ pub fn local(alloc: Global, object: Object<'_>) -> Result<LocalVar, AllocError> 
         number: object.number,
         ctype: CType::Num(object.kind),
     })
-}
-
-/// One local alone.
-pub fn one_local(alloc: Global, object: Object<'_>) -> Result<Vec<LocalVar>, AllocError> {
-    let mut locals = Vec::new(alloc);
-    locals.push(local(alloc, object)?)?;
-    Ok(locals)
 }

@@ -1,0 +1,357 @@
+//! Walks of two versions: which edges are dangerous, and how many pairs of points are reached.
+ghost use Rattle.std.specs.Prelude.{◌≡◌, ◌<◌};
+
+use crate::running::{listed, program_of};
+use call_walk::WalkResult;
+use edge_label::Steps;
+use flow_graph::Graph;
+use std::alloc::{AllocError, Global};
+use std::marker::Brand;
+use std::process::Abort;
+use std::sync::ledger::{Blank, Ledger};
+use std::test::Fail;
+
+/// The walk of two graphs, whose questions are counted in the ledger of `blank`.
+fn walk_counted<L: Ledger>(
+    alloc: Global,
+    old: &Graph,
+    new: &Graph,
+    blank: Blank,
+) -> Result<WalkResult, AllocError>
+    requires name { blank.name ≡ L.name }
+    requires parts { blank.parts ≡ L.parts }
+    requires some { 0 < blank.parts }
+{
+    let mut steps: Steps<L> = Steps::new(blank);
+    call_walk::walk(alloc, old, new, &mut steps)
+}
+
+/// The walk of two graphs.
+fn walk(alloc: Global, old: &Graph, new: &Graph) -> Result<WalkResult, AllocError> {
+    walk_counted::<Brand>(alloc, old, new, Blank::new(1))
+}
+
+fn graph_of(alloc: Global, items: &str) -> Result<Graph, Fail> {
+    let program = program_of(alloc, items)?;
+    Ok(Graph::build(alloc, &program)?)
+}
+
+/// The dangerous edges of the walk of two sources, and behind a bar how many pairs it reached.
+fn walked(alloc: Global, old: &str, new: &str) -> Result<String, Fail> {
+    let old = graph_of(alloc, old)?;
+    let new = graph_of(alloc, new)?;
+    let walked = walk(alloc, &old, &new)?;
+    let mut edges = Vec::new(alloc);
+    for edge in 0..walked.danger.edges() {
+        if walked.danger.has(edge) {
+            edges.push(edge)?;
+        }
+    }
+    let text = listed(alloc, edges.as_slice())?;
+    Ok(format!(in alloc; "{text}|{}", walked.facts.len())?)
+}
+
+/// Each row has what stands behind the end of the old source, what stands there in the new one, and the walk.
+fn walks_agree(
+    rt: &impl Abort,
+    alloc: Global,
+    before: &str,
+    rows: &[(&str, &str, &str)],
+) -> Result<(), Fail> {
+    for (old, new, expected) in rows {
+        let old = format!(in alloc; "{before}{old}")?;
+        let new = format!(in alloc; "{before}{new}")?;
+        let text = walked(alloc, old.as_str(), new.as_str())?;
+        assert!(rt; text.as_str() == *expected, "{new} gave {text}");
+    }
+    Ok(())
+}
+
+// Points: 0 to 2 of `#start`, and of `main` its entry 3, the test 4, the two lines 5 and 6, the return 7 and the exit 8. The edges 3
+// and 4 leave the test, and 2 the entry of `main`.
+#[test]
+fn a_changed_line_makes_the_edge_to_it_dangerous(rt: HostRuntime) -> Result<(), Fail> {
+    walks_agree(
+        &rt,
+        rt.alloc(),
+        "int main(void) { ",
+        &[
+            (
+                "if (getchar() == 65) putchar(66); else putchar(67); return 0; }",
+                "if (getchar() == 65) putchar(66); else putchar(67); return 0; }",
+                "|9",
+            ),
+            (
+                "if (getchar() == 65) putchar(66); else putchar(67); return 0; }",
+                "if (getchar() == 65) putchar(66); else putchar(68); return 0; }",
+                "4|8",
+            ),
+            (
+                "if (getchar() == 65) putchar(66); else putchar(67); return 0; }",
+                "}",
+                "2|3",
+            ),
+        ],
+    )
+}
+
+// The old line `putchar(67);`, point 7, has a partner in each branch of the new program. Behind the one both programs return, behind
+// the other only the old one does, by its edge 7.
+#[test]
+fn an_old_point_is_walked_with_each_of_its_partners(rt: HostRuntime) -> Result<(), Fail> {
+    walks_agree(
+        &rt,
+        rt.alloc(),
+        "int main(void) { ",
+        &[(
+            "if (getchar() == 65) putchar(66); else putchar(66); putchar(67); return 0; }",
+            "if (getchar() == 65) { putchar(66); putchar(67); return 0; } else putchar(66); putchar(67); putchar(68); return 0; }",
+            "7|11",
+        )],
+    )
+}
+
+// `main` has the entry 3, the call 4, the return 5 and the exit 6, and `work` the entry 7, its line 8 and its exit 9. The edge 3 leaves
+// the call, and 5 the entry of `work`. Where `work` doesn't come back, nothing behind the call is reached.
+#[test]
+fn a_call_is_passed_over_where_its_callee_comes_back(rt: HostRuntime) -> Result<(), Fail> {
+    walks_agree(
+        &rt,
+        rt.alloc(),
+        "void work(void); int main(void) { ",
+        &[
+            (
+                "work(); return 0; } void work(void) { putchar(66);  }",
+                "work(); return 0; } void work(void) { putchar(66);  }",
+                "|10",
+            ),
+            (
+                "work(); return 0; } void work(void) { putchar(66);  }",
+                "work(); return 0; } void work(void) { putchar(67);  }",
+                "5|5",
+            ),
+            (
+                "work(); return 0; } void work(void) { putchar(66);  }",
+                "work(); putchar(66); return 0; } void work(void) { putchar(66);  }",
+                "3|7",
+            ),
+        ],
+    )
+}
+
+// A changed type: the edge 4 leads from the test to the line that names `k`. A changed initial number: the edge 3 leads to the return
+// that names it. An object that nothing names changes nothing.
+#[test]
+fn a_changed_object_reaches_what_names_it(rt: HostRuntime) -> Result<(), Fail> {
+    walks_agree(
+        &rt,
+        rt.alloc(),
+        "",
+        &[
+            (
+                "int k; int main(void) { putchar(65); if (getchar() == 66) k = 300; return 0; }",
+                "char k; int main(void) { putchar(65); if (getchar() == 66) k = 300; return 0; }",
+                "4|8",
+            ),
+            (
+                "int k = 1; int main(void) { if (getchar() == 66) return k; return 0; }",
+                "int k = 1; int main(void) { if (getchar() == 66) return k; return 0; }",
+                "|8",
+            ),
+            (
+                "int k = 1; int main(void) { if (getchar() == 66) return k; return 0; }",
+                "int k = 2; int main(void) { if (getchar() == 66) return k; return 0; }",
+                "3|7",
+            ),
+            (
+                "int k = 1; int main(void) { putchar(65); return 0; }",
+                "int k = 2; int main(void) { putchar(65); return 0; }",
+                "|7",
+            ),
+            (
+                "int k = 1; int main(void) { putchar(65); return 0; }",
+                "int spare = 5; int main(void) { putchar(65); return 0; }",
+                "|7",
+            ),
+            (
+                "int k = 1; int main(void) { switch (k) { } return 0; }",
+                "int k = 2; int main(void) { switch (k) { } return 0; }",
+                "2|3",
+            ),
+        ],
+    )
+}
+
+// `main` has the entry 3, the line 4, the `goto` 5, the labelled lines 6 and 7, the return 8 and the exit 9. The edge 4 leaves the
+// `goto`, and 5 leads from the one labelled line to the other. A `goto` is the same wherever it leads: the line at its new target
+// decides. The names of labels are no part of what is done.
+#[test]
+fn a_goto_is_followed_to_its_target(rt: HostRuntime) -> Result<(), Fail> {
+    walks_agree(
+        &rt,
+        rt.alloc(),
+        "int main(void) { ",
+        &[
+            (
+                "putchar(65); goto first; first: putchar(66); second: putchar(67); return 0; }",
+                "putchar(65); goto first; first: putchar(66); second: putchar(67); return 0; }",
+                "|10",
+            ),
+            (
+                "putchar(65); goto first; first: putchar(66); second: putchar(67); return 0; }",
+                "putchar(65); goto second; first: putchar(66); second: putchar(67); return 0; }",
+                "4|5",
+            ),
+            (
+                "putchar(65); goto first; first: putchar(66); second: putchar(66); return 0; }",
+                "putchar(65); goto second; first: putchar(66); second: putchar(66); return 0; }",
+                "5|6",
+            ),
+            (
+                "putchar(65); goto first; first: putchar(66); second: putchar(67); return 0; }",
+                "putchar(65); goto begin; begin: putchar(66); second: putchar(67); return 0; }",
+                "|10",
+            ),
+        ],
+    )
+}
+
+// The edge 3 leads to the `exit`, and no edge leaves it, so that no call of its function is passed over.
+#[test]
+fn nothing_behind_an_exit_is_reached(rt: HostRuntime) -> Result<(), Fail> {
+    walks_agree(
+        &rt,
+        rt.alloc(),
+        "int main(void) { ",
+        &[
+            (
+                "if (getchar() == 65) exit(1); return 0; }",
+                "if (getchar() == 65) exit(1); return 0; }",
+                "|8",
+            ),
+            (
+                "if (getchar() == 65) exit(1); return 0; }",
+                "if (getchar() == 65) exit(2); return 0; }",
+                "3|7",
+            ),
+            (
+                "exit(1); putchar(66); return 0; }",
+                "exit(1); putchar(67); return 0; }",
+                "|4",
+            ),
+        ],
+    )
+}
+
+#[test]
+fn nothing_behind_a_call_that_exits_is_reached(rt: HostRuntime) -> Result<(), Fail> {
+    walks_agree(
+        &rt,
+        rt.alloc(),
+        "void work(void); int main(void) { ",
+        &[(
+            "work(); return 0; } void work(void) { exit(1); }",
+            "work(); putchar(66); return 0; } void work(void) { exit(1); }",
+            "|6",
+        )],
+    )
+}
+
+// `main` has the entry 3, the `switch` 4, the lines 5 to 7 that write, the return 8 and the exit 9. The edges 3 and 4 lead to the lines
+// of the cases, 5 to that of the default, and 6 to 8 from these lines to the return.
+#[test]
+fn a_changed_line_marks_the_edge_of_its_case_alone(rt: HostRuntime) -> Result<(), Fail> {
+    walks_agree(
+        &rt,
+        rt.alloc(),
+        "int main(void) { ",
+        &[
+            (
+                "switch (getchar()) { case 65: putchar(1); break; case 66: putchar(2); break; default: putchar(3); } return 0; }",
+                "switch (getchar()) { case 65: putchar(1); break; case 66: putchar(2); break; default: putchar(3); } return 0; }",
+                "|10",
+            ),
+            (
+                "switch (getchar()) { case 65: putchar(1); break; case 66: putchar(2); break; default: putchar(3); } return 0; }",
+                "switch (getchar()) { case 65: putchar(1); break; case 66: putchar(4); break; default: putchar(3); } return 0; }",
+                "4|9",
+            ),
+            (
+                "switch (getchar()) { case 65: putchar(1); break; case 66: putchar(2); break; default: putchar(3); } return 0; }",
+                "switch (getchar()) { case 65: putchar(1); break; case 66: putchar(2); break; default: putchar(4); } return 0; }",
+                "5|9",
+            ),
+            (
+                "switch (getchar()) { case 65: putchar(1); break; case 66: putchar(2); break; default: putchar(3); } return 0; }",
+                "switch (getchar()) { case 65: putchar(1); break; case 66: putchar(4); break; default: putchar(4); } return 0; }",
+                "4,5|8",
+            ),
+        ],
+    )
+}
+
+// A `default` is the same way out only where all case values are. The order of the cases is no part of it.
+#[test]
+fn a_changed_case_value_marks_the_edge_of_the_default(rt: HostRuntime) -> Result<(), Fail> {
+    walks_agree(
+        &rt,
+        rt.alloc(),
+        "int main(void) { ",
+        &[
+            (
+                "switch (getchar()) { case 65: putchar(1); break; case 66: putchar(2); break; default: putchar(3); } return 0; }",
+                "switch (getchar()) { case 65: putchar(1); break; case 66: putchar(2); break; case 67: putchar(4); break; default: putchar(3); } return 0; }",
+                "5|9",
+            ),
+            (
+                "switch (getchar()) { case 65: putchar(1); break; case 66: putchar(2); break; default: putchar(3); } return 0; }",
+                "switch (getchar()) { case 65: putchar(1); break; default: putchar(3); } return 0; }",
+                "4,5|8",
+            ),
+            (
+                "switch (getchar()) { case 65: putchar(1); break; case 66: putchar(2); break; default: putchar(3); } return 0; }",
+                "switch (getchar()) { case 65: putchar(1); break; case 67: putchar(2); break; default: putchar(3); } return 0; }",
+                "4,5|8",
+            ),
+            (
+                "switch (getchar()) { case 65: putchar(1); break; case 66: putchar(2); break; default: putchar(3); } return 0; }",
+                "switch (getchar()) { case 66: putchar(2); break; case 65: putchar(1); break; default: putchar(3); } return 0; }",
+                "|10",
+            ),
+        ],
+    )
+}
+
+// The edge 3 leads to the line 5, the default's edge 4 to the line 6, the edge 5 from the one to the other, and 6 from there to the
+// return. Where the lines of the default stand first, they go on to those of the case. Without a default the edge 4 leads past the
+// `switch`. A line of its own for the default is a second partner of the line 6.
+#[test]
+fn a_default_is_followed_to_its_lines(rt: HostRuntime) -> Result<(), Fail> {
+    walks_agree(
+        &rt,
+        rt.alloc(),
+        "int main(void) { ",
+        &[
+            (
+                "switch (getchar()) { case 65: putchar(1); default: putchar(2); } return 0; }",
+                "switch (getchar()) { default: putchar(2); case 65: putchar(1); } return 0; }",
+                "5,6|6",
+            ),
+            (
+                "switch (getchar()) { case 65: putchar(1); default: putchar(2); } return 0; }",
+                "switch (getchar()) { case 65: putchar(1); putchar(2); } return 0; }",
+                "4|9",
+            ),
+            (
+                "switch (getchar()) { case 65: putchar(1); default: putchar(2); } return 0; }",
+                "switch (getchar()) { case 65: putchar(1); putchar(2); break; default: putchar(2); } return 0; }",
+                "|10",
+            ),
+            (
+                "switch (getchar()) { case 65: putchar(1); default: putchar(2); } return 0; }",
+                "switch (getchar()) { case 65: putchar(1); break; default: putchar(2); } return 0; }",
+                "5|9",
+            ),
+        ],
+    )
+}
