@@ -85,7 +85,7 @@ fn unit_of(alloc: Global, source: &[u8], tokens: &[Token]) -> Result<Unit, Sourc
 }
 
 /// The program of an accepted source. It takes time in proportion to the source, to the cells of its objects of file scope and to
-/// the types that are compared, and what [`Program::make`] takes.
+/// the types that are compared.
 ///
 /// # Errors
 ///

@@ -1,6 +1,7 @@
 //! The resolver.
 ghost use Rattle.std.specs.Prelude.{◌≡◌, IfErr, IfOk, None, map, option_map};
 ghost use Rattle.csub_semantics.specs.Syntax.{function_tree, program_tree};
+ghost use Rattle.csub_validity.specs.Valid.{IsValid};
 ghost use Rattle.csub_tree.specs.Units.{item_tree, unit_tree};
 ghost use Rattle.csub_units.specs.FineItems.{FineItems};
 ghost use Rattle.csub_units.specs.Files.{no_file};
@@ -8,6 +9,7 @@ ghost use Rattle.csub_units.specs.Units.{unit_fault};
 ghost use Rattle.csub_resolution.specs.Programs.{program_of};
 ghost use Rattle.csub_limits.specs.Limits.{limit_passed};
 ghost use Rattle.csub_limits.specs.Views.{the_passed};
+ghost use Rattle.program_validity.specs.Texts.{HasText};
 ghost use Rattle.csub_resolve.specs.Answers.{HasCause, IsMade, IsPassed, IsResolved};
 
 use crate::error::ResolveError;
@@ -41,23 +43,25 @@ fn limit_of(
     first_limit(functions, cells, items)
 }
 
-/// The program of items with these functions. An `Err` is want of memory, or a full count.
+/// The program of items with these functions, which is valid. An `Err` is want of memory, or a full count.
 fn program_with(
     alloc: Global,
     functions: Vec<Function>,
     items: &[Item],
 ) -> Result<Program, AllocError>
-    requires { map function_tree functions.items ≡ (program_of (record { items = map item_tree items.now })).functions }
+    requires functions { map function_tree functions.items ≡ (program_of (record { items = map item_tree items.now })).functions }
+    requires valid { IsValid (program_of (record { items = map item_tree items.now })) }
     ensures { IfOk result (λ program. program_tree program ≡ program_of (record { items = map item_tree items.now })) }
 {
     let objects = globals(alloc, items)?;
-    // That the program is valid isn't proved yet; it is tested here.
-    Program::make(functions, objects).ok_or(AllocError)
+    Ok(Program::of_valid(functions, objects))
 }
 
-/// The program of items that break no rule.
+/// The program of items that break no rule, and that a text spells.
 fn program_of(alloc: Global, items: &[Item]) -> Result<Program, ResolveError>
-    requires { FineItems no_file (map item_tree items.now) }
+    requires fine { FineItems no_file (map item_tree items.now) }
+    requires unbroken { unit_fault (record { items = map item_tree items.now }) ≡ None }
+    requires text { HasText (record { items = map item_tree items.now }) }
     ensures program { IfOk result (λ program. IsMade (record { items = map item_tree items.now }) (program_tree program)) }
     ensures cause { IfErr result (IsPassed (record { items = map item_tree items.now })) }
 {
@@ -83,14 +87,15 @@ fn items_of(unit: &Unit) -> &[Item]
     unit.items.as_slice()
 }
 
-/// The program that a unit stands for. It takes time in proportion to the unit, to the cells of its objects of file scope and to
-/// the types that are compared, and what [`Program::make`] takes.
+/// The program that a unit stands for. A text spells the unit, so the program is valid (`LawsText` of `program_validity`). It
+/// takes time in proportion to the unit, to the cells of its objects of file scope and to the types that are compared.
 ///
 /// # Errors
 ///
 /// `Meaning` with the first rule that is broken and its place; where none is, `Limit` with the first limit that is passed and
 /// its count; `Memory` where memory was wanted.
 pub fn resolve(alloc: Global, unit: &Unit) -> Result<Program, ResolveError>
+    requires text { HasText (unit_tree unit.now) }
     ensures program { IfOk result (λ program. IsResolved (unit_tree unit.now) (program_tree program)) }
     ensures cause { IfErr result (HasCause (unit_tree unit.now)) }
 {

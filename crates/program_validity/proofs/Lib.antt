@@ -33,3 +33,7 @@ mod Programs
 mod Limited
 pub mod LawsBodies
 pub mod LawsValid
+mod Fitting
+pub mod LawsWritten
+pub mod LawsShort
+pub mod LawsText

@@ -1,3 +1,4 @@
 pub mod Names
 pub mod Short
+pub mod Texts
 pub mod Written
