@@ -15,6 +15,8 @@ texts_of words = map (λ word. string_bytes word) words
 pub data Command : Type 0 where
   record_files : (source suite : List ℕ) (workers : ℕ) → Command
   select_files : (old new history : List ℕ) → Command
+  walk_files : (old new : List ℕ) → Command
+  rerun_files : (old new history : List ℕ) (workers : ℕ) → Command
 
 -- a word that begins with `-` and has more bytes is an option; the word `-` is plain
 abbrev pub is_option : List ℕ → Bool
@@ -78,10 +80,28 @@ select_with plain workers = None
 abbrev pub select_of : Rest → Option Command
 select_of rest = select_with rest.plain rest.workers
 
+-- `walk OLD NEW`, which takes none either
+abbrev pub walk_with : List (List ℕ) → List (List ℕ) → Option Command
+walk_with (old ∷ new ∷ []) [] = Some (walk_files old new)
+walk_with plain workers = None
+
+abbrev pub walk_of : Rest → Option Command
+walk_of rest = walk_with rest.plain rest.workers
+
+-- `rerun OLD NEW HISTORY`, with a number of workers
+abbrev pub rerun_with : List (List ℕ) → ℕ → Option Command
+rerun_with (old ∷ new ∷ history ∷ []) workers = Some (rerun_files old new history workers)
+rerun_with plain workers = None
+
+abbrev pub rerun_of : Rest → Option Command
+rerun_of rest = option_and_then (rerun_with rest.plain) (workers_of rest.workers)
+
 -- the first word names the command; words that are none are a fault of usage
 abbrev pub command_of : List (List ℕ) → Option Command
 command_of [] = None
 command_of (name ∷ more) =
     if bytes_eq name (codes "record") then option_and_then record_of (rest_of more)
     else if bytes_eq name (codes "select") then option_and_then select_of (rest_of more)
+    else if bytes_eq name (codes "walk") then option_and_then walk_of (rest_of more)
+    else if bytes_eq name (codes "rerun") then option_and_then rerun_of (rest_of more)
     else None

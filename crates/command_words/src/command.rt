@@ -12,6 +12,13 @@ pub enum Command<'a> {
         /// How many workers run the tests, from 1 to 64.
         workers: usize,
     },
+    /// `walk OLD NEW`
+    Walk {
+        /// The old source's file.
+        old: &'a str,
+        /// The new source's file.
+        new: &'a str,
+    },
     /// `select OLD NEW HISTORY`
     Select {
         /// The old source's file.
@@ -20,5 +27,16 @@ pub enum Command<'a> {
         new: &'a str,
         /// The file of the history of the old source.
         history: &'a str,
+    },
+    /// `rerun OLD NEW HISTORY`
+    Rerun {
+        /// The old source's file.
+        old: &'a str,
+        /// The new source's file.
+        new: &'a str,
+        /// The file of the history of the old source.
+        history: &'a str,
+        /// How many workers run the tests, from 1 to 64.
+        workers: usize,
     },
 }

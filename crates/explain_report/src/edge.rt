@@ -1,5 +1,5 @@
 //! The line of one edge.
-ghost use Rattle.std.specs.Prelude.{◌≡◌, ◌<◌, ◌++◌, ◌∷◌, [], ◌≤◌, OnOk, Some, length, codes};
+ghost use Rattle.std.specs.Prelude.{ℕ, List, ◌≡◌, ◌<◌, ◌++◌, ◌∷◌, [], OnOk, Some, codes};
 ghost use Rattle.std.specs.Fmt.{decimal};
 ghost use Rattle.line_text.specs.Words.{line_of_words};
 ghost use Rattle.csub_semantics.specs.Points.{exit_tree};
@@ -8,29 +8,29 @@ ghost use Rattle.csub_semantics.specs.Flows.{Edge};
 ghost use Rattle.csub_semantics.specs.Numbers.{edge_at};
 ghost use Rattle.flow_graph.specs.Graph.{IsGraphOf, edge_count};
 ghost use Rattle.source_place.specs.Places.{place_text};
+ghost use Rattle.source_place.specs.Lines.{IsTableOf};
 ghost use Rattle.explain_report.specs.WalkTexts.{exit_text, edge_line};
 
 use csub_semantics::ExitLabel;
 use flow_graph::Graph;
 use line_text::{push_decimal, push_signed};
-use source_place::{Place, place_of, push_place};
+use source_place::{LineTable, Place, push_place};
 use std::alloc::AllocError;
 
-/// Appends the line of the edge with a number.
+/// Appends the line of the edge with a number, by the lines of the old source.
 pub fn push_edge_line(
     text: &mut Vec<u8>,
     old: &Graph,
-    source: &[u8],
+    lines: &LineTable,
     edge: u32,
 ) -> Result<(), AllocError>
-    requires within { edge < edge_count old.now }
-    requires short { length source.now ≤ 1048576 }
-    ensures { (P : ProgramTree) (e : Edge) → IsGraphOf old.now P → edge_at P edge ≡ Some e → OnOk result
-        (text.new.items ≡ text.old.items ++ edge_line P source.now edge e ++ 10 ∷ []) }
+    requires { edge < edge_count old.now }
+    ensures { (P : ProgramTree) (source : List ℕ) (e : Edge) → IsGraphOf old.now P → IsTableOf source lines.now → edge_at P edge ≡ Some e → OnOk result
+        (text.new.items ≡ text.old.items ++ edge_line P source edge e ++ 10 ∷ []) }
 {
     let ends = old.edge_at(edge);
     let function = old.name_of(old.function_at(ends.from));
-    let place = place_of(source, old.span_at(ends.from));
+    let place = lines.place_of(old.span_at(ends.from));
     push_parts(text, edge, function.bytes(), place, ends.exit)
 }
 

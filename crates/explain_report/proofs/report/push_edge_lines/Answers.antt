@@ -10,8 +10,7 @@ use Rattle.explain_report.proofs.report.push_edge_lines.Goals as goal
 use Rattle.explain_report.proofs.report.push_edge_lines.Goals.{then-has+in_ok-push_edge_line, else-has}
 
 pub loop-edge-preserved : goal.loop-edge-preserved
-loop-edge-preserved c P ok =
-    let source = c.args.source.now in
+loop-edge-preserved c P source ok table =
     let row = c.args.row.now in
     let edges = edge_list P in
     let i = c.loop-edge.edge in
@@ -23,13 +22,13 @@ loop-edge-preserved c P ok =
       | then-has+in_ok-push_edge_line w ↦
           subst (λ (text : Vec ℕ Global). Makes P source row edges (i + 1) text.items whole) (sym w.text-is)
           (makes_next P source row edges i (get_or edges i no_edge) c.loop-edge.text.items w.push_edge_line.new.text.items whole
-          there (sym c.has.ensures ∙ w.if-has.true) (w.in_ok-push_edge_line.ensures P (get_or edges i no_edge) ok there) (c.loop-edge.invariant P ok))
+          there (sym c.has.ensures ∙ w.if-has.true) (w.in_ok-push_edge_line.ensures P source (get_or edges i no_edge) ok table there) (c.loop-edge.invariant P source ok table))
       | else-has w ↦
           subst (λ (text : Vec ℕ Global). Makes P source row edges (i + 1) text.items whole) (sym w.text-is)
-          (makes_passed P source row edges i c.loop-edge.text.items whole within (sym c.has.ensures ∙ w.if-has.false) (c.loop-edge.invariant P ok))
+          (makes_passed P source row edges i c.loop-edge.text.items whole within (sym c.has.ensures ∙ w.if-has.false) (c.loop-edge.invariant P source ok table))
     ]
 
 pub returns : goal.returns
-returns c P ok =
+returns c P source ok table =
     let counted = edges_counted c.args.old.now P ok in
-    makes_all P c.args.source.now c.args.row.now (edge_list P) c.loop-edge.edge _ _ (omega (arith, counted, c.edges-edge-end.ensures)) (c.loop-edge.invariant P ok)
+    makes_all P source c.args.row.now (edge_list P) c.loop-edge.edge _ _ (omega (arith, counted, c.edges-edge-end.ensures)) (c.loop-edge.invariant P source ok table)
