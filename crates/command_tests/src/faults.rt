@@ -1,36 +1,67 @@
 //! Faults of the files and of the output.
-use crate::files::{SELECTION, files, owned_words, shelf_of_files};
+use crate::files::{EMPTY_HISTORY, SELECTION, files, owned_words, shelf_of_files};
 use dejavu_cli::{Status8, dejavu};
 use dv_outside::{FailingShelf, FailingSink, MemorySink, OpenGate};
 use std::alloc::Global;
+use std::process::Abort;
 use std::test::Fail;
 use std::thread::Threads;
 
-/// The answer and the text of a selection whose shelf fails at one call.
-fn selection_with_fault<R: Threads + Sync>(
+/// The answer and the text of a command whose shelf fails at one call.
+fn answer_with_fault<R: Threads + Sync>(
     rt: &R,
     alloc: Global,
+    words: &[&str],
     call: u32,
 ) -> Result<(Status8, Vec<u8>), Fail> {
-    let words = owned_words(alloc, &["select", "branching", "changed", "history"])?;
+    let words = owned_words(alloc, words)?;
     let mut shelf = FailingShelf::new(alloc, files(alloc)?, [call].to_vec(alloc)?);
     let mut out = MemorySink::new(alloc, 1000, 7)?;
     let status = dejavu(rt, alloc, &words, &mut shelf, &mut out, &OpenGate);
     Ok((status, out.bytes().to_vec(alloc)?))
 }
 
+/// The first calls, so many, are faults of reading; where none fails, the command is done.
+fn each_file_may_fail<R: Threads + Abort + Sync>(
+    rt: &R,
+    alloc: Global,
+    words: &[&str],
+    files: u32,
+    text: &str,
+) -> Result<(), Fail> {
+    for before in 0..files {
+        let (status, bytes) = answer_with_fault(rt, alloc, words, before.wrapping_add(1))?;
+        assert_eq!(rt; status, Status8::ReadFault);
+        assert_eq!(rt; bytes.as_slice(), b"refused: read fault\n".as_slice());
+    }
+    let (status, bytes) = answer_with_fault(rt, alloc, words, files.wrapping_add(1))?;
+    assert_eq!(rt; status, Status8::Done);
+    assert_eq!(rt; bytes.as_slice(), text.as_bytes());
+    Ok(())
+}
+
 #[test]
-fn a_fault_at_any_of_the_three_files_is_a_read_fault(rt: HostRuntime) -> Result<(), Fail> {
-    let rows: [(u32, Status8, &str); 4] = [
-        (1, Status8::ReadFault, "refused: read fault\n"),
-        (2, Status8::ReadFault, "refused: read fault\n"),
-        (3, Status8::ReadFault, "refused: read fault\n"),
-        (4, Status8::Done, SELECTION),
-    ];
-    for (call, status, text) in rows {
-        let (got, bytes) = selection_with_fault(&rt, rt.alloc(), call)?;
-        assert_eq!(rt; got, status);
-        assert_eq!(rt; bytes.as_slice(), text.as_bytes());
+fn a_fault_at_any_of_the_files_is_a_read_fault(rt: HostRuntime) -> Result<(), Fail> {
+    let alloc = rt.alloc();
+    each_file_may_fail(&rt, alloc, &["record", "empty", "one"], 2, EMPTY_HISTORY)?;
+    let words = ["select", "branching", "changed", "history"];
+    each_file_may_fail(&rt, alloc, &words, 3, SELECTION)
+}
+
+// The history has 240 bytes, of which the output takes 4 at a call.
+#[test]
+fn a_fault_of_the_output_at_any_call_leaves_a_beginning_of_the_history(
+    rt: HostRuntime,
+) -> Result<(), Fail> {
+    let alloc = rt.alloc();
+    let words = owned_words(alloc, &["record", "empty", "one"])?;
+    for before in 0..60u32 {
+        let mut shelf = shelf_of_files(alloc)?;
+        let mut out = FailingSink::new(alloc, 1000, 4, before.wrapping_add(1))?;
+        let status = dejavu(&rt, alloc, &words, &mut shelf, &mut out, &OpenGate);
+        assert_eq!(rt; status, Status8::WriteFault);
+        assert_eq!(rt; out.bytes().len(), (before as usize).wrapping_mul(4));
+        assert!(rt; EMPTY_HISTORY.as_bytes().starts_with(out.bytes()));
     }
     Ok(())
 }

@@ -1,6 +1,7 @@
 //! The files that the words name, and the answer to words. The digests and sums are those of `sha256sum`.
 use dejavu_cli::{Status8, dejavu};
 use dv_outside::{MemoryShelf, MemorySink, OpenGate, names_differ};
+use sample_sources::{CHANGED_LINE, LINE_BEFORE, WORD_COUNTER};
 use std::alloc::{AllocError, Global};
 use std::test::Fail;
 use std::thread::Threads;
@@ -106,4 +107,28 @@ pub fn answer_about<R: Threads + Sync>(
     let mut out = MemorySink::new(alloc, 100_000, 1000)?;
     let status = dejavu(rt, alloc, &owned, &mut shelf, &mut out, &OpenGate);
     Ok((status, out.bytes().to_vec(alloc)?))
+}
+
+/// The history of a source and a suite as a text.
+pub fn recorded<R: Threads + Sync>(
+    rt: &R,
+    alloc: Global,
+    source: &str,
+    suite: &str,
+) -> Result<String, Fail> {
+    let files = [("source", source), ("suite", suite)];
+    match answer_about(rt, alloc, &files, &["record", "source", "suite"])? {
+        (Status8::Done, bytes) => Ok(String::from_utf8(bytes)?),
+        _ => Err("not recorded".into()),
+    }
+}
+
+/// A suite of the word counter.
+pub const COUNTED: &str =
+    "dejavu suite 1\ntest t01 10000 -\ntest t02 10000 61\ntest t03 10000 0a\ntest t04 10000 6120620a\ntest t05 10000 37\ntest t06 10000 6162206364\ntest t07 10000 31620a\ntest t08 10000 09\ntest t09 10000 68656c6c6f0a\ntest t10 10000 2020\ntest t11 10000 782034320a\ntest t12 10000 610a620a\n";
+
+/// The next version of the word counter.
+pub fn changed_counter(alloc: Global) -> Result<String, Fail> {
+    let (before, behind) = WORD_COUNTER.split_once(LINE_BEFORE).ok_or("no such line")?;
+    Ok(format!(in alloc; "{before}{LINE_BEFORE}{CHANGED_LINE}{behind}")?)
 }

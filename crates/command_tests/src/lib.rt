@@ -13,6 +13,8 @@ mod histories;
 #[cfg(test)]
 mod record;
 #[cfg(test)]
+mod reruns;
+#[cfg(test)]
 mod select;
 #[cfg(test)]
 mod selections;
@@ -22,5 +24,7 @@ mod sources;
 mod suites;
 #[cfg(test)]
 mod usage;
+#[cfg(test)]
+mod walks;
 #[cfg(test)]
 mod workers;

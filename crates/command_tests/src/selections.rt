@@ -1,24 +1,10 @@
 //! Which tests of recorded suites run again on a changed source.
-use crate::files::answer_about;
+use crate::files::{answer_about, recorded};
 use dejavu_cli::Status8;
 use std::alloc::Global;
 use std::process::Abort;
 use std::test::Fail;
 use std::thread::Threads;
-
-/// The history of a source and a suite as a text.
-fn history<R: Threads + Sync>(
-    rt: &R,
-    alloc: Global,
-    source: &str,
-    suite: &str,
-) -> Result<String, Fail> {
-    let files = [("old", source), ("suite", suite)];
-    match answer_about(rt, alloc, &files, &["record", "old", "suite"])? {
-        (Status8::Done, bytes) => Ok(String::from_utf8(bytes)?),
-        _ => Err("not recorded".into()),
-    }
-}
 
 /// The answer to a selection between two sources by a history.
 fn selected<R: Threads + Sync>(
@@ -43,8 +29,8 @@ fn selection_agrees<R: Threads + Abort + Sync>(
     expected: &str,
 ) -> Result<(), Fail> {
     let suite = format!(in alloc; "dejavu suite 1\n{tests}")?;
-    let recorded = history(rt, alloc, old, suite.as_str())?;
-    let (status, bytes) = selected(rt, alloc, old, new, recorded.as_str())?;
+    let history = recorded(rt, alloc, old, suite.as_str())?;
+    let (status, bytes) = selected(rt, alloc, old, new, history.as_str())?;
     assert_eq!(rt; status, Status8::Done);
     let text = String::from_utf8(bytes)?;
     assert!(rt; text.as_str() == expected, "{new} gave {text}");

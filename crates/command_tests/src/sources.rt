@@ -1,7 +1,7 @@
 //! Lines for sources that aren't accepted, and the selection for a program of some size.
-use crate::files::answer_about;
+use crate::files::{COUNTED, answer_about, changed_counter, recorded};
 use dejavu_cli::Status8;
-use sample_sources::{CHANGED_LINE, LINE_BEFORE, WORD_COUNTER};
+use sample_sources::WORD_COUNTER;
 use std::alloc::Global;
 use std::test::Fail;
 use std::thread::Threads;
@@ -56,31 +56,13 @@ fn the_line_says_why_a_source_is_refused(rt: HostRuntime) -> Result<(), Fail> {
     Ok(())
 }
 
-const TESTS: &str =
-    "dejavu suite 1\ntest t01 10000 -\ntest t02 10000 61\ntest t03 10000 0a\ntest t04 10000 6120620a\ntest t05 10000 37\ntest t06 10000 6162206364\ntest t07 10000 31620a\ntest t08 10000 09\ntest t09 10000 68656c6c6f0a\ntest t10 10000 2020\ntest t11 10000 782034320a\ntest t12 10000 610a620a\n";
-
 const SELECTION: &str =
     "left t01\nleft t02\nleft t03\nleft t04\nrun t05 edge 33\nleft t06\nrun t07 edge 33\nleft t08\nleft t09\nleft t10\nrun t11 edge 33\nleft t12\nselected 3 of 12\n";
 
-/// The next version of the word counter.
-fn changed(alloc: Global) -> Result<String, Fail> {
-    let (before, behind) = WORD_COUNTER.split_once(LINE_BEFORE).ok_or("no such line")?;
-    Ok(format!(in alloc; "{before}{LINE_BEFORE}{CHANGED_LINE}{behind}")?)
-}
-
-/// The history of the word counter as a text.
-fn history<R: Threads + Sync>(rt: &R, alloc: Global) -> Result<String, Fail> {
-    let files = [("old", WORD_COUNTER), ("suite", TESTS)];
-    match answer_about(rt, alloc, &files, &["record", "old", "suite"])? {
-        (Status8::Done, bytes) => Ok(String::from_utf8(bytes)?),
-        _ => Err("refused".into()),
-    }
-}
-
 #[test]
 fn tests_with_a_digit_run_again_where_a_digit_begins_a_word(rt: HostRuntime) -> Result<(), Fail> {
-    let new = changed(rt.alloc())?;
-    let history = history(&rt, rt.alloc())?;
+    let new = changed_counter(rt.alloc())?;
+    let history = recorded(&rt, rt.alloc(), WORD_COUNTER, COUNTED)?;
     let files = [
         ("old", WORD_COUNTER),
         ("new", new.as_str()),
@@ -94,7 +76,7 @@ fn tests_with_a_digit_run_again_where_a_digit_begins_a_word(rt: HostRuntime) -> 
 }
 
 /// The answer to a recording of a source.
-fn recorded<R: Threads + Sync>(
+fn answer_to<R: Threads + Sync>(
     rt: &R,
     alloc: Global,
     source: &str,
@@ -120,10 +102,10 @@ fn nested(alloc: Global, depth: usize) -> Result<String, Fail> {
 #[test]
 fn a_source_may_be_256_deep(rt: HostRuntime) -> Result<(), Fail> {
     let within = nested(rt.alloc(), 252)?;
-    let (status, _) = recorded(&rt, rt.alloc(), within.as_str())?;
+    let (status, _) = answer_to(&rt, rt.alloc(), within.as_str())?;
     assert_eq!(rt; status, Status8::Done);
     let deeper = nested(rt.alloc(), 253)?;
-    let (status, bytes) = recorded(&rt, rt.alloc(), deeper.as_str())?;
+    let (status, bytes) = answer_to(&rt, rt.alloc(), deeper.as_str())?;
     assert_eq!(rt; status, Status8::Source);
     assert_eq!(rt;
         bytes.as_slice(),
@@ -138,7 +120,7 @@ fn a_source_may_have_1048576_bytes(rt: HostRuntime) -> Result<(), Fail> {
     for _ in 0..1_048_577 {
         source.push(' ')?;
     }
-    let (status, bytes) = recorded(&rt, rt.alloc(), source.as_str())?;
+    let (status, bytes) = answer_to(&rt, rt.alloc(), source.as_str())?;
     assert_eq!(rt; status, Status8::Source);
     assert_eq!(rt; bytes.as_slice(), b"refused: source too long\n".as_slice());
     Ok(())

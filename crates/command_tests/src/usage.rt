@@ -5,7 +5,7 @@ use std::test::Fail;
 
 #[test]
 fn words_that_are_no_command_are_a_fault_of_usage(rt: HostRuntime) -> Result<(), Fail> {
-    let rows: [&[&str]; 12] = [
+    let rows: [&[&str]; 17] = [
         &[],
         &["record", "branching"],
         &["record", "a", "b", "--workers", "0"],
@@ -18,6 +18,11 @@ fn words_that_are_no_command_are_a_fault_of_usage(rt: HostRuntime) -> Result<(),
         &["select", "a", "b"],
         &["select", "a", "b", "c", "d"],
         &["select", "--workers", "2", "a", "b", "c"],
+        &["walk", "a"],
+        &["walk", "a", "b", "c"],
+        &["walk", "a", "b", "--workers", "2"],
+        &["rerun", "a", "b"],
+        &["rerun", "a", "b", "c", "--workers", "0"],
     ];
     for words in rows {
         let (status, text) = answer(&rt, rt.alloc(), words)?;

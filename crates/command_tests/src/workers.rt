@@ -1,5 +1,5 @@
 //! Any number of workers records the same history, and each test passes the gate once.
-use crate::files::{answer_about, owned_words, shelf_of};
+use crate::files::{COUNTED, answer_about, owned_words, shelf_of};
 use dejavu_cli::{Status8, dejavu};
 use dv_outside::{Gate, MemorySink};
 use sample_sources::WORD_COUNTER;
@@ -7,9 +7,6 @@ use std::alloc::Global;
 use std::sync::atomic::{AtomicU64, Ordering};
 use std::test::Fail;
 use std::thread::Threads;
-
-const TESTS: &str =
-    "dejavu suite 1\ntest t01 10000 -\ntest t02 10000 61\ntest t03 10000 0a\ntest t04 10000 6120620a\ntest t05 10000 37\ntest t06 10000 6162206364\ntest t07 10000 31620a\ntest t08 10000 09\ntest t09 10000 68656c6c6f0a\ntest t10 10000 2020\ntest t11 10000 782034320a\ntest t12 10000 610a620a\n";
 
 /// The history by so many workers.
 fn history<R: Threads + Sync>(
@@ -29,7 +26,7 @@ fn history<R: Threads + Sync>(
 #[test]
 fn any_number_of_workers_records_the_same(rt: HostRuntime) -> Result<(), Fail> {
     let alloc = rt.alloc();
-    for suite in [TESTS, "dejavu suite 1\n"] {
+    for suite in [COUNTED, "dejavu suite 1\n"] {
         let one = history(&rt, alloc, suite, "1")?;
         for workers in ["2", "3", "64"] {
             let more = history(&rt, alloc, suite, workers)?;
@@ -77,7 +74,7 @@ impl Gate for Meeting {
 fn two_workers_run_at_the_same_time(rt: HostRuntime) -> Result<(), Fail> {
     let alloc = rt.alloc();
     let gate = Meeting::new();
-    let mut shelf = shelf_of(alloc, &[("source", WORD_COUNTER), ("suite", TESTS)])?;
+    let mut shelf = shelf_of(alloc, &[("source", WORD_COUNTER), ("suite", COUNTED)])?;
     let mut out = MemorySink::new(alloc, 10_000, 1000)?;
     let words = owned_words(alloc, &["record", "source", "suite", "--workers=2"])?;
     let status = dejavu(&rt, alloc, &words, &mut shelf, &mut out, &gate);

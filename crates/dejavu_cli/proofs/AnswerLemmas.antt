@@ -1,5 +1,5 @@
 -- From what the steps of `record` answer to its cause or its text.
-use Rattle.std.proofs.Common.{◌≡◌, ◌≤◌, ℕ, List, length, inr, Option, Some, Result, Ok, Err, IfOk, IfErr, MatchResult, sym, ap, ◌∙◌, subst, arith}
+use Rattle.std.proofs.Common.{◌≡◌, ◌≤◌, refl, ℕ, false, List, length, inr, Option, Some, Result, Ok, Err, IfOk, IfErr, MatchResult, sym, ap, ◌∙◌, subst, arith}
 use Rattle.std.specs.declared.vec.Vec.{Vec}
 use Rattle.std.specs.declared.alloc.Global.{Global}
 use Rattle.dv_outside.specs.Outside.{Files, file_at, IsFetched}
@@ -63,8 +63,9 @@ module _ (s t : List ℕ) (w : ℕ) (told : Option Files) (before now : List ℕ
       whole_suite : (files : Files) → told ≡ Some files → file_at files t ≡ Some suite
       whole_suite files at = found_file mid t 16777217 suite taken (omega (arith, ap length reads.says.is, reads.suite.short)) files (same ∙ at)
 
-      pub has_text : (text : List ℕ) → HasRecordText source P tests text → HasTextOf (Some (record_files s t w)) told text
+      pub has_text : (text : List ℕ) → HasRecordText source P tests text → HasTextOf (Some (record_files s t w)) told false text
       has_text text h = λ files at. (
+        refl,
         h.history,
         record {
           source = source;
@@ -103,7 +104,7 @@ module _ (s t : List ℕ) (w : ℕ) (told : Option Files) (before now : List ℕ
 
       pub answered : (r : Result (Vec ℕ Global) Refusal) (read : List ℕ) (run : List TestParts) → read ≡ source → run ≡ tests
           → IfOk r (λ text. HasRecordText read P run text.items) → IfErr r (IsTextCause read P run)
-          → MatchResult r (λ text. HasTextOf (Some (record_files s t w)) told text.items) (HasCauseOf (record_files s t w) told before now)
+          → MatchResult r (λ text. HasTextOf (Some (record_files s t w)) told false text.items) (HasCauseOf (record_files s t w) told before now)
       answered (Ok text) read run is are done failed =
           let whole = subst (λ (bytes : List ℕ). HasRecordText bytes P run text.items) is done in
           has_text text.items (subst (λ (each : List TestParts). HasRecordText source P each text.items) are whole)

@@ -2,9 +2,9 @@ mod AnswerLemmas
 mod ChoiceLemmas
 mod CompleteLemmas
 mod FileLemmas
+mod RerunLemmas
 mod RunLemmas
 mod Safety
-mod SelectionLemmas
 mod SourceLemmas
 mod TopLemmas
-mod Zips
+mod VersionLemmas

@@ -1,5 +1,5 @@
 -- Why a test that is left may be left.
-use Rattle.std.proofs.Common.{◌≡◌, ℕ, ◌<◌, ◌≤◌, List, [], ◌∷◌, length, get_or, Bool, All, refl, sym, ap, ◌∙◌, subst, arith, inl, inr}
+use Rattle.std.proofs.Common.{◌≡◌, ℕ, ◌<◌, List, [], ◌∷◌, length, get_or, Bool, All, refl, sym, ap, ◌∙◌, subst, arith, inl, inr}
 use Rattle.std.specs.Prelude.{AllPairs, ◌≢◌}
 use Rattle.std.specs.List.{AllZip}
 use Rattle.std.proofs.Math.ListN.{get_or-eq_default}
@@ -24,9 +24,9 @@ use Rattle.test_history.specs.HistoryTexts.{history_text}
 use Rattle.test_select.specs.declared.choice.Choice.{Choice}
 use Rattle.test_select.specs.declared.choice.Choice.TheVariants.{Left}
 use Rattle.suite_run.specs.Entries.{IsRowOf, IsEntry}
-use Rattle.dejavu_cli.specs.Record.{IsHistory, IsSuiteFile}
-use Rattle.dejavu_cli.specs.Select.{CrossesDanger, IsChoice, BehavesTheSame, IsSafe, IsHistoryFile, IsSelection}
-use Rattle.dejavu_cli.specs.Steps.{IsOnlyHistory, HasChoices}
+use Rattle.dejavu_cli.specs.Record.{IsHistory, IsHistoryOf, IsSuiteFile}
+use Rattle.dejavu_cli.specs.Select.{CrossesDanger, IsChoice, BehavesTheSame, IsHistoryFile}
+use Rattle.dejavu_cli.specs.Steps.{IsOnlyHistory, HasChosen}
 use Rattle.dejavu_cli.proofs.RunLemmas.{history_within}
 
 -- ---- what `record` writes of a source can be read back
@@ -121,24 +121,26 @@ module _ (P P' : ProgramTree) (same : SameRuns (flow_of P) (flow_of P') (Reached
   all_behave (t ∷ tests) (e ∷ entries) [] each chosen = absurd chosen
   all_behave (t ∷ tests) (e ∷ entries) (c ∷ choices) each chosen = (behaves t e c each.0 chosen.0, all_behave tests entries choices each.1 chosen.1)
 
--- ---- the selection
+-- ---- the choices
 
-safe : (P P' : ProgramTree) (old bytes : List ℕ) (found : HistoryParts) (choices : List Choice)
-    → SameRuns (flow_of P) (flow_of P') (Reached (flow_of P) (flow_of P')) (Dangerous (flow_of P) (flow_of P')) → RunsAreBounded (flow_of P) → EdgesHaveNumbers P
-    → IsValid P → ((Q : ProgramTree) → Accepted old Q → Q ≡ P) → IsOnlyHistory old bytes P found → AllZip (IsChoice P P') found.entries choices → IsSafe old bytes P P' choices
-safe P P' old bytes found choices same bounded numbered valid alone only chosen suite tests recorded reads is text =
-    let here : IsHistory old P tests recorded = subst (λ (Q : ProgramTree). IsHistory old Q tests recorded) (alone is.program is.accepted) is.is in
-    let equal : found ≡ recorded = only.only recorded (recorded_file P old bytes found valid bounded only.file suite tests recorded reads here text) in
-    all_behave P P' same numbered tests recorded.entries choices here.entries (subst (λ (h : HistoryParts). AllZip (IsChoice P P') h.entries choices) equal chosen)
+module _ (P P' : ProgramTree) (old bytes : List ℕ) (found : HistoryParts) (bounded : RunsAreBounded (flow_of P)) (valid : IsValid P)
+    (alone : (Q : ProgramTree) → Accepted old Q → Q ≡ P) (only : IsOnlyHistory old bytes P found) where
+  -- where the bytes are what `record` writes for the source and a suite, the entries are those of its tests
+  recorded_entries : (suite : List ℕ) (tests : List TestParts) (recorded : HistoryParts) → IsSuiteFile suite tests → IsHistoryOf old tests recorded → bytes ≡ history_text recorded
+      → AllZip (IsEntry P) tests found.entries
+  recorded_entries suite tests recorded reads is text =
+      let here : IsHistory old P tests recorded = subst (λ (Q : ProgramTree). IsHistory old Q tests recorded) (alone is.program is.accepted) is.is in
+      let equal : found ≡ recorded = only.only recorded (recorded_file P old bytes found valid bounded only.file suite tests recorded reads here text) in
+      subst (λ (h : HistoryParts). AllZip (IsEntry P) tests h.entries) (sym equal) here.entries
 
-pub selection_is : (P P' : ProgramTree) (old bytes : List ℕ) (found : HistoryParts) (text : List ℕ)
-    → SameRuns (flow_of P) (flow_of P') (Reached (flow_of P) (flow_of P')) (Dangerous (flow_of P) (flow_of P')) → RunsAreBounded (flow_of P) → EdgesHaveNumbers P
-    → IsValid P → ((Q : ProgramTree) → Accepted old Q → Q ≡ P) → IsOnlyHistory old bytes P found → HasChoices P P' found.entries text → IsSelection old bytes P P' text
-selection_is P P' old bytes found text same bounded numbered valid alone only has = record {
-  history = found;
-  reads = only.file;
-  choices = has.choices;
-  chosen = has.chosen;
-  is = has.text;
-  safe = safe P P' old bytes found has.choices same bounded numbered valid alone only has.chosen;
-}
+  pub has_chosen : (choices : List Choice) → SameRuns (flow_of P) (flow_of P') (Reached (flow_of P) (flow_of P')) (Dangerous (flow_of P) (flow_of P')) → EdgesHaveNumbers P
+      → AllZip (IsChoice P P') found.entries choices → HasChosen old bytes P P' found choices
+  has_chosen choices same numbered chosen = record {
+    chosen =
+        record {
+          reads = only.file;
+          chosen = chosen;
+          safe = λ suite tests recorded reads is text. all_behave P P' same numbered tests found.entries choices (recorded_entries suite tests recorded reads is text) chosen;
+        };
+    recorded = recorded_entries;
+  }

@@ -1,8 +1,6 @@
 -- From what is fetched to what the files hold.
 use Rattle.std.proofs.Common.{◌≡◌, ℕ, ◌<◌, ◌≤◌, refl, inl, inr, List, length, take, Option, Some, Result, Ok, Err, MatchResult, sym, ap, ◌∙◌, subst, arith}
 use Rattle.std.specs.Result.{IsErrAnd}
-use Rattle.std.specs.declared.vec.Vec.{Vec}
-use Rattle.std.specs.declared.alloc.Global.{Global}
 use Rattle.std.proofs.lemmas.List.{length-take}
 use Rattle.std.proofs.lemmas.Grind.{common_steps}
 use Rattle.dv_outside.specs.Outside.{Files, file_at, IsFetched, Rose}
@@ -33,7 +31,7 @@ found_file told name most bytes fetched short files at =
     file.1 ∙ ap Some (sym is)
 
 -- a refusal of a step was passed on
-pub passed_on : (r : Result (Vec ℕ Global) Refusal) (found : Vec ℕ Global → Type 0) (cause : Refusal → Type 0) (refusal : Refusal) → IsErrAnd r (λ e. e ≡ refusal) → cause refusal → MatchResult r found cause
+pub passed_on : {A : Type 0} (r : Result A Refusal) (found : A → Type 0) (cause : Refusal → Type 0) (refusal : Refusal) → IsErrAnd r (λ e. e ≡ refusal) → cause refusal → MatchResult r found cause
 passed_on (Ok text) found cause refusal was holds = absurd was
 passed_on (Err r) found cause refusal was holds = subst cause (sym was) holds
 

@@ -1,11 +1,11 @@
 -- What is read off the answer of the whole call.
-use Rattle.std.proofs.Common.{◌≡◌, ℕ, List, ◌++◌, Option, Some, None, option_map, sym, ap, ◌∙◌, inl, inr}
+use Rattle.std.proofs.Common.{◌≡◌, ℕ, Bool, true, false, List, ◌++◌, Option, Some, None, option_map, sym, ap, ◌∙◌, inl, inr}
 use Rattle.dv_outside.specs.Outside.{Files}
 use Rattle.command_words.specs.Words.{Command, command_of}
 use Rattle.command_refusals.specs.Refusals.{refusal_line}
 use Rattle.command_refusals.specs.declared.refusal.Refusal.{Refusal}
 use Rattle.command_refusals.specs.declared.refusal.Refusal.TheVariants as refusal
-use Rattle.dejavu_cli.specs.Answers.{HasTextOf, HasCause, Says, Refuses, IsHeadline, status_of}
+use Rattle.dejavu_cli.specs.Answers.{HasTextOf, HasCause, Says, Refuses, IsHeadline, status_of, done_as}
 use Rattle.dejavu_cli.specs.declared.status.Status8.{Status8}
 use Rattle.dejavu_cli.specs.declared.status.Status8.TheVariants as status
 
@@ -14,11 +14,29 @@ added : (b n : Option (List ℕ)) (text written : List ℕ) → n ≡ option_map
 added b n text written is told = is ∙ ap (option_map (λ held. held ++ text)) told
 
 module _ (words : List (List ℕ)) (told : Option Files) (b n : Option (List ℕ)) (fb fn : ℕ) (answer : Status8) where
-  pub headline_is : (text : List ℕ) (oc : Option Command) → command_of words ≡ oc → HasTextOf oc told text → Says b n fb fn status.Done text answer
-      → answer ≡ status.Done → IsHeadline words told b n
-  headline_is text None is has says done = absurd has
-  headline_is text (Some c) is has (inl h) done = λ files at written held. (c, is, text, has files at, added b n text written h.1 held)
-  headline_is text (Some c) is has (inr h) done = let failed : answer ≡ status.WriteFault = h.0 in absurd (cc)
+  pub headline_is : (differs : Bool) (s : Status8) (text : List ℕ) (oc : Option Command) → command_of words ≡ oc → HasTextOf oc told differs text → Says b n fb fn s text answer
+      → (status.WriteFault ≡ s → ⊥) → answer ≡ s → IsHeadline words told b n differs
+  headline_is differs s text None is has says other done = absurd has
+  headline_is differs s text (Some c) is has (inl h) other done = λ files at written held. (c, is, text, has files at, added b n text written h.1 held)
+  headline_is differs s text (Some c) is has (inr h) other done = absurd (other (sym h.0 ∙ done))
+
+  pub done_is : (differs : Bool) (text : List ℕ) (oc : Option Command) → command_of words ≡ oc → HasTextOf oc told differs text → Says b n fb fn (done_as differs) text answer
+      → answer ≡ status.Done → IsHeadline words told b n false
+  done_is false text oc is has says done = headline_is false status.Done text oc is has says (λ h. cc) done
+  done_is true text oc is has (inl h) done = let other : status.Differs ≡ status.Done = sym h.0 ∙ done in absurd (cc)
+  done_is true text oc is has (inr h) done = let other : status.WriteFault ≡ status.Done = sym h.0 ∙ done in absurd (cc)
+
+  pub differs_is : (differs : Bool) (text : List ℕ) (oc : Option Command) → command_of words ≡ oc → HasTextOf oc told differs text → Says b n fb fn (done_as differs) text answer
+      → answer ≡ status.Differs → IsHeadline words told b n true
+  differs_is true text oc is has says done = headline_is true status.Differs text oc is has says (λ h. cc) done
+  differs_is false text oc is has (inl h) done = let other : status.Done ≡ status.Differs = sym h.0 ∙ done in absurd (cc)
+  differs_is false text oc is has (inr h) done = let other : status.WriteFault ≡ status.Differs = sym h.0 ∙ done in absurd (cc)
+
+  -- a command that is done is no fault of usage
+  pub no_usage : (differs : Bool) (text : List ℕ) → Says b n fb fn (done_as differs) text answer → answer ≡ status.Usage → command_of words ≡ None
+  no_usage true text (inl h) is = let other : status.Differs ≡ status.Usage = sym h.0 ∙ is in absurd (cc)
+  no_usage false text (inl h) is = let other : status.Done ≡ status.Usage = sym h.0 ∙ is in absurd (cc)
+  no_usage differs text (inr h) is = let other : status.WriteFault ≡ status.Usage = sym h.0 ∙ is in absurd (cc)
 
   never : (s : Status8) (text : List ℕ) → (s ≡ status.Usage → ⊥) → Says b n fb fn s text answer → answer ≡ status.Usage → ⊥
   never s text other (inl h) is = other (sym h.0 ∙ is)

@@ -1,12 +1,13 @@
 -- What is written, and when each answer comes.
-use Rattle.std.specs.Prelude.{ℕ, ◌≡◌, ◌<◌, ◌≤◌, ◌⊎◌, List, ◌++◌, length, Option, Some, None}
+use Rattle.std.specs.Prelude.{ℕ, ◌≡◌, ◌<◌, ◌≤◌, ◌⊎◌, Bool, true, false, List, ◌++◌, length, Option, Some, None}
 use Rattle.dv_outside.specs.Outside.{Files, file_at, Rose, Appends, AppendsPrefix}
 use Rattle.csub_semantics.specs.Syntax.{ProgramTree}
 use Rattle.csub_accept.specs.Accepted.{Accepted}
 use Rattle.test_suite.specs.Tests.{TestParts}
 use Rattle.test_history.specs.Histories.{HistoryParts}
 use Rattle.test_history.specs.HistoryTexts.{history_text, most_history_bytes}
-use Rattle.command_words.specs.Words.{Command, record_files, select_files, command_of}
+use Rattle.explain_report.specs.Walks.{IsWalkText}
+use Rattle.command_words.specs.Words.{Command, record_files, walk_files, select_files, rerun_files, command_of}
 use Rattle.command_refusals.specs.Refusals.{refusal_line}
 use Rattle.command_refusals.specs.declared.source.SourceCause.{SourceCause}
 use Rattle.command_refusals.specs.declared.suite.SuiteCause.{SuiteCause}
@@ -18,6 +19,7 @@ use Rattle.command_refusals.specs.declared.refusal.Refusal.TheVariants as refusa
 use Rattle.dejavu_cli.specs.Causes.{NotAccepted, NoSuite, NoHistory}
 use Rattle.dejavu_cli.specs.Record.{IsHistoryOf, IsSuiteFile}
 use Rattle.dejavu_cli.specs.Select.{IsHistoryFile, IsSelection}
+use Rattle.dejavu_cli.specs.Rerun.{IsRerun}
 use Rattle.dejavu_cli.specs.declared.status.Status8.{Status8}
 use Rattle.dejavu_cli.specs.declared.status.Status8.TheVariants as status
 
@@ -66,88 +68,128 @@ pub record HasNoSuite (files : Files) (source_name suite_name : List ℕ) (cause
   pub found : file_at files suite_name ≡ Some bytes
   pub is : NoSuite bytes cause
 
--- the three files are there: two accepted sources, each of one program alone, and a history of the old one; this is the
--- text of their selection
-pub record HasSelection (files : Files) (old_name new_name history_name text : List ℕ) : Type 0 where
+-- both files are there, and are accepted sources, each of one program alone; the old one has these bytes
+pub record HasVersions (files : Files) (old_name new_name source : List ℕ) (P P' : ProgramTree) : Type 0 where
+  pub found : file_at files old_name ≡ Some source
+  pub accepted : Accepted source P
+  pub new_source : HasSource files new_name P'
+  pub old_alone : (Q : ProgramTree) → Accepted source Q → Q ≡ P
+  pub new_alone : (Q : ProgramTree) → Accepted new_source.bytes Q → Q ≡ P'
+
+-- two accepted sources, and the text of their walk
+pub record HasWalk (files : Files) (old_name new_name text : List ℕ) : Type 0 where
+  pub source : List ℕ
   pub old : ProgramTree
   pub new : ProgramTree
-  pub old_source : HasSource files old_name old
-  pub new_source : HasSource files new_name new
-  pub old_alone : (P : ProgramTree) → Accepted old_source.bytes P → P ≡ old
-  pub new_alone : (P : ProgramTree) → Accepted new_source.bytes P → P ≡ new
+  pub versions : HasVersions files old_name new_name source old new
+  pub is : IsWalkText source old new text
+
+-- two accepted sources and a history of the old one, and the text of their selection
+pub record HasSelection (files : Files) (old_name new_name history_name text : List ℕ) : Type 0 where
+  pub source : List ℕ
+  pub old : ProgramTree
+  pub new : ProgramTree
+  pub versions : HasVersions files old_name new_name source old new
   pub bytes : List ℕ
   pub found : file_at files history_name ≡ Some bytes
-  pub is : IsSelection old_source.bytes bytes old new text
+  pub is : IsSelection source bytes old new text
+
+-- the same, and the text of the runs of the selected tests on the new program, with whether one differs
+pub record HasRerun (files : Files) (old_name new_name history_name : List ℕ) (differs : Bool) (text : List ℕ) : Type 0 where
+  pub source : List ℕ
+  pub old : ProgramTree
+  pub new : ProgramTree
+  pub versions : HasVersions files old_name new_name source old new
+  pub bytes : List ℕ
+  pub found : file_at files history_name ≡ Some bytes
+  pub is : IsRerun source bytes old new differs text
 
 -- the first two files are accepted sources, and the third is there and no history of the first, of which this is told
 pub record HasNoHistory (files : Files) (old_name new_name history_name : List ℕ) (cause : HistoryCause) : Type 0 where
+  pub source : List ℕ
   pub old : ProgramTree
   pub new : ProgramTree
-  pub old_source : HasSource files old_name old
-  pub new_source : HasSource files new_name new
-  pub alone : (P : ProgramTree) → Accepted old_source.bytes P → P ≡ old
+  pub versions : HasVersions files old_name new_name source old new
   pub bytes : List ℕ
   pub found : file_at files history_name ≡ Some bytes
-  pub is : NoHistory old_source.bytes bytes old cause
+  pub is : NoHistory source bytes old cause
 
 -- ---- the text of a command
 
--- the text of a command by its files
-abbrev pub IsTextOf : Command → Files → List ℕ → Type 0
-IsTextOf (record_files source suite workers) files text =
-    (history : HistoryParts) × HasHistory files source suite history × (text ≡ history_text history) × (length text ≤ most_history_bytes)
-IsTextOf (select_files old new history) files text = HasSelection files old new history text
+-- the text of a command by its files, and whether a test differs, which `rerun` alone finds out
+abbrev pub IsTextOf : Command → Files → Bool → List ℕ → Type 0
+IsTextOf (record_files source suite workers) files differs text =
+    (differs ≡ false) × (history : HistoryParts) × HasHistory files source suite history × (text ≡ history_text history)
+    × (length text ≤ most_history_bytes)
+IsTextOf (walk_files old new) files differs text = (differs ≡ false) × HasWalk files old new text
+IsTextOf (select_files old new history) files differs text = (differs ≡ false) × HasSelection files old new history text
+IsTextOf (rerun_files old new history workers) files differs text = HasRerun files old new history differs text
 
 -- what holds of the files, where they are told
 abbrev pub WhereTold : Option Files → (Files → Type 0) → Type 0
 WhereTold told Q = (files : Files) → told ≡ Some files → Q files
 
 -- the text of a command, where the files are told; words that are no command have none
-abbrev pub HasTextOf : Option Command → Option Files → List ℕ → Type 0
-HasTextOf None told text = ⊥
-HasTextOf (Some c) told text = WhereTold told (λ files. IsTextOf c files text)
+abbrev pub HasTextOf : Option Command → Option Files → Bool → List ℕ → Type 0
+HasTextOf None told differs text = ⊥
+HasTextOf (Some c) told differs text = WhereTold told (λ files. IsTextOf c files differs text)
 
 -- ---- why a command isn't done
 
--- the source in this role isn't accepted, and the sources before it are
+-- the source in this role isn't accepted, and the one before it is
+abbrev pub HasBadOne : List ℕ → Role → SourceCause → Option Files → Type 0
+HasBadOne source role.Source cause told = WhereTold told (λ files. HasNoSource files source cause)
+HasBadOne source role.Old cause told = ⊥
+HasBadOne source role.New cause told = ⊥
+
+abbrev pub HasBadOfTwo : List ℕ → List ℕ → Role → SourceCause → Option Files → Type 0
+HasBadOfTwo old new role.Source cause told = ⊥
+HasBadOfTwo old new role.Old cause told = WhereTold told (λ files. HasNoSource files old cause)
+HasBadOfTwo old new role.New cause told = WhereTold told (λ files. ((P : ProgramTree) × HasSource files old P) × HasNoSource files new cause)
+
 abbrev pub HasBadSource : Command → Role → SourceCause → Option Files → Type 0
-HasBadSource (record_files source suite workers) role.Source cause told = WhereTold told (λ files. HasNoSource files source cause)
-HasBadSource (record_files source suite workers) role.Old cause told = ⊥
-HasBadSource (record_files source suite workers) role.New cause told = ⊥
-HasBadSource (select_files old new history) role.Source cause told = ⊥
-HasBadSource (select_files old new history) role.Old cause told = WhereTold told (λ files. HasNoSource files old cause)
-HasBadSource (select_files old new history) role.New cause told =
-    WhereTold told (λ files. ((P : ProgramTree) × HasSource files old P) × HasNoSource files new cause)
+HasBadSource (record_files source suite workers) which cause told = HasBadOne source which cause told
+HasBadSource (walk_files old new) which cause told = HasBadOfTwo old new which cause told
+HasBadSource (select_files old new history) which cause told = HasBadOfTwo old new which cause told
+HasBadSource (rerun_files old new history workers) which cause told = HasBadOfTwo old new which cause told
 
 -- the source is accepted, and the suite isn't
 abbrev pub HasBadSuite : Command → SuiteCause → Option Files → Type 0
 HasBadSuite (record_files source suite workers) cause told = WhereTold told (λ files. HasNoSuite files source suite cause)
-HasBadSuite (select_files old new history) cause told = ⊥
+HasBadSuite c cause told = ⊥
 
 -- both sources are accepted, and the history isn't
 abbrev pub HasBadHistory : Command → HistoryCause → Option Files → Type 0
-HasBadHistory (record_files source suite workers) cause told = ⊥
 HasBadHistory (select_files old new history) cause told = WhereTold told (λ files. HasNoHistory files old new history cause)
+HasBadHistory (rerun_files old new history workers) cause told = WhereTold told (λ files. HasNoHistory files old new history cause)
+HasBadHistory c cause told = ⊥
 
 -- the source of this name is accepted
 abbrev pub HasGoodSource : List ℕ → Option Files → Type 0
 HasGoodSource name told = WhereTold told (λ files. (P : ProgramTree) × HasSource files name P)
 
 -- the count of faults of a named file rose, and the sources before that file are accepted
+abbrev pub HasFaultOfTwo : List ℕ → List ℕ → Option Files → (List ℕ → ℕ) → (List ℕ → ℕ) → Type 0
+HasFaultOfTwo first second told before now =
+    Rose (before first) (now first)
+    ⊎ (HasGoodSource first told × Rose (before second) (now second))
+
+abbrev pub HasFaultOfThree : List ℕ → List ℕ → List ℕ → Option Files → (List ℕ → ℕ) → (List ℕ → ℕ) → Type 0
+HasFaultOfThree first second third told before now =
+    HasFaultOfTwo first second told before now
+    ⊎ (HasGoodSource first told × HasGoodSource second told × Rose (before third) (now third))
+
 abbrev pub HasReadFault : Command → Option Files → (List ℕ → ℕ) → (List ℕ → ℕ) → Type 0
-HasReadFault (record_files source suite workers) told before now =
-    Rose (before source) (now source)
-    ⊎ (HasGoodSource source told × Rose (before suite) (now suite))
-HasReadFault (select_files old new history) told before now =
-    Rose (before old) (now old)
-    ⊎ ((HasGoodSource old told × Rose (before new) (now new))
-    ⊎ (HasGoodSource old told × HasGoodSource new told × Rose (before history) (now history)))
+HasReadFault (record_files source suite workers) told before now = HasFaultOfTwo source suite told before now
+HasReadFault (walk_files old new) told before now = HasFaultOfTwo old new told before now
+HasReadFault (select_files old new history) told before now = HasFaultOfThree old new history told before now
+HasReadFault (rerun_files old new history workers) told before now = HasFaultOfThree old new history told before now
 
 -- the history would have more bytes than a history may have, so many
 abbrev pub HasTooMuch : Command → Option Files → ℕ → Type 0
 HasTooMuch (record_files source suite workers) told bytes = WhereTold told (λ files.
     (history : HistoryParts) × HasHistory files source suite history × (bytes ≡ length (history_text history)) × (most_history_bytes < bytes))
-HasTooMuch (select_files old new history) told bytes = ⊥
+HasTooMuch c told bytes = ⊥
 
 -- why a command isn't done; want of memory may come at any time before the write
 abbrev pub HasCauseOf : Command → Option Files → (List ℕ → ℕ) → (List ℕ → ℕ) → Refusal → Type 0
@@ -178,10 +220,15 @@ status_of (refusal.TooMuch bytes) = status.TooMuch
 
 -- ---- the answer
 
+-- the status of a command that is done
+abbrev pub done_as : Bool → Status8
+done_as true = status.Differs
+done_as false = status.Done
+
 -- `Decides`: by the words, the files and the counts of faults the work comes to this status and this text
 abbrev pub Decides : List (List ℕ) → Option Files → (List ℕ → ℕ) → (List ℕ → ℕ) → Status8 → List ℕ → Type 0
 Decides words told before now s text =
-    ((s ≡ status.Done) × HasTextOf (command_of words) told text)
+    ((differs : Bool) × (s ≡ done_as differs) × HasTextOf (command_of words) told differs text)
     ⊎ ((r : Refusal) × (s ≡ status_of r) × (text ≡ refusal_line r) × HasCause (command_of words) told before now r)
 
 -- `Says`: the text was written whole and its status is the answer, or the write failed and a beginning of it is out
@@ -192,11 +239,12 @@ Says before now faults_before faults_now s text answer =
 
 -- The headline: where the files and the written bytes are told, the words are a command and its text was added to what
 -- was written before. For `select` that text names exactly the tests whose recorded run crosses a dangerous edge, and
--- each test that it leaves behaves the same on the new program (`Select`'s `IsSelection`).
-abbrev pub IsHeadline : List (List ℕ) → Option Files → Option (List ℕ) → Option (List ℕ) → Type 0
-IsHeadline words told before now =
+-- each test that it leaves behaves the same on the new program (`Select`'s `IsSelection`). For `rerun` whether a test
+-- differs is whether any test of a recorded suite does, the left ones too (`Rerun`'s `IsFaithful`).
+abbrev pub IsHeadline : List (List ℕ) → Option Files → Option (List ℕ) → Option (List ℕ) → Bool → Type 0
+IsHeadline words told before now differs =
     (files : Files) → told ≡ Some files → (written : List ℕ) → before ≡ Some written →
-    (c : Command) × (command_of words ≡ Some c) × (text : List ℕ) × IsTextOf c files text × (now ≡ Some (written ++ text))
+    (c : Command) × (command_of words ≡ Some c) × (text : List ℕ) × IsTextOf c files differs text × (now ≡ Some (written ++ text))
 
 -- the refusal's line was written with its status, or that for want of memory
 abbrev pub Refuses : Option (List ℕ) → Option (List ℕ) → ℕ → ℕ → Refusal → Status8 → Type 0
@@ -206,21 +254,30 @@ Refuses before now faults_before faults_now r answer =
 
 -- ---- completeness
 
--- the files of a command are there and are what it asks for: for `record` an accepted source and a suite, for `select`
--- two accepted sources and a history of the old one
-abbrev pub AreReady : Command → Files → Type 0
-AreReady (record_files source_name suite_name workers) files =
-    ((P : ProgramTree) × HasSource files source_name P)
-    × ((suite : List ℕ) × (tests : List TestParts) × (file_at files suite_name ≡ Some suite) × IsSuiteFile suite tests)
-AreReady (select_files old_name new_name history_name) files =
+-- a suite, and two accepted sources with a history of the old one
+abbrev pub HasSuite : Files → List ℕ → Type 0
+HasSuite files name = (suite : List ℕ) × (tests : List TestParts) × (file_at files name ≡ Some suite) × IsSuiteFile suite tests
+
+abbrev pub HaveHistory : Files → List ℕ → List ℕ → List ℕ → Type 0
+HaveHistory files old_name new_name history_name =
     (old new : ProgramTree) × (source : HasSource files old_name old) × HasSource files new_name new
     × (bytes : List ℕ) × (history : HistoryParts) × (file_at files history_name ≡ Some bytes) × IsHistoryFile source.bytes bytes old history
 
--- the answer of a command that nothing stands in the way of: it is done, or for `record` the history would be too long,
--- or memory was wanted
+-- the files of a command are there and are what it asks for: for `record` an accepted source and a suite, for the others
+-- two accepted sources, and for `select` and `rerun` a history of the old one
+abbrev pub AreReady : Command → Files → Type 0
+AreReady (record_files source suite workers) files = ((P : ProgramTree) × HasSource files source P) × HasSuite files suite
+AreReady (walk_files old new) files = ((P : ProgramTree) × HasSource files old P) × ((P : ProgramTree) × HasSource files new P)
+AreReady (select_files old new history) files = HaveHistory files old new history
+AreReady (rerun_files old new history workers) files = HaveHistory files old new history
+
+-- the answer of a command that nothing stands in the way of: it is done, or for `record` the history would be too long, for
+-- `rerun` a test differs, or memory was wanted
 abbrev pub IsDone : Command → Status8 → Type 0
 IsDone (record_files source suite workers) answer = (answer ≡ status.Done) ⊎ ((answer ≡ status.TooMuch) ⊎ (answer ≡ status.Memory))
+IsDone (walk_files old new) answer = (answer ≡ status.Done) ⊎ (answer ≡ status.Memory)
 IsDone (select_files old new history) answer = (answer ≡ status.Done) ⊎ (answer ≡ status.Memory)
+IsDone (rerun_files old new history workers) answer = (answer ≡ status.Done) ⊎ ((answer ≡ status.Differs) ⊎ (answer ≡ status.Memory))
 
 -- Completeness: where the words are a command whose files are told and ready, and none had a fault, nor the output, it is
 -- done

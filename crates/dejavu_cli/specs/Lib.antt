@@ -1,5 +1,6 @@
 pub mod Record
 pub mod Select
+pub mod Rerun
 pub mod Causes
-pub mod Steps
 pub mod Answers
+pub mod Steps

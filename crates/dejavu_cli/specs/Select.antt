@@ -55,11 +55,15 @@ pub record IsHistoryFile (source bytes : List ℕ) (P : ProgramTree) (history : 
   pub digest : history.digest ≡ sha256 source
   pub edges : history.edges ≡ length (edge_list P)
 
+-- the choices for the entries of a history of the old source, whose program is P
+pub record IsChosen (old bytes : List ℕ) (P P' : ProgramTree) (history : HistoryParts) (choices : List Choice) : Type 0 where
+  pub reads : IsHistoryFile old bytes P history
+  pub chosen : AllZip (IsChoice P P') history.entries choices
+  pub safe : IsSafe old bytes P P' choices
+
 -- the text of `select` for the old source's program, the new program and the bytes of a history file
 pub record IsSelection (old bytes : List ℕ) (P P' : ProgramTree) (text : List ℕ) : Type 0 where
   pub history : HistoryParts
-  pub reads : IsHistoryFile old bytes P history
   pub choices : List Choice
-  pub chosen : AllZip (IsChoice P P') history.entries choices
+  pub chosen : IsChosen old bytes P P' history choices
   pub is : text ≡ select_text history.entries choices
-  pub safe : IsSafe old bytes P P' choices

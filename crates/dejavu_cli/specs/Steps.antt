@@ -1,23 +1,25 @@
 -- What the steps of a command answer.
-use Rattle.std.specs.Prelude.{ℕ, ◌≡◌, ◌<◌, ◌≤◌, ◌↔◌, Bool, List, length, Some, IsTrue}
+use Rattle.std.specs.Prelude.{ℕ, ◌≡◌, ◌<◌, ◌≤◌, List, length, Option}
 use Rattle.std.specs.List.{AllZip}
-use Rattle.dv_outside.specs.Outside.{Rose}
+use Rattle.dv_outside.specs.Outside.{Files, Rose}
 use Rattle.csub_semantics.specs.Syntax.{ProgramTree}
-use Rattle.csub_semantics.specs.Flows.{Edge, edge_list, flow_of}
-use Rattle.csub_semantics.specs.Numbers.{edge_at}
-use Rattle.csub_semantics.specs.Books.{Dangerous}
-use Rattle.edge_trace.specs.Rows.{has}
+use Rattle.csub_accept.specs.Accepted.{Accepted}
 use Rattle.test_suite.specs.Tests.{TestParts}
 use Rattle.test_history.specs.Histories.{EntryParts, HistoryParts}
 use Rattle.test_history.specs.HistoryTexts.{history_text, most_history_bytes}
 use Rattle.test_select.specs.declared.choice.Choice.{Choice}
-use Rattle.test_select.specs.SelectTexts.{select_text}
+use Rattle.rerun_report.specs.Reruns.{differ_count}
+use Rattle.rerun_report.specs.RerunTexts.{rerun_text}
+use Rattle.rerun_report.specs.declared.text.RerunText.{RerunText}
+use Rattle.suite_run.specs.Entries.{IsEntry}
 use Rattle.command_refusals.specs.declared.refusal.Role.{Role}
 use Rattle.command_refusals.specs.declared.refusal.Refusal.{Refusal}
 use Rattle.command_refusals.specs.declared.refusal.Refusal.TheVariants as refusal
 use Rattle.dejavu_cli.specs.Causes.{NotAccepted, NoSuite, NoHistory}
-use Rattle.dejavu_cli.specs.Record.{IsHistory}
-use Rattle.dejavu_cli.specs.Select.{IsHistoryFile, IsChoice}
+use Rattle.dejavu_cli.specs.Record.{IsHistory, IsHistoryOf, IsSuiteFile}
+use Rattle.dejavu_cli.specs.Select.{IsHistoryFile, IsChosen}
+use Rattle.dejavu_cli.specs.Rerun.{selected_tests}
+use Rattle.dejavu_cli.specs.Answers.{HasVersions, HasBadOfTwo, HasFaultOfTwo, WhereTold}
 
 -- a file isn't fetched for want of memory, or where the count of its faults rose
 abbrev pub IsFetchCause : ℕ → ℕ → Refusal → Type 0
@@ -30,6 +32,19 @@ abbrev pub IsSourceCause : Role → List ℕ → Refusal → Type 0
 IsSourceCause which bytes refusal.Memory = Unit {0}
 IsSourceCause which bytes (refusal.Source named cause) = (named ≡ which) × NotAccepted bytes cause
 IsSourceCause which bytes r = ⊥
+
+-- the two versions that a command names are read: the old source, and both programs
+pub record AreVersions (told : Option Files) (old_name new_name source : List ℕ) (P P' : ProgramTree) : Type 0 where
+  pub short : length source ≤ 1048576
+  pub alone : (Q : ProgramTree) → Accepted source Q → Q ≡ P
+  pub versions : WhereTold told (λ files. HasVersions files old_name new_name source P P')
+
+-- they aren't read for want of memory, where one isn't accepted, or where the count of faults of one rose
+abbrev pub IsVersionsCause : List ℕ → List ℕ → Option Files → (List ℕ → ℕ) → (List ℕ → ℕ) → Refusal → Type 0
+IsVersionsCause old new told before now refusal.Memory = Unit {0}
+IsVersionsCause old new told before now (refusal.Source which cause) = HasBadOfTwo old new which cause told
+IsVersionsCause old new told before now refusal.ReadFault = HasFaultOfTwo old new told before now
+IsVersionsCause old new told before now r = ⊥
 
 -- a suite isn't read for want of memory, or where it is none
 abbrev pub IsSuiteCause : List ℕ → Refusal → Type 0
@@ -68,14 +83,16 @@ IsHistoryCause source bytes P refusal.Memory = Unit {0}
 IsHistoryCause source bytes P (refusal.History cause) = NoHistory source bytes P cause
 IsHistoryCause source bytes P r = ⊥
 
--- the row has the numbers of the dangerous edges
-pub record IsDangerRow (P P' : ProgramTree) (row : List Bool) : Type 0 where
-  pub edges : length row ≡ length (edge_list P)
-  pub danger : (e : ℕ) (edge : Edge) → edge_at P e ≡ Some edge →
-      IsTrue (has row e) ↔ Dangerous (flow_of P) (flow_of P') edge.function edge.from edge.exit
+-- these are the choices for the history in a file of the old source; where the bytes are what `record` writes for that source
+-- and a suite, the entries are those of its tests
+pub record HasChosen (old bytes : List ℕ) (P P' : ProgramTree) (history : HistoryParts) (choices : List Choice) : Type 0 where
+  pub chosen : IsChosen old bytes P P' history choices
+  pub recorded : (suite : List ℕ) (tests : List TestParts) (other : HistoryParts) → IsSuiteFile suite tests → IsHistoryOf old tests other →
+      bytes ≡ history_text other → AllZip (IsEntry P) tests history.entries
 
--- the text of the choices for these entries
-pub record HasChoices (P P' : ProgramTree) (entries : List EntryParts) (bytes : List ℕ) : Type 0 where
-  pub choices : List Choice
-  pub chosen : AllZip (IsChoice P P') entries choices
-  pub text : bytes ≡ select_text entries choices
+-- the selected tests ran on this program, and this is told of them
+pub record HasReran (P' : ProgramTree) (entries : List EntryParts) (choices : List Choice) (told : RerunText) : Type 0 where
+  pub results : List EntryParts
+  pub ran : AllZip (IsEntry P') (selected_tests entries choices) results
+  pub text : told.bytes.items ≡ rerun_text entries choices results
+  pub count : told.differs ≡ differ_count entries choices results

@@ -2,23 +2,29 @@
 //!
 //! What is promised stands in the contract of [`dejavu`]: what is written is decided by the words and the files
 //! (`specs/Answers`), and each answer has its cause; `record` writes the history of the source and the suite that it
-//! is given (`specs/Record`), each entry with what the test's run on the source's program gives; `select` names the
-//! tests of such a history that a changed source may make behave otherwise, and each test that it leaves behaves the
-//! same on it (`specs/Select`).
+//! is given (`specs/Record`), each entry with what the test's run on the source's program gives; `walk` shows at which edges
+//! two versions part; `select` names the tests of such a history that a changed source may make behave otherwise, and each
+//! test that it leaves behaves the same on it (`specs/Select`); `rerun` runs these, and finds a difference exactly where
+//! running all tests would (`specs/Rerun`).
 #![tactic(auto)]
 
-ghost use Rattle.std.specs.Prelude.{◌≡◌, ℕ, List, None};
+ghost use Rattle.std.specs.Prelude.{◌≡◌, ℕ, List, None, false, true};
 ghost use Rattle.dv_outside.specs.Outside.{Rose, NeverFalls};
 ghost use Rattle.command_words.specs.Words.{texts_of, command_of};
 ghost use Rattle.dejavu_cli.specs.Answers.{Decides, Says, Refuses, IsHeadline, IsComplete};
 
+mod answer;
 mod files;
 mod record;
+mod rerun;
 mod select;
 mod status;
+mod versions;
+mod walked;
 mod work;
 
-use crate::status::refusal_status;
+use crate::answer::Answer;
+use crate::status::{done_as, refusal_status};
 use crate::work::work;
 use command_refusals::{MEMORY_LINE, Refusal, refusal_text};
 use dv_outside::{Gate, Shelf, Sink, write_whole};
@@ -28,12 +34,19 @@ use std::thread::Threads;
 
 /// Does what the words say: the text of the command is made whole, and then written to the output.
 ///
-/// Commands: `record SOURCE SUITE` writes the history of an accepted source and a suite; with `--workers N`, N from 1 to 64, so
-/// many threads run the tests, and the history is the same. `select OLD NEW HISTORY` reads two accepted sources and a history
-/// of OLD, and writes a line for each test in order, `run NAME edge E` where its recorded run crossed a dangerous edge, E the
-/// least number of these, and `left NAME` where it crossed none; then `selected K of N`.
+/// Commands:
+/// - `record SOURCE SUITE` writes the history of an accepted source and a suite; with `--workers N`, N from 1 to 64, so many
+///   threads run the tests, and the history is the same.
+/// - `walk OLD NEW` reads two accepted sources, and writes a line for each dangerous edge, `edge E F L:C EXIT`; then
+///   `dangerous K of N` and `pairs P`.
+/// - `select OLD NEW HISTORY` reads two accepted sources and a history of OLD, and writes a line for each test in order,
+///   `run NAME edge E` where its recorded run crossed a dangerous edge, E the least number of these, and `left NAME` where it
+///   crossed none; then `selected K of N`.
+/// - `rerun OLD NEW HISTORY`, with or without `--workers N`, runs the selected tests on NEW, and writes a line for each test in
+///   order, `left NAME`, `same NAME`, or `differs NAME` and what differs from its entry; then `differ K of N`. The answer is
+///   Differs where a test differs.
 ///
-/// Before a worker makes the machine of a test it calls the gate with the test's place in the suite.
+/// Before a worker makes the machine of a test it calls the gate with the test's place in the list of tests that run.
 ///
 /// Where the command can't be done its refusal line is written in place of the text, and nothing else; the status says
 /// why. An earlier cause hides a later one, in the order of the words, each file, the work, the write. Nothing is
@@ -52,7 +65,9 @@ pub fn dejavu<R: Threads + Sync, S: Shelf, K: Sink, G: Gate>(
         × Says (K.written out.old) (K.written out.new) (K.faults out.old) (K.faults out.new) status text result }
 
     // Where the files and the written bytes are told, Done says that the command's text was written.
-    ensures headline { result ≡ Status8.Done → IsHeadline (texts_of words.now) (S.files shelf.old) (K.written out.old) (K.written out.new) }
+    ensures headline { result ≡ Status8.Done → IsHeadline (texts_of words.now) (S.files shelf.old) (K.written out.old) (K.written out.new) false }
+    // So does Differs, and a test that ran again differs.
+    ensures differs { result ≡ Status8.Differs → IsHeadline (texts_of words.now) (S.files shelf.old) (K.written out.old) (K.written out.new) true }
     ensures usage { result ≡ Status8.Usage → command_of (texts_of words.now) ≡ None }
     ensures write_fault { result ≡ Status8.WriteFault → Rose (K.faults out.old) (K.faults out.new) }
     // Where nothing stands in its way it is done.
@@ -60,7 +75,7 @@ pub fn dejavu<R: Threads + Sync, S: Shelf, K: Sink, G: Gate>(
     ensures counts { NeverFalls (S.faults shelf.old) (S.faults shelf.new) }
 {
     match work(rt, alloc, words, shelf, gate) {
-        Ok(text) => say(out, Status8::Done, &text),
+        Ok(Answer { text, differs }) => say(out, done_as(differs), &text),
         Err(refusal) => refuse(alloc, out, refusal),
     }
 }

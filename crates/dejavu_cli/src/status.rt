@@ -1,6 +1,6 @@
 //! What the program ends with.
 ghost use Rattle.std.specs.Prelude.{◌≡◌};
-ghost use Rattle.dejavu_cli.specs.Answers.{number_of, status_of};
+ghost use Rattle.dejavu_cli.specs.Answers.{done_as, number_of, status_of};
 
 use command_refusals::Refusal;
 
@@ -46,6 +46,17 @@ impl Status8 {
             Status8::Memory => 8,
             Status8::TooMuch => 9,
         }
+    }
+}
+
+/// The status of a command that is done, by whether a test differs.
+pub(crate) fn done_as(differs: bool) -> Status8
+    ensures { result ≡ done_as differs }
+{
+    if differs {
+        Status8::Differs
+    } else {
+        Status8::Done
     }
 }
 

@@ -1,16 +1,28 @@
 use Rattle.std.proofs.Common.{refl, subst}
 use Rattle.dejavu_cli.specs.Answers.{Says}
 use Rattle.command_words.specs.Words.{command_of}
-use Rattle.dejavu_cli.specs.declared.status.Status8.TheVariants as status
 use Rattle.command_words.specs.Words.{texts_of}
-use Rattle.dejavu_cli.proofs.CompleteLemmas.{complete_done, complete_refused, refused}
-use Rattle.dejavu_cli.proofs.TopLemmas.{headline_is, usage_is}
+use Rattle.dejavu_cli.proofs.CompleteLemmas.{done, complete_done, complete_refused, refused}
+use Rattle.dejavu_cli.proofs.TopLemmas.{done_is, differs_is, no_usage, usage_is}
 use Rattle.dejavu_cli.proofs.dejavu.Goals as goal
+
+pub returns-in-Ok-clause-answer : goal.returns-in-Ok-clause-answer
+returns-in-Ok-clause-answer g c =
+    let before = g.K.Sink.written c.args.out.now in
+    let now = g.K.Sink.written c.say.new.out in
+    let says = subst (λ s. Says before now (g.K.Sink.faults c.args.out.now) (g.K.Sink.faults c.say.new.out) s c.in-Ok.field-0.text.items c.say.result) c.done_as.ensures
+    (subst (λ text. Says before now (g.K.Sink.faults c.args.out.now) (g.K.Sink.faults c.say.new.out) c.done_as.result text c.say.result) c.deref.ensures.value c.say.ensures) in
+    done (texts_of c.args.words.now) (g.S.Shelf.files c.args.shelf.now) (g.S.Shelf.faults c.args.shelf.now) (g.S.Shelf.faults c.work.new.shelf)
+    before now (g.K.Sink.faults c.args.out.now) (g.K.Sink.faults c.say.new.out) c.say.result c.in-Ok.field-0.differs c.in-Ok.field-0.text.items c.in-Ok.ensures.answer says
 
 pub returns-in-Ok-clause-complete : goal.returns-in-Ok-clause-complete
 returns-in-Ok-clause-complete g c =
+    let before = g.K.Sink.written c.args.out.now in
+    let now = g.K.Sink.written c.say.new.out in
+    let says = subst (λ s. Says before now (g.K.Sink.faults c.args.out.now) (g.K.Sink.faults c.say.new.out) s c.in-Ok.field-0.text.items c.say.result) c.done_as.ensures
+    (subst (λ text. Says before now (g.K.Sink.faults c.args.out.now) (g.K.Sink.faults c.say.new.out) c.done_as.result text c.say.result) c.deref.ensures.value c.say.ensures) in
     complete_done (texts_of c.args.words.now) (g.S.Shelf.files c.args.shelf.now) (g.S.Shelf.faults c.args.shelf.now) (g.S.Shelf.faults c.work.new.shelf)
-    (g.K.Sink.written c.args.out.now) (g.K.Sink.written c.say.new.out) (g.K.Sink.faults c.args.out.now) (g.K.Sink.faults c.say.new.out) c.say.result c.deref.result.now c.say.ensures
+    before now (g.K.Sink.faults c.args.out.now) (g.K.Sink.faults c.say.new.out) c.say.result c.in-Ok.field-0.differs c.in-Ok.field-0.text.items c.in-Ok.ensures.answer says
 
 pub returns-in-Err-clause-complete : goal.returns-in-Err-clause-complete
 returns-in-Err-clause-complete g c =
@@ -24,10 +36,30 @@ returns-in-Err-clause-answer g c =
 
 pub returns-in-Ok-clause-headline : goal.returns-in-Ok-clause-headline
 returns-in-Ok-clause-headline g c =
-    let says = subst (λ text. Says (g.K.Sink.written c.args.out.now) (g.K.Sink.written c.say.new.out) (g.K.Sink.faults c.args.out.now) (g.K.Sink.faults c.say.new.out) status.Done text c.say.result)
-    c.deref.ensures.value c.say.ensures in
-    headline_is (texts_of c.args.words.now) (g.S.Shelf.files c.args.shelf.now) (g.K.Sink.written c.args.out.now) (g.K.Sink.written c.say.new.out)
-    (g.K.Sink.faults c.args.out.now) (g.K.Sink.faults c.say.new.out) c.say.result c.in-Ok.text.items (command_of (texts_of c.args.words.now)) refl c.in-Ok.ensures.answer says
+    let before = g.K.Sink.written c.args.out.now in
+    let now = g.K.Sink.written c.say.new.out in
+    let says = subst (λ s. Says before now (g.K.Sink.faults c.args.out.now) (g.K.Sink.faults c.say.new.out) s c.in-Ok.field-0.text.items c.say.result) c.done_as.ensures
+    (subst (λ text. Says before now (g.K.Sink.faults c.args.out.now) (g.K.Sink.faults c.say.new.out) c.done_as.result text c.say.result) c.deref.ensures.value c.say.ensures) in
+    done_is (texts_of c.args.words.now) (g.S.Shelf.files c.args.shelf.now) before now (g.K.Sink.faults c.args.out.now) (g.K.Sink.faults c.say.new.out) c.say.result
+    c.in-Ok.field-0.differs c.in-Ok.field-0.text.items (command_of (texts_of c.args.words.now)) refl c.in-Ok.ensures.answer says
+
+pub returns-in-Ok-clause-differs : goal.returns-in-Ok-clause-differs
+returns-in-Ok-clause-differs g c =
+    let before = g.K.Sink.written c.args.out.now in
+    let now = g.K.Sink.written c.say.new.out in
+    let says = subst (λ s. Says before now (g.K.Sink.faults c.args.out.now) (g.K.Sink.faults c.say.new.out) s c.in-Ok.field-0.text.items c.say.result) c.done_as.ensures
+    (subst (λ text. Says before now (g.K.Sink.faults c.args.out.now) (g.K.Sink.faults c.say.new.out) c.done_as.result text c.say.result) c.deref.ensures.value c.say.ensures) in
+    differs_is (texts_of c.args.words.now) (g.S.Shelf.files c.args.shelf.now) before now (g.K.Sink.faults c.args.out.now) (g.K.Sink.faults c.say.new.out) c.say.result
+    c.in-Ok.field-0.differs c.in-Ok.field-0.text.items (command_of (texts_of c.args.words.now)) refl c.in-Ok.ensures.answer says
+
+pub returns-in-Ok-clause-usage : goal.returns-in-Ok-clause-usage
+returns-in-Ok-clause-usage g c =
+    let before = g.K.Sink.written c.args.out.now in
+    let now = g.K.Sink.written c.say.new.out in
+    let says = subst (λ s. Says before now (g.K.Sink.faults c.args.out.now) (g.K.Sink.faults c.say.new.out) s c.in-Ok.field-0.text.items c.say.result) c.done_as.ensures
+    (subst (λ text. Says before now (g.K.Sink.faults c.args.out.now) (g.K.Sink.faults c.say.new.out) c.done_as.result text c.say.result) c.deref.ensures.value c.say.ensures) in
+    no_usage (texts_of c.args.words.now) (g.S.Shelf.files c.args.shelf.now) before now (g.K.Sink.faults c.args.out.now) (g.K.Sink.faults c.say.new.out) c.say.result
+    c.in-Ok.field-0.differs c.in-Ok.field-0.text.items says
 
 pub returns-in-Err-clause-usage : goal.returns-in-Err-clause-usage
 returns-in-Err-clause-usage g c =

@@ -1,4 +1,3 @@
-use Rattle.std.proofs.Common.{map}
 use Rattle.csub_semantics.specs.Syntax.{program_tree}
 use Rattle.csub_semantics.specs.Flows.{flow_of}
 use Rattle.dejavu_cli.proofs.RunLemmas.{have_rows, history_within}

@@ -1,22 +1,12 @@
-use Rattle.std.proofs.Common.{sym, ◌∙◌}
+use Rattle.std.proofs.Common.{◌≡◌, List, length, sym, subst}
 use Rattle.csub_semantics.specs.Syntax.{program_tree}
-use Rattle.csub_semantics.specs.Flows.{flow_of}
-use Rattle.dejavu_cli.proofs.Safety.{selection_is}
+use Rattle.test_select.specs.declared.choice.Choice.{Choice}
+use Rattle.dejavu_cli.specs.Select.{IsChoice}
+use Rattle.dejavu_cli.proofs.ChoiceLemmas.{as_many_choices}
 use Rattle.dejavu_cli.proofs.select.selection_text.Goals as goal
 
-pub choices_text-requires : goal.choices_text-requires
-choices_text-requires c =
-    let P = program_tree c.args.old.now in
-    let row = c.in-Ok-dangerous_edges.ensures P c.in-Ok.ensures in
-    let read = c.in-Ok-read_entries.ensures P (c.edges.ensures.listed P c.in-Ok.ensures) in
-    row.edges ∙ sym read.file.edges
-
-pub returns-in-Ok-choices_text : goal.returns-in-Ok-choices_text
-returns-in-Ok-choices_text c =
-    let P = program_tree c.args.old.now in
-    let P' = program_tree c.args.new.now in
-    let valid = c.in-Ok.ensures.valid in
-    let counted = c.edges.ensures.listed P c.in-Ok.ensures in
-    selection_is P P' c.args.source.now c.args.bytes.now c.in-Ok-read_entries.history c.in-Ok-choices_text.text.items
-    (c.lockstep.ensures.runs P P' valid c.functions-valid.ensures.valid) (c.bounds.ensures (flow_of P)) (c.edges-2.ensures P)
-    valid c.requires.only (c.in-Ok-read_entries.ensures P counted) (c.in-Ok-choices_text.ensures P P' (c.in-Ok-dangerous_edges.ensures P c.in-Ok.ensures))
+pub select_text-requires : goal.select_text-requires
+select_text-requires c =
+    subst (λ (choices : List Choice). length choices ≡ length c.in-Ok-choose.chosen.history.entries) (sym c.deref.ensures.value)
+    (as_many_choices (IsChoice (program_tree c.args.versions.now.old) (program_tree c.args.versions.now.new)) c.in-Ok-choose.chosen.history.entries
+    c.in-Ok-choose.chosen.choices.items c.in-Ok-choose.ensures.chosen.chosen)

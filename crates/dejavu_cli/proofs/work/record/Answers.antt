@@ -1,4 +1,4 @@
-use Rattle.std.proofs.Common.{map, Some, sym, subst, ◌∙◌}
+use Rattle.std.proofs.Common.{Some, false, sym, subst, ◌∙◌}
 use Rattle.dv_outside.specs.Outside.{IsFetched}
 use Rattle.csub_semantics.specs.Syntax.{program_tree}
 use Rattle.command_words.specs.Words.{record_files}
@@ -17,7 +17,7 @@ pub returns-in_err-suite-clause-answer : goal.returns-in_err-suite-clause-answer
 returns-in_err-suite-clause-answer g c =
     let fetched = subst (IsFetched (g.S.Shelf.files c.args.shelf.now) c.args.source_name.now 1048577) (sym c.deref.ensures.value) c.in_ok-source.ensures.bytes in
     let files = record_files c.args.source_name.now c.args.suite_name.now c.args.runner.workers in
-    passed_on c.from_residual-in_err-suite.result (λ text. HasTextOf (Some files) (g.S.Shelf.files c.args.shelf.now) text.items)
+    passed_on c.from_residual-in_err-suite.result (λ text. HasTextOf (Some files) (g.S.Shelf.files c.args.shelf.now) false text.items)
     (HasCauseOf files (g.S.Shelf.files c.args.shelf.now) (g.S.Shelf.faults c.args.shelf.now) (g.S.Shelf.faults c.fetch_file-2.new.shelf))
     c.in_err-suite.field-0.0 c.from_residual-in_err-suite.ensures.1
     (no_suite c.args.source_name.now c.args.suite_name.now c.args.runner.workers (g.S.Shelf.files c.args.shelf.now) (g.S.Shelf.faults c.args.shelf.now) (g.S.Shelf.faults c.fetch_file-2.new.shelf)
