@@ -1,5 +1,5 @@
 //! Any number of workers records the same history, and each test passes the gate once.
-use crate::files::{COUNTED, answer_about, owned_words, shelf_of};
+use crate::files::{BRANCHING, COUNTED, answer_about, owned_words, shelf_of};
 use dejavu_cli::{Status8, dejavu};
 use dv_outside::{Gate, MemorySink};
 use sample_sources::WORD_COUNTER;
@@ -12,10 +12,11 @@ use std::thread::Threads;
 fn history<R: Threads + Sync>(
     rt: &R,
     alloc: Global,
+    source: &str,
     suite: &str,
     workers: &str,
 ) -> Result<Vec<u8>, Fail> {
-    let files = [("source", WORD_COUNTER), ("suite", suite)];
+    let files = [("source", source), ("suite", suite)];
     let words = ["record", "--workers", workers, "source", "suite"];
     match answer_about(rt, alloc, &files, &words)? {
         (Status8::Done, bytes) => Ok(bytes),
@@ -26,10 +27,15 @@ fn history<R: Threads + Sync>(
 #[test]
 fn any_number_of_workers_records_the_same(rt: HostRuntime) -> Result<(), Fail> {
     let alloc = rt.alloc();
-    for suite in [COUNTED, "dejavu suite 1\n"] {
-        let one = history(&rt, alloc, suite, "1")?;
+    let rows = [
+        (WORD_COUNTER, COUNTED),
+        (WORD_COUNTER, "dejavu suite 1\n"),
+        (BRANCHING, "dejavu suite 1\ntest A 100 41\ntest B 100 42\n"),
+    ];
+    for (source, suite) in rows {
+        let one = history(&rt, alloc, source, suite, "1")?;
         for workers in ["2", "3", "64"] {
-            let more = history(&rt, alloc, suite, workers)?;
+            let more = history(&rt, alloc, source, suite, workers)?;
             assert!(rt; one.as_slice() == more.as_slice(), "{workers} workers");
         }
     }
