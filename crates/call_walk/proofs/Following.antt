@@ -1,5 +1,5 @@
 -- What has been followed, as facts are added.
-use Rattle.std.proofs.Common.{◌≡◌, ℕ, ◌+◌, ◌<◌, ◌≤◌, List, [], ◌∷◌, ◌++◌, length, get_or, set, replicate, Some, sym, ap, ◌∙◌, subst, subst₂, ◌⊎◌, inl, inr, arith}
+use Rattle.std.proofs.Common.{◌≡◌, ℕ, ◌+◌, ◌<◌, ◌≤◌, List, [], ◌∷◌, ◌++◌, length, take, get_or, set, replicate, Some, sym, ap, ◌∙◌, subst, subst₂, ◌⊎◌, inl, inr, arith}
 use Rattle.std.specs.Prelude.{slice_get}
 use Rattle.std.proofs.lemmas.Bool.{cases_lt}
 use Rattle.std.proofs.lemmas.List.{length-replicate}
@@ -16,11 +16,12 @@ use Rattle.call_walk.specs.declared.fact.Fact.{Fact}
 use Rattle.call_walk.specs.declared.ask.Callee.{Callee}
 use Rattle.call_walk.specs.declared.pairs.Pairs.{Pairs}
 use Rattle.call_walk.specs.Walks.{IsNamed}
-use Rattle.call_walk.specs.Moments.{Lists, AreAt, HasPair, IsHeld, IsMoment, Extends, WaitsFor, AreWaiting, IsCallee, IsCalledAt, IsPassed, HoldsNext, PassesOver, LeadsOn, ComesBackAt, IsDone, AreDone, IsFollowed, AreResumed}
+use Rattle.call_walk.specs.Moments.{Lists, AreWays, AreAt, HasPair, IsHeld, IsMoment, Extends, WaitsFor, AreWaiting, IsCallee, IsCalledAt, IsPassed, HoldsNext, PassesOver, LeadsOn, ComesBackAt, IsDone, AreDone, IsFollowed, AreResumed}
+use Rattle.call_walk.proofs.Lists.{in_take}
 use Rattle.call_walk.proofs.ReachedClosed.{one_callee, calls_or_not}
 use Rattle.call_walk.proofs.Reaching.{every_reached}
-use Rattle.call_walk.proofs.Indexed.{get_extends, get_back, extends_more, extends_long, lists_long, lists_cases, lists_none}
-use Rattle.call_walk.proofs.Numbered.{site_one}
+use Rattle.call_walk.proofs.Indexed.{in_row, get_extends, get_back, extends_more, extends_long, lists_long, lists_cases, lists_none}
+use Rattle.call_walk.proofs.Numbered.{site_one, site_below, edge_of}
 use Rattle.call_walk.proofs.Naming.{at_named, held_extends, fact_held, held_same}
 
 -- more facts hold as much
@@ -49,6 +50,14 @@ waiting_push g g' facts waiting waiting' n at w within stands is own = record {
     sound_case : (P P' : ProgramTree) → IsGraphOf g P → IsGraphOf g' P' → (m j : ℕ) → Lists waiting m j ⊎ ((m ≡ n) × (j ≡ at)) → WaitsFor P P' facts m j
     sound_case P P' ok ok' m j (inl h) = w.sound P P' ok ok' m j h
     sound_case P P' ok ok' m j (inr h) = subst₂ (λ a b. WaitsFor P P' facts a b) (sym h.0) (sym h.1) (own P P' ok ok')
+
+-- calls wait no longer
+pub waiting_fewer : (g g' : Tables) (facts : List Fact) (waiting waiting' : List (List ℕ)) → AreWaiting g g' facts waiting → length waiting' ≡ length waiting → ((n j : ℕ) → Lists waiting' n j → Lists waiting n j) → AreWaiting g g' facts waiting'
+waiting_fewer g g' facts waiting waiting' w long fewer = record {
+  points = long ∙ w.points;
+  below = λ n j h. w.below n j (fewer n j h);
+  sound = λ P P' ok ok' n j h. w.sound P P' ok ok' n j (fewer n j h);
+}
 
 -- a fact at a moment
 module _ (g g' : Tables) (pairs : Pairs) (ok : IsMoment g g' pairs) (P P' : ProgramTree) (graph : IsGraphOf g P) (graph' : IsGraphOf g' P') (i : ℕ) (c : Fact) (stands : slice_get pairs.facts.items i ≡ Some c) where
@@ -104,15 +113,15 @@ held_pair P P' facts n n' f p p' valid valid' at h = record {
 }
 
 -- a call that was entered
-pub entered : (P P' : ProgramTree) → IsValid P → (before after : List Fact) (waiting : List (List ℕ)) (at : ℕ) (c : Fact) (k : Callee) → ((f : Name) (p p' : PointTree) → AreAt P P' c.old c.new f p p' → IsCallee P P' f p k) → HasPair before k.entry.old k.entry.new → Extends before after → Lists waiting k.exit.old at → IsPassed P P' after c → IsFollowed P P' after waiting at c
-entered P P' valid before after waiting at c k called has grows listed passed = record {
+pub entered : (P P' : ProgramTree) → IsValid P → (before after : List Fact) (waiting : List (List ℕ)) (at : ℕ) (c : Fact) (k : Callee) → ((f : Name) (p p' : PointTree) → AreAt P P' c.old c.new f p p' → IsCallee P P' f p k) → HasPair before k.entry.old k.entry.new → Extends before after → Lists waiting k.exit.old at ⊎ HoldsNext P P' after c next → IsPassed P P' after at c → IsFollowed P P' after waiting at c
+entered P P' valid before after waiting at c k called has grows own passed = record {
   leads = λ f p p' is. let a = called f p p' is in record {
     steps = λ x q q' plain both. absurd (calls_or_not (flow_of P) f p a.name plain a.calls);
     enters = λ g calls. subst (λ h. IsHeld P P' after h entry entry) (one_callee (flow_of P) f p a.name g a.calls calls)
         (held_extends P P' grows a.name entry entry (pair_held P P' before k.entry.old k.entry.new a.name entry entry a.numbers.entries has));
     waits = λ n g calls exits.
         let same : site_at P k.exit.old ≡ Some (site g exit) = a.numbers.exits.old ∙ ap (λ h. Some (site h exit)) (one_callee (flow_of P) f p a.name g a.calls calls) in
-        subst (λ m. Lists waiting m at) (site_one P valid k.exit.old n (site g exit) same exits) listed;
+        subst (λ m. Lists waiting m at ⊎ HoldsNext P P' after c next) (site_one P valid k.exit.old n (site g exit) same exits) own;
   };
   overs = passed;
 }
@@ -125,11 +134,11 @@ stepped P P' after waiting at c plain held = record {
     enters = λ g calls. absurd (calls_or_not (flow_of P) f p g none calls);
     waits = λ n g calls exits. absurd (calls_or_not (flow_of P) f p g none calls);
   };
-  overs = λ m d at' back. absurd (calls_or_not (flow_of P) back.function back.point back.callee (plain back.function back.point back.other back.at) back.calls);
+  overs = λ m d l at' back. absurd (calls_or_not (flow_of P) back.function back.point back.callee (plain back.function back.point back.other back.at) back.calls);
 }
 
 -- one more fact has been followed
-module _ (P P' : ProgramTree) (before mid after : List Fact) (waiting waiting' : List (List ℕ)) (at : ℕ) (from : Fact) (first : Extends before mid) (second : Extends mid after) (within : at < length before) (stands : slice_get before at ≡ Some from) (kept : (n j : ℕ) → Lists waiting n j → Lists waiting' n j) (done : IsDone P P' before waiting at) (own : IsFollowed P P' mid waiting' at from) (resumed : AreResumed P P' after waiting' from) where
+module _ (P P' : ProgramTree) (before mid after : List Fact) (waiting waiting' waiting'' : List (List ℕ)) (at : ℕ) (from : Fact) (first : Extends before mid) (second : Extends mid after) (within : at < length before) (stands : slice_get before at ≡ Some from) (kept : (n j : ℕ) → Lists waiting n j → Lists waiting' n j) (done : IsDone P P' before waiting at) (own : IsFollowed P P' mid waiting' at from) (resumed : AreResumed P P' after waiting' waiting'' from) where
   both : Extends before after
   both = extends_more first second
 
@@ -141,38 +150,63 @@ module _ (P P' : ProgramTree) (before mid after : List Fact) (waiting waiting' :
   earlier : (j : ℕ) (c : Fact) → j < at → slice_get after j ≡ Some c → slice_get before j ≡ Some c
   earlier j c l e = get_back both j c (omega arith) e
 
-  pub done_more : IsDone P P' after waiting' (at + 1)
+  pub done_more : IsDone P P' after waiting'' (at + 1)
   done_more = record {
     leads = λ j c f p p' l e is. leads_case j c f p p' l e is (cases_lt j at);
-    overs = λ j m c d lj lm ej em back. overs_case j m c d lj lm ej em back (cases_lt j at) (cases_lt m at);
+    overs = λ j m c d lj lm ej em back. overs_case j m c d lj lm ej em back (cases_lt m at) (cases_lt j at);
   }
     where
-      leads_case : (j : ℕ) (c : Fact) (f : Name) (p p' : PointTree) → j < at + 1 → slice_get after j ≡ Some c → AreAt P P' c.old c.new f p p' → (j < at) ⊎ (at ≤ j) → LeadsOn P P' after waiting' j f p p'
+      -- a call that waited still waits or is passed over
+      waits_on : (k j : ℕ) (c : Fact) (facts : List Fact) → Extends facts after → slice_get after j ≡ Some c → Lists waiting' k j ⊎ HoldsNext P P' facts c next → Lists waiting'' k j ⊎ HoldsNext P P' after c next
+      waits_on k j c facts more e (inl h) = resumed.left k j c h e
+      waits_on k j c facts more e (inr h) = inr (holds_extends P P' c next more h)
+
+      kept_on : (k j : ℕ) (c : Fact) (facts : List Fact) → Lists waiting k j ⊎ HoldsNext P P' facts c next → Lists waiting' k j ⊎ HoldsNext P P' facts c next
+      kept_on k j c facts (inl h) = inl (kept k j h)
+      kept_on k j c facts (inr h) = inr h
+
+      leads_case : (j : ℕ) (c : Fact) (f : Name) (p p' : PointTree) → j < at + 1 → slice_get after j ≡ Some c → AreAt P P' c.old c.new f p p' → (j < at) ⊎ (at ≤ j) → LeadsOn P P' after waiting'' j c f p p'
       leads_case j c f p p' l e is (inl h) =
           let then = done.leads j c f p p' h (earlier j c h e) is in record {
             steps = λ x q q' plain t. held_extends P P' both f q q' (then.steps x q q' plain t);
             enters = λ g calls. held_extends P P' both g entry entry (then.enters g calls);
-            waits = λ k g calls exits. kept k j (then.waits k g calls exits);
+            waits = λ k g calls exits. waits_on k j c before both e (kept_on k j c before (then.waits k g calls exits));
           }
       leads_case j c f p p' l e is (inr h) =
-          let now = own.leads f p p' (subst (λ (d : Fact). AreAt P P' d.old d.new f p p') (sym (is_from j c h l e)) is) in
+          let one = is_from j c h l e in
+          let now = own.leads f p p' (subst (λ (d : Fact). AreAt P P' d.old d.new f p p') (sym one) is) in
           let same : at ≡ j = omega arith in record {
             steps = λ x q q' plain t. held_extends P P' second f q q' (now.steps x q q' plain t);
             enters = λ g calls. held_extends P P' second g entry entry (now.enters g calls);
-            waits = λ k g calls exits. subst (λ n. Lists waiting' k n) same (now.waits k g calls exits);
+            waits = λ k g calls exits. waits_on k j c mid second e (subst₂ (λ n (d : Fact). Lists waiting' k n ⊎ HoldsNext P P' mid d next) same one (now.waits k g calls exits));
           }
 
-      overs_case : (j m : ℕ) (c d : Fact) → j < at + 1 → m < at + 1 → slice_get after j ≡ Some c → slice_get after m ≡ Some d → ComesBackAt P P' c d → (j < at) ⊎ (at ≤ j) → (m < at) ⊎ (at ≤ m) → HoldsNext P P' after c next
-      overs_case j m c d lj lm ej em back (inl hj) (inl hm) = holds_extends P P' c next both (done.overs j m c d hj hm (earlier j c hj ej) (earlier m d hm em) back)
-      overs_case j m c d lj lm ej em back (inl hj) (inr hm) =
-          let exits = subst (λ (b : Fact). AreAt P P' b.old b.new back.callee exit exit) (sym (is_from m d hm lm em)) back.exits in
-          let then = done.leads j c back.function back.point back.other hj (earlier j c hj ej) back.at in
-          resumed back.callee exits j c (kept from.old j (then.waits from.old back.callee back.calls exits.old)) ej
-      overs_case j m c d lj lm ej em back (inr hj) hm =
+      overs_case : (j m : ℕ) (c d : Fact) → j < at + 1 → m < at + 1 → slice_get after j ≡ Some c → slice_get after m ≡ Some d → ComesBackAt P P' c d → (m < at) ⊎ (at ≤ m) → (j < at) ⊎ (at ≤ j) → HoldsNext P P' after c next
+      overs_case j m c d lj lm ej em back (inl hm) (inl hj) = holds_extends P P' c next both (done.overs j m c d hj hm (earlier j c hj ej) (earlier m d hm em) back)
+      overs_case j m c d lj lm ej em back (inl hm) (inr hj) =
           let one = is_from j c hj lj ej in
           let there = get_extends first m d (get_back both m d (omega arith) em) in
           holds_extends P P' c next second
-          (subst (λ (b : Fact). HoldsNext P P' mid b next) one (own.overs m d there (subst (λ (b : Fact). ComesBackAt P P' b d) (sym one) back)))
+          (subst (λ (b : Fact). HoldsNext P P' mid b next) one (own.overs m d hm there (subst (λ (b : Fact). ComesBackAt P P' b d) (sym one) back)))
+      overs_case j m c d lj lm ej em back (inr hm) hj = over_or_none ((leads_case j c back.function back.point back.other lj ej back.at hj).waits from.old back.callee back.calls exits.old)
+        where
+          exits : AreAt P P' from.old from.new back.callee exit exit
+          exits = subst (λ (b : Fact). AreAt P P' b.old b.new back.callee exit exit) (sym (is_from m d hm lm em)) back.exits
+
+          over_or_none : Lists waiting'' from.old j ⊎ HoldsNext P P' after c next → HoldsNext P P' after c next
+          over_or_none (inl h) = absurd (resumed.none back.callee j exits h)
+          over_or_none (inr h) = h
+
+-- where no edge leaves the old point of a fact, nothing follows
+pub no_way : (g : Tables) (P P' : ProgramTree) → IsGraphOf g P → (ways : List (List ℕ)) → AreWays g ways → (facts : List Fact) (c : Fact) (row : List ℕ) → slice_get ways c.old ≡ Some row → row ≡ [] → (x : ExitTree) → HoldsNext P P' facts c x
+no_way g P P' ok ways are facts c row stands none x f p p' q q' at both =
+    let e = edge_of P ok.valid c.old f p q x at.old both.old in
+    let listed = are.whole P ok c.old e.0 (site_below g P c.old (site f p) ok at.old) (record { edge = record { function = f; from = p; exit = x }; numbered = e.1; from = at.old }) in
+    let k = in_row ways c.old e.0 row stands listed in
+    absurd (nothing k.0 e.0 (subst (λ r. slice_get r k.0 ≡ Some e.0) none k.1))
+  where
+    nothing : (i n : ℕ) → slice_get [] i ≡ Some n → ⊥
+    nothing i n h = cc
 
 -- where all facts have been followed, every reached pair is held
 pub done_all : (P P' : ProgramTree) (facts : List Fact) (waiting : List (List ℕ)) (n : ℕ) → length facts ≤ n → IsHeld P P' facts start_name entry entry → IsDone P P' facts waiting n → (f : Name) (p p' : PointTree) → Reached (flow_of P) (flow_of P') f p p' → IsHeld P P' facts f p p'
@@ -186,18 +220,18 @@ done_all P P' facts waiting n long starts done = every_reached (flow_of P) (flow
     below : (i : ℕ) (c : Fact) → slice_get facts i ≡ Some c → i < n
     below i c e = let w = slice_get_within facts i c e in omega (arith, w)
 
-    led : (f : Name) (p p' : PointTree) (h : IsHeld P P' facts f p p') → LeadsOn P P' facts waiting h.place f p p'
+    led : (f : Name) (p p' : PointTree) (h : IsHeld P P' facts f p p') → LeadsOn P P' facts waiting h.place h.fact f p p'
     led f p p' h = done.leads h.place h.fact f p p' (below h.place h.fact h.stands) h.stands h.at
 
-pub passed_by : (P P' : ProgramTree) (facts : List Fact) (c : Fact) → HoldsNext P P' facts c next → IsPassed P P' facts c
-passed_by P P' facts c h m d at back = h
+pub passed_by : (P P' : ProgramTree) (facts : List Fact) (n : ℕ) (c : Fact) → HoldsNext P P' facts c next → IsPassed P P' facts n c
+passed_by P P' facts n c h m d l at back = h
 
-pub none_back : (P P' : ProgramTree) → IsValid P → IsValid P' → (facts : List Fact) (c : Fact) (k : Callee) → ((f : Name) (p p' : PointTree) → AreAt P P' c.old c.new f p p' → IsCallee P P' f p k) → (HasPair facts k.exit.old k.exit.new → ⊥) → IsPassed P P' facts c
-none_back P P' valid valid' facts c k called none m d at back =
+pub none_back : (P P' : ProgramTree) → IsValid P → IsValid P' → (facts : List Fact) (n : ℕ) (c : Fact) (k : Callee) → ((f : Name) (p p' : PointTree) → AreAt P P' c.old c.new f p p' → IsCallee P P' f p k) → (HasPair (take n facts) k.exit.old k.exit.new → ⊥) → IsPassed P P' facts n c
+none_back P P' valid valid' facts n c k called none m d l at back =
     let a = called back.function back.point back.other back.at in
     let one = one_callee (flow_of P) back.function back.point a.name back.callee a.calls back.calls in
-    let held : IsHeld P P' facts a.name exit exit = subst (λ h. IsHeld P P' facts h exit exit) (sym one) (fact_held P P' facts m d back.callee exit exit at back.exits) in
-    absurd (none (held_pair P P' facts k.exit.old k.exit.new a.name exit exit valid valid' a.numbers.exits held))
+    let held : IsHeld P P' (take n facts) a.name exit exit = subst (λ h. IsHeld P P' (take n facts) h exit exit) (sym one) (fact_held P P' (take n facts) m d back.callee exit exit (in_take n facts m d l at) back.exits) in
+    absurd (none (held_pair P P' (take n facts) k.exit.old k.exit.new a.name exit exit valid valid' a.numbers.exits held))
 
 -- no call waits, and nothing has been followed
 pub waiting_none : (g g' : Tables) (facts : List Fact) (waiting : List (List ℕ)) (c : ℕ) → waiting ≡ replicate c [] → c ≡ point_count g → AreWaiting g g' facts waiting

@@ -105,6 +105,32 @@ module _ (rows rows' : List (List ℕ)) (at value : ℕ) (within : at < length r
           last e (get_push (get_or rows at []) value h.place x (subst (λ l. slice_get l h.place ≡ Some x) row h.is))
       pick (inr o) = inl (record { row = h.row; stands = sym (there n o) ∙ h.stands; place = h.place; is = h.is })
 
+-- an emptied list
+module _ (rows rows' : List (List ℕ)) (at : ℕ) (within : at < length rows) (is : rows' ≡ set rows at []) where
+  pub cleared_long : length rows' ≡ length rows
+  cleared_long = ap length is ∙ length-set rows at []
+
+  emptied : slice_get rows' at ≡ Some []
+  emptied = ap (λ l. slice_get l at) is ∙ get_set_same rows at [] within
+
+  others : (n : ℕ) → (n ≡ at → ⊥) → slice_get rows' n ≡ slice_get rows n
+  others n other = ap (λ l. slice_get l n) is ∙ get_set_other rows at n [] other
+
+  pub cleared_none : (x : ℕ) → Lists rows' at x → ⊥
+  cleared_none x h =
+      let none : h.row ≡ [] = same_Some _ _ (sym h.stands ∙ emptied) in
+      let there : slice_get [] h.place ≡ Some x = subst (λ l. slice_get l h.place ≡ Some x) none h.is in cc
+
+  pub cleared_kept : (n x : ℕ) → (n ≡ at → ⊥) → Lists rows n x → Lists rows' n x
+  cleared_kept n x other h = record { row = h.row; stands = others n other ∙ h.stands; place = h.place; is = h.is }
+
+  pub cleared_fewer : (n x : ℕ) → Lists rows' n x → Lists rows n x
+  cleared_fewer n x h = pick (cases_eq n at)
+    where
+      pick : (n ≡ at) ⊎ (n ≡ at → ⊥) → Lists rows n x
+      pick (inl e) = absurd (cleared_none x (subst (λ m. Lists rows' m x) e h))
+      pick (inr o) = record { row = h.row; stands = sym (others n o) ∙ h.stands; place = h.place; is = h.is }
+
 -- one list holds all numbers of its index
 pub in_row : (rows : List (List ℕ)) (n x : ℕ) (row : List ℕ) → slice_get rows n ≡ Some row → Lists rows n x → (k : ℕ) × (slice_get row k ≡ Some x)
 in_row rows n x row e h =

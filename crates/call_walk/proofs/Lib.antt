@@ -17,5 +17,6 @@ mod Asked
 mod Naming
 mod Explaining
 mod Following
+mod Counting
 mod CallWays
 mod Marking

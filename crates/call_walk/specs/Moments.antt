@@ -1,6 +1,6 @@
 -- A walk at a moment, for the functions inside: the facts that are held so far, the index of them by old points, the
 -- calls that wait, and what has been followed.
-use Rattle.std.specs.Prelude.{ℕ, ◌≡◌, ◌<◌, ◌^◌, ◌++◌, ◌⊎◌, List, length, slice_get, take, Some, Bool, IsTrue}
+use Rattle.std.specs.Prelude.{ℕ, ◌≡◌, ◌<◌, ◌≤◌, ◌^◌, ◌++◌, ◌⊎◌, List, [], length, slice_get, slice_index_or, sum_by, take, Some, Bool, IsTrue}
 use Rattle.std.specs.Option.{option_map}
 use Rattle.csub_objects.specs.Types.{Name}
 use Rattle.csub_semantics.specs.Points.{PointTree, entry, exit, ExitTree, next}
@@ -24,9 +24,17 @@ pub record Lists (rows : List (List ℕ)) (n x : ℕ) : Type 0 where
   pub place : ℕ
   pub is : slice_get row place ≡ Some x
 
+-- how many numbers stand in the list at n, and in all lists
+abbrev pub row_count : List (List ℕ) → ℕ → ℕ
+row_count rows n = length (slice_index_or rows n [])
+
+abbrev pub count_all : List (List ℕ) → ℕ
+count_all rows = sum_by (λ row. length row) rows
+
 -- by each point, the numbers of the edges that leave it
 pub record AreWays (g : Tables) (ways : List (List ℕ)) : Type 0 where
   pub points : length ways ≡ point_count g
+  pub count : count_all ways ≤ edge_count g
   pub below : (n e : ℕ) → Lists ways n e → e < edge_count g
   pub sound : (P : ProgramTree) → IsGraphOf g P → (n e : ℕ) → Lists ways n e → LeavesFrom P e n
   pub whole : (P : ProgramTree) → IsGraphOf g P → (n e : ℕ) → n < point_count g → LeavesFrom P e n → Lists ways n e
@@ -75,6 +83,10 @@ pub record IsMoment (g g' : Tables) (pairs : Pairs) : Type 0 where
   pub points : length pairs.partners ≡ point_count g
   pub within : (i : ℕ) (c : Fact) → slice_get pairs.facts.items i ≡ Some c → IsWithin g g' c
   pub explained : AreExplained g g' pairs.facts.items
+
+-- how many questions facts allow: one for each edge that leaves the old point of a fact
+abbrev pub allowed : List (List ℕ) → List Fact → ℕ
+allowed ways facts = sum_by (λ c. row_count ways c.old) facts
 
 -- more facts stand behind the old ones
 pub record Extends (before after : List Fact) : Type 0 where
@@ -160,19 +172,19 @@ pub record PassesOver (P P' : ProgramTree) (facts : List Fact) (j m : ℕ) : Typ
   pub stands' : slice_get facts m ≡ Some back
   pub comes : ComesBackAt P P' call back
 
--- what follows by steps and by its call from a fact at place j, whose numbers are those of p and p' in f
-pub record LeadsOn (P P' : ProgramTree) (facts : List Fact) (waiting : List (List ℕ)) (j : ℕ) (f : Name) (p p' : PointTree) : Type 0 where
+-- what follows by steps and by its call from the fact c at place j, whose numbers are those of p and p' in f
+pub record LeadsOn (P P' : ProgramTree) (facts : List Fact) (waiting : List (List ℕ)) (j : ℕ) (c : Fact) (f : Name) (p p' : PointTree) : Type 0 where
   -- the successors along each way out are held, where nothing is called
   pub steps : (x : ExitTree) (q q' : PointTree) → IsNoCallAt (flow_of P) f p
       → Together (flow_of P) (flow_of P') f p p' x q q' → IsHeld P P' facts f q q'
-  -- the entries of a callee are held, and the fact waits for its exits
+  -- the entries of a callee are held, and the fact waits for its exits, unless it has been passed over
   pub enters : (g : Name) → CallsAt (flow_of P) f p g → IsHeld P P' facts g entry entry
-  pub waits : (k : ℕ) (g : Name) → CallsAt (flow_of P) f p g → site_at P k ≡ Some (site g exit) → Lists waiting k j
+  pub waits : (k : ℕ) (g : Name) → CallsAt (flow_of P) f p g → site_at P k ≡ Some (site g exit) → Lists waiting k j ⊎ HoldsNext P P' facts c next
 
 -- what follows from the first n facts is held
 pub record IsDone (P P' : ProgramTree) (facts : List Fact) (waiting : List (List ℕ)) (n : ℕ) : Type 0 where
   pub leads : (j : ℕ) (c : Fact) (f : Name) (p p' : PointTree) → j < n → slice_get facts j ≡ Some c
-      → AreAt P P' c.old c.new f p p' → LeadsOn P P' facts waiting j f p p'
+      → AreAt P P' c.old c.new f p p' → LeadsOn P P' facts waiting j c f p p'
   pub overs : (j m : ℕ) (c d : Fact) → j < n → m < n → slice_get facts j ≡ Some c → slice_get facts m ≡ Some d
       → ComesBackAt P P' c d → HoldsNext P P' facts c next
 
@@ -186,20 +198,19 @@ IsCalledAt g g' facts at k =
     (P P' : ProgramTree) (f : Name) (p p' : PointTree) (c : Fact) → IsGraphOf g P → IsGraphOf g' P'
     → slice_get facts at ≡ Some c → AreAt P P' c.old c.new f p p' → IsCallee P P' f p k
 
--- where the exits of the callee of a fact are held, the call is passed over
-abbrev pub IsPassed : ProgramTree → ProgramTree → List Fact → Fact → Type 0
-IsPassed P P' facts c = (m : ℕ) (d : Fact) → slice_get facts m ≡ Some d → ComesBackAt P P' c d → HoldsNext P P' facts c next
+-- where the exits of the callee of a fact stand among the first n facts, the call has been passed over
+abbrev pub IsPassed : ProgramTree → ProgramTree → List Fact → ℕ → Fact → Type 0
+IsPassed P P' facts n c = (m : ℕ) (d : Fact) → m < n → slice_get facts m ≡ Some d → ComesBackAt P P' c d → HoldsNext P P' facts c next
 
--- what follows from one fact by steps, by its call, and by the exits of its callee that are held, is held afterwards
+-- what follows from one fact by steps, by its call, and by the exits of its callee that stand before it, is held afterwards
 pub record IsFollowed (P P' : ProgramTree) (facts : List Fact) (waiting : List (List ℕ)) (at : ℕ) (c : Fact) : Type 0 where
-  pub leads : (f : Name) (p p' : PointTree) → AreAt P P' c.old c.new f p p' → LeadsOn P P' facts waiting at f p p'
-  pub overs : IsPassed P P' facts c
+  pub leads : (f : Name) (p p' : PointTree) → AreAt P P' c.old c.new f p p' → LeadsOn P P' facts waiting at c f p p'
+  pub overs : IsPassed P P' facts at c
 
--- the calls that wait for a fact of exits have been passed over
-abbrev pub AreResumed : ProgramTree → ProgramTree → List Fact → List (List ℕ) → Fact → Type 0
-AreResumed P P' facts waiting back =
-    (g : Name) → AreAt P P' back.old back.new g exit exit → (j : ℕ) (c : Fact) → Lists waiting back.old j
-    → slice_get facts j ≡ Some c → HoldsNext P P' facts c next
+-- after the calls that wait for a fact of exits have been passed over: none is left, and the others wait as before
+pub record AreResumed (P P' : ProgramTree) (facts : List Fact) (before after : List (List ℕ)) (back : Fact) : Type 0 where
+  pub left : (k j : ℕ) (c : Fact) → Lists before k j → slice_get facts j ≡ Some c → Lists after k j ⊎ HoldsNext P P' facts c next
+  pub none : (g : Name) (j : ℕ) → AreAt P P' back.old back.new g exit exit → Lists after back.old j → ⊥
 
 -- every reached pair is held
 abbrev pub HoldsAll : Tables → Tables → List Fact → Type 0

@@ -1,5 +1,5 @@
 //! What a walk asks of both graphs.
-ghost use Rattle.std.specs.Prelude.{◌≡◌, ◌<◌, ◌↔◌, Some, IfOk, IfSome, IsTrue, MatchOption};
+ghost use Rattle.std.specs.Prelude.{◌≡◌, ◌<◌, ◌≤◌, ◌+◌, ◌↔◌, Some, IfOk, IfSome, IsTrue, MatchOption};
 ghost use Rattle.csub_objects.specs.Types.{Name};
 ghost use Rattle.csub_semantics.specs.Points.{PointTree, exit, exit_tree, point_tree};
 ghost use Rattle.csub_semantics.specs.Syntax.{ProgramTree};
@@ -55,7 +55,7 @@ pub fn list_ways(alloc: Global, graph: &Graph) -> Result<Rows, AllocError>
 }
 
 /// The successors of two points along a way out, by which the old one leads to the point `to`, where the new one leads on
-/// too and the labels there are equal.
+/// too and the labels there are equal. It counts one step at most.
 pub fn successors<L: Ledger>(
     both: &Both<'_>,
     from: Pair,
@@ -73,6 +73,7 @@ pub fn successors<L: Ledger>(
         (AreTogether P P' f p p' (exit_tree exit.now)) }
     ensures old { IfSome result (λ pair. pair.old < point_count both.now.old.now) }
     ensures new { IfSome result (λ pair. pair.new < point_count both.now.new.now) }
+    ensures cost { steps.new ≤ steps.old + 1 }
 {
     let Some(other) = both.new.follow(from.new, exit) else {
         return None;

@@ -1,5 +1,5 @@
 //! What follows from a fact.
-ghost use Rattle.std.specs.Prelude.{◌≡◌, ◌<◌, ◌+◌, ℕ, List, Some, length, slice_get, Contains, OnOk};
+ghost use Rattle.std.specs.Prelude.{◌≡◌, ◌<◌, ◌≤◌, ◌+◌, ◌⊎◌, ℕ, List, Some, length, slice_get, Contains, OnOk};
 ghost use Rattle.csub_objects.specs.Types.{Name};
 ghost use Rattle.csub_semantics.specs.Points.{PointTree, ExitTree, exit_tree, next};
 ghost use Rattle.csub_semantics.specs.Syntax.{ProgramTree};
@@ -7,13 +7,13 @@ ghost use Rattle.csub_semantics.specs.Flows.{flow_of};
 ghost use Rattle.csub_semantics.specs.Books.{IsNoCallAt};
 ghost use Rattle.flow_graph.specs.Graph.{IsGraphOf, point_count, function_count};
 ghost use Rattle.call_walk.specs.LabelRows.{AreLabelled};
-ghost use Rattle.call_walk.specs.Moments.{Lists, AreWays, AreAt, LeadsAlong, IsMoment, AreWaiting, Extends, IsCalledAt, IsPassed, Explains, HoldsNext, PassesOver, AreDone, IsFollowed, AreResumed};
+ghost use Rattle.call_walk.specs.Moments.{Lists, row_count, count_all, AreWays, AreAt, LeadsAlong, IsMoment, AreWaiting, Extends, IsCalledAt, IsPassed, Explains, HoldsNext, PassesOver, AreDone, IsFollowed, AreResumed};
 ghost use Rattle.call_walk.specs.declared.fact.Fact.{Fact};
 
 use crate::ask::{Callee, Pair, are_exits, callee_at, successors};
 use crate::both::Both;
 use crate::fact::{Fact, Why};
-use crate::pairs::{Pairs, add, place_of};
+use crate::pairs::{Pairs, add, place_before};
 use crate::rows::Rows;
 use csub_semantics::ExitLabel;
 use edge_label::Steps;
@@ -41,6 +41,7 @@ fn advance<L: Ledger>(
     ensures moment { OnOk result (IsMoment both.now.old.now both.now.new.now pairs.new) }
     ensures grows { OnOk result (Extends pairs.old.facts.items pairs.new.facts.items) }
     ensures held { OnOk result ((P P' : ProgramTree) → IsGraphOf both.now.old.now P → IsGraphOf both.now.new.now P' → HoldsNext P P' pairs.new.facts.items from (exit_tree exit.now)) }
+    ensures cost { steps.new ≤ steps.old + 1 }
 {
     let pair = Pair {
         old: from.old,
@@ -77,6 +78,7 @@ fn take_steps<L: Ledger>(
     ensures moment { OnOk result (IsMoment both.now.old.now both.now.new.now pairs.new) }
     ensures grows { OnOk result (Extends pairs.old.facts.items pairs.new.facts.items) }
     ensures steps { OnOk result ((P P' : ProgramTree) → IsGraphOf both.now.old.now P → IsGraphOf both.now.new.now P' → (x : ExitTree) → HoldsNext P P' pairs.new.facts.items from x) }
+    ensures cost { steps.new ≤ steps.old + row_count ways.now from.old }
 {
     for edge in ways.row(from.old) {
         let EdgeEnds { from: _, exit, to } = both.old.edge_at(*edge);
@@ -100,6 +102,7 @@ fn pass_over<L: Ledger>(
     ensures moment { OnOk result (IsMoment both.now.old.now both.now.new.now pairs.new) }
     ensures grows { OnOk result (Extends pairs.old.facts.items pairs.new.facts.items) }
     ensures held { OnOk result ((P P' : ProgramTree) (c : Fact) → IsGraphOf both.now.old.now P → IsGraphOf both.now.new.now P' → slice_get pairs.old.facts.items at ≡ Some c → HoldsNext P P' pairs.new.facts.items c next) }
+    ensures cost { steps.new ≤ steps.old + 1 }
 {
     let from = pairs.facts[at as usize];
     let Some(to) = both.old.follow(from.old, &ExitLabel::Next) else {
@@ -116,32 +119,9 @@ fn pass_over<L: Ledger>(
     )
 }
 
-/// Passes over the call of a fact, if the exits of its callee are held.
-fn pass_if_back<L: Ledger>(
-    both: &Both<'_>,
-    pairs: &mut Pairs,
-    at: u32,
-    callee: Callee,
-    steps: &mut Steps<L>,
-) -> Result<(), AllocError>
-    requires labels { AreLabelled both.now }
-    requires moment { IsMoment both.now.old.now both.now.new.now pairs.old }
-    requires at { at < length pairs.old.facts.items }
-    requires callee { IsCalledAt both.now.old.now both.now.new.now pairs.old.facts.items at callee }
-    requires old_exit { callee.exit.old < point_count both.now.old.now }
-    ensures moment { OnOk result (IsMoment both.now.old.now both.now.new.now pairs.new) }
-    ensures grows { OnOk result (Extends pairs.old.facts.items pairs.new.facts.items) }
-    ensures over { OnOk result ((P P' : ProgramTree) (c : Fact) → IsGraphOf both.now.old.now P → IsGraphOf both.now.new.now P' → slice_get pairs.old.facts.items at ≡ Some c → IsPassed P P' pairs.new.facts.items c) }
-{
-    match place_of(pairs, callee.exit.old, callee.exit.new) {
-        Some(back) => pass_over(both, pairs, at, back, steps),
-        None => Ok(()),
-    }
-}
-
-/// Adds the entries of the callee of a fact at a call, and lets the call wait for the callee's exits; where they are
-/// held already, the call is passed over.
-fn enter<L: Ledger>(
+/// Passes over the call of a fact, if the exits of its callee have been followed; else the call waits for them. So it is
+/// passed over once.
+fn pass_or_wait<L: Ledger>(
     both: &Both<'_>,
     pairs: &mut Pairs,
     waiting: &mut Rows,
@@ -154,6 +134,38 @@ fn enter<L: Ledger>(
     requires waiting { AreWaiting both.now.old.now both.now.new.now pairs.old.facts.items waiting.old }
     requires at { at < length pairs.old.facts.items }
     requires callee { IsCalledAt both.now.old.now both.now.new.now pairs.old.facts.items at callee }
+    requires old_exit { callee.exit.old < point_count both.now.old.now }
+    ensures moment { OnOk result (IsMoment both.now.old.now both.now.new.now pairs.new) }
+    ensures grows { OnOk result (Extends pairs.old.facts.items pairs.new.facts.items) }
+    ensures waiting { OnOk result (AreWaiting both.now.old.now both.now.new.now pairs.new.facts.items waiting.new) }
+    ensures waits { OnOk result ((n j : ℕ) → Lists waiting.old n j → Lists waiting.new n j) }
+    ensures own { OnOk result ((P P' : ProgramTree) (c : Fact) → IsGraphOf both.now.old.now P → IsGraphOf both.now.new.now P' → slice_get pairs.old.facts.items at ≡ Some c → Lists waiting.new callee.exit.old at ⊎ HoldsNext P P' pairs.new.facts.items c next) }
+    ensures over { OnOk result ((P P' : ProgramTree) (c : Fact) → IsGraphOf both.now.old.now P → IsGraphOf both.now.new.now P' → slice_get pairs.old.facts.items at ≡ Some c → IsPassed P P' pairs.new.facts.items at c) }
+    ensures cost { steps.new + count_all waiting.new ≤ steps.old + count_all waiting.old + 1 }
+{
+    match place_before(pairs, callee.exit.old, callee.exit.new, at) {
+        Some(back) => pass_over(both, pairs, at, back, steps),
+        None => waiting.push(callee.exit.old, at),
+    }
+}
+
+/// Adds the entries of the callee of a fact at a call, and passes over the call or lets it wait, if an edge leaves it.
+fn enter<L: Ledger>(
+    both: &Both<'_>,
+    ways: &Rows,
+    pairs: &mut Pairs,
+    waiting: &mut Rows,
+    at: u32,
+    from: Fact,
+    callee: Callee,
+    steps: &mut Steps<L>,
+) -> Result<(), AllocError>
+    requires labels { AreLabelled both.now }
+    requires ways { AreWays both.now.old.now ways.now }
+    requires moment { IsMoment both.now.old.now both.now.new.now pairs.old }
+    requires waiting { AreWaiting both.now.old.now both.now.new.now pairs.old.facts.items waiting.old }
+    requires stands { slice_get pairs.old.facts.items at ≡ Some from }
+    requires callee { IsCalledAt both.now.old.now both.now.new.now pairs.old.facts.items at callee }
     requires function { callee.function < function_count both.now.old.now }
     requires old_entry { callee.entry.old < point_count both.now.old.now }
     requires new_entry { callee.entry.new < point_count both.now.new.now }
@@ -162,7 +174,8 @@ fn enter<L: Ledger>(
     ensures grows { OnOk result (Extends pairs.old.facts.items pairs.new.facts.items) }
     ensures waiting { OnOk result (AreWaiting both.now.old.now both.now.new.now pairs.new.facts.items waiting.new) }
     ensures waits { OnOk result ((n j : ℕ) → Lists waiting.old n j → Lists waiting.new n j) }
-    ensures followed { OnOk result ((P P' : ProgramTree) (c : Fact) → IsGraphOf both.now.old.now P → IsGraphOf both.now.new.now P' → slice_get pairs.old.facts.items at ≡ Some c → IsFollowed P P' pairs.new.facts.items waiting.new at c) }
+    ensures followed { OnOk result ((P P' : ProgramTree) → IsGraphOf both.now.old.now P → IsGraphOf both.now.new.now P' → IsFollowed P P' pairs.new.facts.items waiting.new at from) }
+    ensures cost { steps.new + count_all waiting.new ≤ steps.old + count_all waiting.old + row_count ways.now from.old }
 {
     let entries = Fact {
         function: callee.function,
@@ -171,8 +184,10 @@ fn enter<L: Ledger>(
         why: Why::Call(at),
     };
     add(pairs, entries)?;
-    waiting.push(callee.exit.old, at)?;
-    pass_if_back(both, pairs, at, callee, steps)
+    if ways.row(from.old).is_empty() {
+        return Ok(());
+    }
+    pass_or_wait(both, pairs, waiting, at, callee, steps)
 }
 
 /// Adds what follows from the fact at a place by steps, or by the call at which it stands.
@@ -195,29 +210,33 @@ fn follow_own<L: Ledger>(
     ensures waiting { OnOk result (AreWaiting both.now.old.now both.now.new.now pairs.new.facts.items waiting.new) }
     ensures waits { OnOk result ((n j : ℕ) → Lists waiting.old n j → Lists waiting.new n j) }
     ensures followed { OnOk result ((P P' : ProgramTree) → IsGraphOf both.now.old.now P → IsGraphOf both.now.new.now P' → IsFollowed P P' pairs.new.facts.items waiting.new at from) }
+    ensures cost { steps.new + count_all waiting.new ≤ steps.old + count_all waiting.old + row_count ways.now from.old }
 {
     match callee_at(both.old, both.new, from.old) {
-        Some(callee) => enter(both, pairs, waiting, at, callee, steps),
+        Some(callee) => enter(both, ways, pairs, waiting, at, from, callee, steps),
         None => take_steps(both, ways, pairs, at, from, steps),
     }
 }
 
-/// Passes over the calls that wait for a fact of exits.
+/// Passes over the calls that wait for a fact of exits; they wait no longer.
 fn resume<L: Ledger>(
     both: &Both<'_>,
     pairs: &mut Pairs,
-    waiting: &Rows,
+    waiting: &mut Rows,
     at: u32,
     from: Fact,
     steps: &mut Steps<L>,
 ) -> Result<(), AllocError>
     requires labels { AreLabelled both.now }
     requires moment { IsMoment both.now.old.now both.now.new.now pairs.old }
-    requires waiting { AreWaiting both.now.old.now both.now.new.now pairs.old.facts.items waiting.now }
+    requires waiting { AreWaiting both.now.old.now both.now.new.now pairs.old.facts.items waiting.old }
     requires stands { slice_get pairs.old.facts.items at ≡ Some from }
     ensures moment { OnOk result (IsMoment both.now.old.now both.now.new.now pairs.new) }
     ensures grows { OnOk result (Extends pairs.old.facts.items pairs.new.facts.items) }
-    ensures resumed { OnOk result ((P P' : ProgramTree) → IsGraphOf both.now.old.now P → IsGraphOf both.now.new.now P' → AreResumed P P' pairs.new.facts.items waiting.now from) }
+    ensures waiting { OnOk result (AreWaiting both.now.old.now both.now.new.now pairs.new.facts.items waiting.new) }
+    ensures resumed { OnOk result ((P P' : ProgramTree) → IsGraphOf both.now.old.now P → IsGraphOf both.now.new.now P' → AreResumed P P' pairs.new.facts.items waiting.old waiting.new from) }
+    ensures cost { steps.new ≤ steps.old + count_all waiting.old }
+    ensures left { OnOk result (steps.new + count_all waiting.new ≤ steps.old + count_all waiting.old) }
 {
     let pair = Pair {
         old: from.old,
@@ -229,6 +248,7 @@ fn resume<L: Ledger>(
     for call in waiting.row(from.old) {
         pass_over(both, pairs, *call, at, steps)?;
     }
+    waiting.clear(from.old);
     Ok(())
 }
 
@@ -251,6 +271,8 @@ pub fn follow<L: Ledger>(
     ensures grows { OnOk result (Extends pairs.old.facts.items pairs.new.facts.items) }
     ensures waiting { OnOk result (AreWaiting both.now.old.now both.now.new.now pairs.new.facts.items waiting.new) }
     ensures done { OnOk result (AreDone both.now.old.now both.now.new.now pairs.new.facts.items waiting.new (at + 1)) }
+    ensures cost { (c : Fact) → slice_get pairs.old.facts.items at ≡ Some c → steps.new ≤ steps.old + count_all waiting.old + row_count ways.now c.old }
+    ensures left { OnOk result ((c : Fact) → slice_get pairs.old.facts.items at ≡ Some c → steps.new + count_all waiting.new ≤ steps.old + count_all waiting.old + row_count ways.now c.old) }
 {
     let from = pairs.facts[at as usize];
     follow_own(both, ways, pairs, waiting, at, from, steps)?;

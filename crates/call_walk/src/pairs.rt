@@ -1,5 +1,5 @@
 //! The facts of a walk, and by each old point the places of its facts.
-ghost use Rattle.std.specs.Prelude.{◌≡◌, ◌<◌, ◌⊎◌, ◌++◌, ℕ, [], ◌∷◌, Some, length, slice_get, IfOk, IfSome, IfNone, OnOk};
+ghost use Rattle.std.specs.Prelude.{◌≡◌, ◌<◌, ◌⊎◌, ◌++◌, ℕ, [], ◌∷◌, Some, length, take, slice_get, IfOk, IfSome, IfNone, OnOk};
 ghost use Rattle.call_walk.specs.Moments.{HasPair, ArePairs};
 ghost use Rattle.call_walk.specs.declared.fact.Fact.{Fact};
 
@@ -43,6 +43,19 @@ pub fn place_of(pairs: &Pairs, old: u32, new: u32) -> Option<u32>
         }
     }
     None
+}
+
+/// The place of the fact of a pair, if it is one of the first facts.
+pub fn place_before(pairs: &Pairs, old: u32, new: u32, end: u32) -> Option<u32>
+    requires pairs { ArePairs pairs.now.facts.items pairs.now.partners }
+    requires old { old < length pairs.now.partners }
+    ensures some { IfSome result (λ place. (c : Fact) × (slice_get pairs.now.facts.items place ≡ Some c) × (c.old ≡ old) × (c.new ≡ new)) }
+    ensures none { IfNone result (HasPair (take end pairs.now.facts.items) old new → ⊥) }
+{
+    let Some(place) = place_of(pairs, old, new) else {
+        return None;
+    };
+    if place < end { Some(place) } else { None }
 }
 
 /// Adds a fact, unless its pair is held. An `Err` is want of memory, which a list of 2^32 facts has long before.

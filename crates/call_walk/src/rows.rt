@@ -1,5 +1,5 @@
 //! A list of numbers for each number below a bound.
-ghost use Rattle.std.specs.Prelude.{◌≡◌, ◌<◌, ◌++◌, [], ◌∷◌, length, replicate, slice_get, slice_set, slice_index_or, Some, IfOk, OnOk};
+ghost use Rattle.std.specs.Prelude.{◌≡◌, ◌<◌, ◌++◌, [], ◌∷◌, length, replicate, slice_get, slice_set, slice_index_or, Some, IfOk, OnOk, OnErr};
 
 use std::alloc::{AllocError, Global};
 use std::marker::Model;
@@ -41,9 +41,18 @@ impl Rows {
     /// Appends to the list at a number. An `Err` is want of memory, and changes nothing.
     pub fn push(&mut self, at: u32, value: u32) -> Result<(), AllocError>
         requires { at < length self.old }
-        ensures { OnOk result (self.new ≡ slice_set self.old at (slice_index_or self.old at [] ++ value ∷ [])) }
+        ensures appended { OnOk result (self.new ≡ slice_set self.old at (slice_index_or self.old at [] ++ value ∷ [])) }
+        ensures unchanged { OnErr result (self.new ≡ self.old) }
     {
         self.rows[at as usize].push(value)?;
         Ok(())
+    }
+
+    /// Empties the list at a number.
+    pub fn clear(&mut self, at: u32)
+        requires { at < length self.old }
+        ensures { self.new ≡ slice_set self.old at [] }
+    {
+        self.rows[at as usize].clear();
     }
 }

@@ -1,9 +1,9 @@
 //! The walk of two programs through calls.
-ghost use Rattle.std.specs.Prelude.{◌≡◌, IfOk};
+ghost use Rattle.std.specs.Prelude.{◌≡◌, ◌≤◌, ◌+◌, ◌*◌, IfOk};
 ghost use Rattle.csub_semantics.specs.Points.{entry};
 ghost use Rattle.csub_semantics.specs.Flows.{start_name};
 ghost use Rattle.csub_semantics.specs.Syntax.{ProgramTree};
-ghost use Rattle.flow_graph.specs.Graph.{IsGraphOf};
+ghost use Rattle.flow_graph.specs.Graph.{IsGraphOf, edge_count, point_count};
 ghost use Rattle.call_walk.specs.Walks.{IsWalk};
 ghost use Rattle.call_walk.specs.LabelRows.{AreLabelled};
 ghost use Rattle.call_walk.specs.Moments.{AreWays, IsMoment, IsHeld, HoldsAll};
@@ -51,6 +51,7 @@ fn reach<L: Ledger>(
     requires ways { AreWays both.now.old.now ways.now }
     ensures moment { IfOk result (IsMoment both.now.old.now both.now.new.now) }
     ensures all { IfOk result (λ pairs. HoldsAll both.now.old.now both.now.new.now pairs.facts.items) }
+    ensures counted { steps.new ≤ steps.old + edge_count both.now.old.now * point_count both.now.new.now }
 {
     let mut pairs = start(alloc, both.old, both.new)?;
     let mut waiting = Rows::new(alloc, both.old.points())?;
@@ -65,16 +66,18 @@ fn reach<L: Ledger>(
 /// The walk of an old program and a new one, by their graphs: the reached pairs, each once and with its reason, and the
 /// dangerous edges (Rothermel and Harrold, ACM TOSEM 6(2), 1997). An `Err` is want of memory.
 ///
-/// Each point's label gets a number at the beginning. Beside one comparison of two numbers for each edge of a reached
-/// pair, which `steps` counts, the edge's exit label is looked for at the new point, a case of a `switch` by a logarithm;
-/// a pair is looked for among the reached pairs of its old point, and functions are looked for by their names, one by one.
+/// Each point's label gets a number at the beginning. For each edge of a reached pair the edge's exit label is looked for at
+/// the new point, a case of a `switch` by a logarithm, and two numbers are compared once at most; `steps` counts these
+/// comparisons, also before an `Err`. A pair is looked for among the reached pairs of its old point, and functions are looked
+/// for by their names, one by one.
 pub fn walk<L: Ledger>(
     alloc: Global,
     old: &Graph,
     new: &Graph,
     steps: &mut Steps<L>,
 ) -> Result<WalkResult, AllocError>
-    ensures { (P P' : ProgramTree) → IsGraphOf old.now P → IsGraphOf new.now P' → IfOk result (IsWalk P P') }
+    ensures is_walk { (P P' : ProgramTree) → IsGraphOf old.now P → IsGraphOf new.now P' → IfOk result (IsWalk P P') }
+    ensures counted { steps.new ≤ steps.old + edge_count old.now * point_count new.now }
 {
     let mut book = LabelBook::new(alloc);
     let old_labels = number_labels(alloc, old, &mut book)?;

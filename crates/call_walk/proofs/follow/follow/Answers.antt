@@ -1,17 +1,45 @@
+use Rattle.std.proofs.Common.{◌≡◌, ◌<◌, ℕ, List, length, get_or, Some, sym, ap, ◌∙◌, arith}
+use Rattle.std.specs.Prelude.{slice_get}
+use Rattle.std.proofs.lemmas.Option.{same_Some}
+use Rattle.call_walk.specs.declared.fact.Fact.{Fact}
+use Rattle.call_walk.specs.Moments.{row_count}
 use Rattle.call_walk.proofs.Indexed.{read_at}
 use Rattle.call_walk.proofs.Explaining.{on_ok, on_ok_2}
-use Rattle.call_walk.proofs.Following.{waiting_extends, done_more}
+use Rattle.call_walk.proofs.Following.{done_more}
 use Rattle.call_walk.proofs.follow.follow.Goals as goal
 
-pub returns-clause-waiting : goal.returns-clause-waiting
-returns-clause-waiting g c = on_ok c.resume.result (λ h. waiting_extends c.args.both.now.old.now c.args.both.now.new.now c.follow_own.new.waiting h c.in_ok-follow_own.ensures.waiting) c.resume.ensures.grows
+-- the edges of a fact that was read
+read_count : (ways : List (List ℕ)) (facts : List Fact) (at : ℕ) (from d : Fact) → at < length facts → from ≡ get_or facts at from → slice_get facts at ≡ Some d → row_count ways from.old ≡ row_count ways d.old
+read_count ways facts at from d within read stands = ap (λ (b : Fact). row_count ways b.old) (same_Some from d (sym (read_at facts at from within read) ∙ stands))
 
 pub returns-clause-done : goal.returns-clause-done
 returns-clause-done g c =
     on_ok_2 c.resume.result
     (λ grows resumed. record {
-      each = λ P P' ok ok'. done_more P P' c.args.pairs.now.facts.items c.follow_own.new.pairs.facts.items c.resume.new.pairs.facts.items c.args.waiting.now c.follow_own.new.waiting c.args.at c.index-from.result.now c.in_ok-follow_own.ensures.grows grows c.requires.at
+      each = λ P P' ok ok'. done_more P P' c.args.pairs.now.facts.items c.follow_own.new.pairs.facts.items c.resume.new.pairs.facts.items c.args.waiting.now c.follow_own.new.waiting c.resume.new.waiting c.args.at c.index-from.result.now c.in_ok-follow_own.ensures.grows grows c.requires.at
           (read_at c.args.pairs.now.facts.items c.args.at c.index-from.result.now c.requires.at c.index-from.ensures)
           c.in_ok-follow_own.ensures.waits (c.requires.done.each P P' ok ok') (c.in_ok-follow_own.ensures.followed P P' ok ok') (resumed P P' ok ok');
     })
     c.resume.ensures.grows c.resume.ensures.resumed
+
+pub returns-clause-cost : goal.returns-clause-cost
+returns-clause-cost g c d stands =
+    let own = c.follow_own.ensures.cost in
+    let rest = c.resume.ensures.cost in
+    let same = read_count c.args.ways.now c.args.pairs.now.facts.items c.args.at c.index-from.result.now d c.requires.at c.index-from.ensures stands in
+    omega (arith, own, rest, same)
+
+pub returns-clause-left : goal.returns-clause-left
+returns-clause-left g c =
+    on_ok c.resume.result
+    (λ rest d stands.
+    let own = c.follow_own.ensures.cost in
+    let same = read_count c.args.ways.now c.args.pairs.now.facts.items c.args.at c.index-from.result.now d c.requires.at c.index-from.ensures stands in
+    omega (arith, own, rest, same))
+    c.resume.ensures.left
+
+pub returns-in_err-follow_own-clause-cost : goal.returns-in_err-follow_own-clause-cost
+returns-in_err-follow_own-clause-cost g c d stands =
+    let own = c.follow_own.ensures.cost in
+    let same = read_count c.args.ways.now c.args.pairs.now.facts.items c.args.at c.index-from.result.now d c.requires.at c.index-from.ensures stands in
+    omega (arith, own, same)

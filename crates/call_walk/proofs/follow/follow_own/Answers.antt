@@ -23,6 +23,3 @@ returns-in-None-clause-followed g c =
     (λ h P P' ok ok'. stepped P P' c.take_steps.new.pairs.facts.items c.args.waiting.now c.args.at c.args.from
     (λ f p p' at. c.in-None.ensures.callee P P' f p p' ok ok' (moment_same c.args.both.now.old.now c.args.both.now.new.now c.args.pairs.now c.requires.moment P P' ok ok' c.args.at c.args.from c.requires.stands f p p' at) at.old) (h P P' ok ok'))
     c.take_steps.ensures.steps
-
-pub returns-in-Some-clause-followed : goal.returns-in-Some-clause-followed
-returns-in-Some-clause-followed g c = on_ok c.enter.result (λ h P P' ok ok'. h P P' c.args.from ok ok' c.requires.stands) c.enter.ensures.followed

@@ -1,6 +1,6 @@
-use Rattle.std.proofs.Common.{◌≡◌, ℕ, List, ◌+◌, ◌<◌, ◌≤◌, get_or, Some, refl, sym, ap, ◌∙◌, subst, ◌⊎◌, inl, inr, arith, true≢false}
+use Rattle.std.proofs.Common.{◌≡◌, ℕ, List, length, ◌+◌, ◌<◌, ◌≤◌, get_or, Some, refl, sym, ap, ◌∙◌, subst, ◌⊎◌, inl, inr, arith, true≢false}
 use Rattle.std.specs.Prelude.{slice_get}
-use Rattle.std.proofs.lemmas.Bool.{cases_lt}
+use Rattle.std.proofs.lemmas.Bool.{cases_eq, cases_lt}
 use Rattle.std.proofs.lemmas.Option.{slice_get_within, slice_get-get_or, get_or_from_slice_get, same_Some}
 use Rattle.csub_semantics.specs.Points.{exit, next}
 use Rattle.csub_semantics.specs.Syntax.{ProgramTree}
@@ -8,10 +8,11 @@ use Rattle.csub_semantics.specs.Numbers.{Site, site}
 use Rattle.flow_graph.specs.Graph.{IsGraphOf}
 use Rattle.call_walk.specs.declared.fact.Fact.{Fact}
 use Rattle.call_walk.specs.Walks.{IsNamed}
-use Rattle.call_walk.specs.Moments.{WaitsFor, Extends, PassesOver, HoldsNext}
-use Rattle.call_walk.proofs.Indexed.{in_row, get_extends, get_back, extends_more, extends_long}
+use Rattle.call_walk.specs.Moments.{Lists, WaitsFor, Extends, PassesOver, HoldsNext}
+use Rattle.call_walk.proofs.Indexed.{in_row, get_extends, get_back, extends_more, extends_long, cleared_long, cleared_none, cleared_kept, cleared_fewer}
 use Rattle.call_walk.proofs.Naming.{at_named}
-use Rattle.call_walk.proofs.Following.{holds_extends, moment_named}
+use Rattle.call_walk.proofs.Following.{holds_extends, moment_named, waiting_extends, waiting_fewer}
+use Rattle.call_walk.proofs.Counting.{cleared_count, row_within}
 use Rattle.call_walk.proofs.follow.resume.Goals as goal
 
 -- a call that waits for the exits at which a fact stands
@@ -50,6 +51,8 @@ pass_over-requires-clause-over g c P P' ok ok' =
 pub loop-call-preserved : goal.loop-call-preserved
 loop-call-preserved g c = record {
   moment = c.in_ok-pass_over.ensures.moment;
+  upto = let test = c.loop-call-test.true in omega (arith, test);
+  cost = let before = c.loop-call.invariant.cost in let one = c.pass_over.ensures.cost in omega (arith, before, one);
   grows = extends_more c.loop-call.invariant.grows c.in_ok-pass_over.ensures.grows;
   held = λ P P' ok ok' k j d l get stands. held_case P P' ok ok' k j d l get stands (cases_lt k c.loop-call.call-index);
 }
@@ -61,14 +64,57 @@ loop-call-preserved g c = record {
         let is : get_or c.row-call-items.result.now c.loop-call.call-index 0 ≡ j = get_or_from_slice_get c.row-call-items.result.now c.loop-call.call-index j 0 (subst (λ n. slice_get c.row-call-items.result.now n ≡ Some j) same get) in
         c.in_ok-pass_over.ensures.held P P' d ok ok' (ap (slice_get c.loop-call.pairs.facts.items) is ∙ get_extends c.loop-call.invariant.grows j d stands)
 
+pub returns-clause-waiting : goal.returns-clause-waiting
+returns-clause-waiting g c =
+    waiting_extends c.args.both.now.old.now c.args.both.now.new.now c.clear.new.self c.loop-call.invariant.grows
+    (waiting_fewer c.args.both.now.old.now c.args.both.now.new.now c.args.pairs.now.facts.items c.args.waiting.now c.clear.new.self c.requires.waiting (cleared_long c.args.waiting.now c.clear.new.self c.args.from.old within c.clear.ensures) (cleared_fewer c.args.waiting.now c.clear.new.self c.args.from.old within c.clear.ensures))
+  where
+    within : c.args.from.old < length c.args.waiting.now
+    within = slice_get_within c.args.waiting.now c.args.from.old c.row-call-items.result.now c.row-call-items.ensures
+
 pub returns-clause-resumed : goal.returns-clause-resumed
-returns-clause-resumed g c P P' ok ok' f at j d listed stands =
-    let k = in_row c.args.waiting.now c.args.from.old j c.row-call-items.result.now c.row-call-items.ensures listed in
-    let w = slice_get_within c.row-call-items.result.now k.0 j k.1 in
-    let test = c.loop-call-test.false in
-    let before = get_back c.loop-call.invariant.grows j d (c.requires.waiting.below c.args.from.old j listed) stands in
-    c.loop-call.invariant.held P P' ok ok' k.0 j d (omega (arith, w, test)) k.1 before
+returns-clause-resumed g c P P' ok ok' = record {
+  left = λ k j d listed stands. left_case k j d listed stands (cases_eq k c.args.from.old);
+  none = λ f j at. cleared_none c.args.waiting.now c.clear.new.self c.args.from.old within c.clear.ensures j;
+}
+  where
+    within : c.args.from.old < length c.args.waiting.now
+    within = slice_get_within c.args.waiting.now c.args.from.old c.row-call-items.result.now c.row-call-items.ensures
+
+    left_case : (k j : ℕ) (d : Fact) → Lists c.args.waiting.now k j → slice_get c.loop-call.pairs.facts.items j ≡ Some d → (k ≡ c.args.from.old) ⊎ (k ≡ c.args.from.old → ⊥) → Lists c.clear.new.self k j ⊎ HoldsNext P P' c.loop-call.pairs.facts.items d next
+    left_case k j d listed stands (inl same) =
+        let n = in_row c.args.waiting.now c.args.from.old j c.row-call-items.result.now c.row-call-items.ensures (subst (λ m. Lists c.args.waiting.now m j) same listed) in
+        let w = slice_get_within c.row-call-items.result.now n.0 j n.1 in
+        let test = c.loop-call-test.false in
+        let before = get_back c.loop-call.invariant.grows j d (c.requires.waiting.below k j listed) stands in
+        inr (c.loop-call.invariant.held P P' ok ok' n.0 j d (omega (arith, w, test)) n.1 before)
+    left_case k j d listed stands (inr other) = inl (cleared_kept c.args.waiting.now c.clear.new.self c.args.from.old within c.clear.ensures k j other listed)
 
 pub returns-then-not-are_exits-clause-resumed : goal.returns-then-not-are_exits-clause-resumed
-returns-then-not-are_exits-clause-resumed g c P P' ok ok' f at j d listed stands h p p' q q' there both =
-    absurd (true≢false (sym ((c.if-not-are_exits.ensures P P' f exit exit ok ok' at).1 (refl, refl))))
+returns-then-not-are_exits-clause-resumed g c P P' ok ok' = record {
+  left = λ k j d listed stands. inl listed;
+  none = λ f j at listed. absurd (true≢false (sym ((c.if-not-are_exits.ensures P P' f exit exit ok ok' at).1 (refl, refl))));
+}
+
+pub returns-clause-cost : goal.returns-clause-cost
+returns-clause-cost g c =
+    let cost = c.loop-call.invariant.cost in
+    let upto = c.loop-call.invariant.upto in
+    let row = row_within c.args.waiting.now c.args.from.old c.row-call-items.result.now c.row-call-items.ensures in
+    omega (arith, cost, upto, row)
+
+pub returns-clause-left : goal.returns-clause-left
+returns-clause-left g c =
+    let cost = c.loop-call.invariant.cost in
+    let upto = c.loop-call.invariant.upto in
+    let within = slice_get_within c.args.waiting.now c.args.from.old c.row-call-items.result.now c.row-call-items.ensures in
+    let less = cleared_count c.args.waiting.now c.clear.new.self c.args.from.old within c.row-call-items.result.now c.row-call-items.ensures c.clear.ensures in
+    omega (arith, cost, upto, less)
+
+pub returns-in_err-pass_over-clause-cost : goal.returns-in_err-pass_over-clause-cost
+returns-in_err-pass_over-clause-cost g c =
+    let cost = c.loop-call.invariant.cost in
+    let one = c.pass_over.ensures.cost in
+    let test = c.loop-call-test.true in
+    let row = row_within c.args.waiting.now c.args.from.old c.row-call-items.result.now c.row-call-items.ensures in
+    omega (arith, cost, one, test, row)

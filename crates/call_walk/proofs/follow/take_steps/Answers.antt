@@ -13,6 +13,7 @@ use Rattle.call_walk.proofs.Numbered.{edge_of, site_below}
 use Rattle.call_walk.proofs.Asked.{leads_along}
 use Rattle.call_walk.proofs.Explaining.{step_explained, contains_at}
 use Rattle.call_walk.proofs.Following.{holds_extends, moment_named}
+use Rattle.call_walk.proofs.Counting.{row_counted}
 use Rattle.call_walk.proofs.follow.take_steps.Goals as goal
 
 pub edge_at-to-requires : goal.edge_at-to-requires
@@ -41,6 +42,8 @@ advance-requires-clause-why g c P P' ok ok' f p p' at pair t =
 pub loop-edge-preserved : goal.loop-edge-preserved
 loop-edge-preserved g c = record {
   moment = c.in_ok-advance.ensures.moment;
+  upto = let test = c.loop-edge-test.true in omega (arith, test);
+  cost = let before = c.loop-edge.invariant.cost in let one = c.advance.ensures.cost in omega (arith, before, one);
   grows = extends_more c.loop-edge.invariant.grows c.in_ok-advance.ensures.grows;
   held = λ P P' ok ok' k e l get s. held_case P P' ok ok' k e l get s (cases_lt k c.loop-edge.edge-index);
 }
@@ -62,3 +65,18 @@ returns-clause-steps g c P P' ok ok' x f p p' q q' at both =
     let w = slice_get_within c.row-edge-items.result.now k.0 e.0 k.1 in
     let test = c.loop-edge-test.false in
     c.loop-edge.invariant.held P P' ok ok' k.0 e.0 (omega (arith, w, test)) k.1 leaves f p p' q q' at both
+
+pub returns-clause-cost : goal.returns-clause-cost
+returns-clause-cost g c =
+    let cost = c.loop-edge.invariant.cost in
+    let upto = c.loop-edge.invariant.upto in
+    let row = row_counted c.args.ways.now c.args.from.old c.row-edge-items.result.now c.row-edge-items.ensures in
+    omega (arith, cost, upto, row)
+
+pub returns-in_err-advance-clause-cost : goal.returns-in_err-advance-clause-cost
+returns-in_err-advance-clause-cost g c =
+    let cost = c.loop-edge.invariant.cost in
+    let one = c.advance.ensures.cost in
+    let test = c.loop-edge-test.true in
+    let row = row_counted c.args.ways.now c.args.from.old c.row-edge-items.result.now c.row-edge-items.ensures in
+    omega (arith, cost, one, test, row)

@@ -12,8 +12,8 @@ reach-requires-clause-labels g c = record {
   new = subst (λ row. AreNumbered c.number_labels-2.new.book row c.args.new.now) (sym c.deref-2.ensures.value) c.in_ok-new_labels.ensures.row;
 }
 
-pub returns : goal.returns
-returns g c P P' ok ok' =
+pub returns-clause-is_walk : goal.returns-clause-is_walk
+returns-clause-is_walk g c P P' ok ok' =
     let each = c.in_ok-pairs.ensures.moment.explained.each P P' ok ok' in
     let all = c.in_ok-pairs.ensures.all P P' ok ok' in
     record {
