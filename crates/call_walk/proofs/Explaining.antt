@@ -102,10 +102,11 @@ explained_push g g' facts c all one = record { each = λ P P' ok ok' i d e. pick
         subst₂ (λ l f. IsExplained P P' l f) (sym whole) (sym h.1) (one P P' ok ok')
 
 -- after a fact is added
-pub moment_more : (g g' : Tables) (before after : Pairs) (c : Fact) → IsMoment g g' before → IsWithin g g' c → ((P P' : ProgramTree) → IsGraphOf g P → IsGraphOf g' P' → IsExplained P P' before.facts.items c) → ArePairs after.facts.items after.partners → length after.partners ≡ length before.partners → (after.facts.items ≡ before.facts.items) ⊎ (after.facts.items ≡ before.facts.items ++ c ∷ []) → IsMoment g g' after
-moment_more g g' before after c ok within why indexed points facts = record {
+pub moment_more : (g g' : Tables) (before after : Pairs) (c : Fact) → IsMoment g g' before → IsWithin g g' c → ((P P' : ProgramTree) → IsGraphOf g P → IsGraphOf g' P' → IsExplained P P' before.facts.items c) → ArePairs after.facts.items after.ends.items after.held → after.held.height ≡ before.held.height → after.held.width ≡ before.held.width → (after.facts.items ≡ before.facts.items) ⊎ (after.facts.items ≡ before.facts.items ++ c ∷ []) → IsMoment g g' after
+moment_more g g' before after c ok within why indexed height width facts = record {
   indexed = indexed;
-  points = points ∙ ok.points;
+  height = height ∙ ok.height;
+  width = width ∙ ok.width;
   within = λ i d e. within_case facts i d e;
   explained = explained_case facts;
 }
@@ -134,6 +135,10 @@ pub on_ok : {X Y P S : Type 0} (r : Result X Y) → (P → S) → OnOk r P → O
 on_ok (Ok x) f p = f p
 on_ok (Err e) f p = tt
 
+pub on_ok_4 : {X Y P Q R S T : Type 0} (r : Result X Y) → (P → Q → R → S → T) → OnOk r P → OnOk r Q → OnOk r R → OnOk r S → OnOk r T
+on_ok_4 (Ok x) f p q r s = f p q r s
+on_ok_4 (Err e) f p q r s = tt
+
 pub on_ok_3 : {X Y P Q R S : Type 0} (r : Result X Y) → (P → Q → R → S) → OnOk r P → OnOk r Q → OnOk r R → OnOk r S
 on_ok_3 (Ok x) f p q r = f p q r
 on_ok_3 (Err e) f p q r = tt
@@ -159,10 +164,11 @@ on_ok_2 (Ok x) f p q = f p q
 on_ok_2 (Err e) f p q = tt
 
 -- before any fact
-pub moment_none : (g g' : Tables) (pairs : Pairs) → pairs.facts.items ≡ [] → ArePairs pairs.facts.items pairs.partners → length pairs.partners ≡ point_count g → IsMoment g g' pairs
-moment_none g g' pairs none indexed points = record {
+pub moment_none : (g g' : Tables) (pairs : Pairs) → pairs.facts.items ≡ [] → ArePairs pairs.facts.items pairs.ends.items pairs.held → pairs.held.height ≡ point_count g → pairs.held.width ≡ point_count g' → IsMoment g g' pairs
+moment_none g g' pairs none indexed height width = record {
   indexed = indexed;
-  points = points;
+  height = height;
+  width = width;
   within = λ i c e. absurd (no_fact i c (subst (λ l. slice_get l i ≡ Some c) none e));
   explained = record { each = λ P P' ok ok' i c e. absurd (no_fact i c (subst (λ l. slice_get l i ≡ Some c) none e)) };
 }

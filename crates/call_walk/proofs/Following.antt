@@ -1,5 +1,5 @@
 -- What has been followed, as facts are added.
-use Rattle.std.proofs.Common.{◌≡◌, ℕ, ◌+◌, ◌<◌, ◌≤◌, List, [], ◌∷◌, ◌++◌, length, take, get_or, set, replicate, Some, sym, ap, ◌∙◌, subst, subst₂, ◌⊎◌, inl, inr, arith}
+use Rattle.std.proofs.Common.{◌≡◌, ℕ, ◌+◌, ◌<◌, ◌≤◌, List, [], ◌∷◌, ◌++◌, length, get_or, set, replicate, Some, sym, ap, ◌∙◌, subst, subst₂, ◌⊎◌, inl, inr, arith}
 use Rattle.std.specs.Prelude.{slice_get}
 use Rattle.std.proofs.lemmas.Bool.{cases_lt}
 use Rattle.std.proofs.lemmas.List.{length-replicate}
@@ -17,7 +17,6 @@ use Rattle.call_walk.specs.declared.ask.Callee.{Callee}
 use Rattle.call_walk.specs.declared.pairs.Pairs.{Pairs}
 use Rattle.call_walk.specs.Walks.{IsNamed}
 use Rattle.call_walk.specs.Moments.{Lists, AreWays, AreAt, HasPair, IsHeld, IsMoment, Extends, WaitsFor, AreWaiting, IsCallee, IsCalledAt, IsPassed, HoldsNext, PassesOver, LeadsOn, ComesBackAt, IsDone, AreDone, IsFollowed, AreResumed}
-use Rattle.call_walk.proofs.Lists.{in_take}
 use Rattle.call_walk.proofs.ReachedClosed.{one_callee, calls_or_not}
 use Rattle.call_walk.proofs.Reaching.{every_reached}
 use Rattle.call_walk.proofs.Indexed.{in_row, get_extends, get_back, extends_more, extends_long, lists_long, lists_cases, lists_none}
@@ -113,7 +112,7 @@ held_pair P P' facts n n' f p p' valid valid' at h = record {
 }
 
 -- a call that was entered
-pub entered : (P P' : ProgramTree) → IsValid P → (before after : List Fact) (waiting : List (List ℕ)) (at : ℕ) (c : Fact) (k : Callee) → ((f : Name) (p p' : PointTree) → AreAt P P' c.old c.new f p p' → IsCallee P P' f p k) → HasPair before k.entry.old k.entry.new → Extends before after → Lists waiting k.exit.old at ⊎ HoldsNext P P' after c next → IsPassed P P' after at c → IsFollowed P P' after waiting at c
+pub entered : (P P' : ProgramTree) → IsValid P → (before after : List Fact) (waiting : List (List ℕ)) (at : ℕ) (c : Fact) (k : Callee) → ((f : Name) (p p' : PointTree) → AreAt P P' c.old c.new f p p' → IsCallee P P' f p k) → HasPair before k.entry.old k.entry.new → Extends before after → Lists waiting k.exit.old at ⊎ HoldsNext P P' after c next → IsPassed P P' after c → IsFollowed P P' after waiting at c
 entered P P' valid before after waiting at c k called has grows own passed = record {
   leads = λ f p p' is. let a = called f p p' is in record {
     steps = λ x q q' plain both. absurd (calls_or_not (flow_of P) f p a.name plain a.calls);
@@ -134,7 +133,7 @@ stepped P P' after waiting at c plain held = record {
     enters = λ g calls. absurd (calls_or_not (flow_of P) f p g none calls);
     waits = λ n g calls exits. absurd (calls_or_not (flow_of P) f p g none calls);
   };
-  overs = λ m d l at' back. absurd (calls_or_not (flow_of P) back.function back.point back.callee (plain back.function back.point back.other back.at) back.calls);
+  overs = λ m d at' back. absurd (calls_or_not (flow_of P) back.function back.point back.callee (plain back.function back.point back.other back.at) back.calls);
 }
 
 -- one more fact has been followed
@@ -187,7 +186,7 @@ module _ (P P' : ProgramTree) (before mid after : List Fact) (waiting waiting' w
           let one = is_from j c hj lj ej in
           let there = get_extends first m d (get_back both m d (omega arith) em) in
           holds_extends P P' c next second
-          (subst (λ (b : Fact). HoldsNext P P' mid b next) one (own.overs m d hm there (subst (λ (b : Fact). ComesBackAt P P' b d) (sym one) back)))
+          (subst (λ (b : Fact). HoldsNext P P' mid b next) one (own.overs m d there (subst (λ (b : Fact). ComesBackAt P P' b d) (sym one) back)))
       overs_case j m c d lj lm ej em back (inr hm) hj = over_or_none ((leads_case j c back.function back.point back.other lj ej back.at hj).waits from.old back.callee back.calls exits.old)
         where
           exits : AreAt P P' from.old from.new back.callee exit exit
@@ -223,15 +222,15 @@ done_all P P' facts waiting n long starts done = every_reached (flow_of P) (flow
     led : (f : Name) (p p' : PointTree) (h : IsHeld P P' facts f p p') → LeadsOn P P' facts waiting h.place h.fact f p p'
     led f p p' h = done.leads h.place h.fact f p p' (below h.place h.fact h.stands) h.stands h.at
 
-pub passed_by : (P P' : ProgramTree) (facts : List Fact) (n : ℕ) (c : Fact) → HoldsNext P P' facts c next → IsPassed P P' facts n c
-passed_by P P' facts n c h m d l at back = h
+pub passed_by : (P P' : ProgramTree) (facts : List Fact) (c : Fact) → HoldsNext P P' facts c next → IsPassed P P' facts c
+passed_by P P' facts c h m d at back = h
 
-pub none_back : (P P' : ProgramTree) → IsValid P → IsValid P' → (facts : List Fact) (n : ℕ) (c : Fact) (k : Callee) → ((f : Name) (p p' : PointTree) → AreAt P P' c.old c.new f p p' → IsCallee P P' f p k) → (HasPair (take n facts) k.exit.old k.exit.new → ⊥) → IsPassed P P' facts n c
-none_back P P' valid valid' facts n c k called none m d l at back =
+pub none_back : (P P' : ProgramTree) → IsValid P → IsValid P' → (facts : List Fact) (c : Fact) (k : Callee) → ((f : Name) (p p' : PointTree) → AreAt P P' c.old c.new f p p' → IsCallee P P' f p k) → (HasPair facts k.exit.old k.exit.new → ⊥) → IsPassed P P' facts c
+none_back P P' valid valid' facts c k called none m d at back =
     let a = called back.function back.point back.other back.at in
     let one = one_callee (flow_of P) back.function back.point a.name back.callee a.calls back.calls in
-    let held : IsHeld P P' (take n facts) a.name exit exit = subst (λ h. IsHeld P P' (take n facts) h exit exit) (sym one) (fact_held P P' (take n facts) m d back.callee exit exit (in_take n facts m d l at) back.exits) in
-    absurd (none (held_pair P P' (take n facts) k.exit.old k.exit.new a.name exit exit valid valid' a.numbers.exits held))
+    let held : IsHeld P P' facts a.name exit exit = subst (λ h. IsHeld P P' facts h exit exit) (sym one) (fact_held P P' facts m d back.callee exit exit at back.exits) in
+    absurd (none (held_pair P P' facts k.exit.old k.exit.new a.name exit exit valid valid' a.numbers.exits held))
 
 -- no call waits, and nothing has been followed
 pub waiting_none : (g g' : Tables) (facts : List Fact) (waiting : List (List ℕ)) (c : ℕ) → waiting ≡ replicate c [] → c ≡ point_count g → AreWaiting g g' facts waiting

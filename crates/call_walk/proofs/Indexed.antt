@@ -1,10 +1,13 @@
 -- Lists by numbers, and facts with an index of their places.
-use Rattle.std.proofs.Common.{◌≡◌, ℕ, zero, suc, ◌+◌, ◌<◌, ◌≤◌, ◌^◌, List, [], ◌∷◌, ◌++◌, length, get_or, set, replicate, Some, refl, sym, ap, ◌∙◌, subst, subst₂, ◌⊎◌, inl, inr, arith, length-append}
+use Rattle.std.proofs.Common.{◌≡◌, ℕ, zero, suc, ◌+◌, ◌<◌, ◌≤◌, ◌^◌, List, [], ◌∷◌, ◌++◌, length, get_or, set, replicate, Some, refl, sym, ap, ◌∙◌, subst, ◌⊎◌, ◌↔◌, inl, inr, arith, length-append, get_or-set_same, get_or-set_other}
 use Rattle.std.specs.Prelude.{slice_get}
 use Rattle.std.proofs.lemmas.Bool.{cases_eq}
-use Rattle.std.proofs.lemmas.Option.{slice_get-get_or, same_Some}
+use Rattle.std.proofs.lemmas.List.{length-replicate}
+use Rattle.std.proofs.lemmas.Option.{slice_get_within, slice_get-get_or, same_Some}
 use Rattle.std.proofs.Math.ListN.{length-set}
 use Rattle.call_walk.specs.declared.fact.Fact.{Fact}
+use Rattle.call_walk.specs.declared.pair_set.PairSet.{PairSet}
+use Rattle.call_walk.specs.Bits.{IsIn}
 use Rattle.call_walk.specs.Moments.{Lists, HasPair, ArePairs, Extends}
 use Rattle.call_walk.proofs.Lists.{get_left, append_nil}
 
@@ -138,43 +141,71 @@ in_row rows n x row e h =
     (h.place, subst (λ l. slice_get l h.place ≡ Some x) same h.is)
 
 -- no facts
-pub pairs_none : (c : ℕ) → ArePairs [] (replicate c [])
-pairs_none c = record {
+no_end : (c n : ℕ) → ◌≡◌ {A = ℕ} (get_or (replicate c 0) n 0) 0
+no_end zero n = refl
+no_end (suc c) zero = refl
+no_end (suc c) (suc n) = no_end c n
+
+pub pairs_none : (c : ℕ) (held : PairSet) → held.height ≡ c → ((n n' : ℕ) → IsIn held.width held.words.items n n' → ⊥) → ArePairs [] (replicate c 0) held
+pairs_none c held height none = record {
   few = omega arith;
   once = λ i j d e di ej o n. cc;
-  listed = λ i d e. cc;
-  sound = λ n i h. absurd (lists_none c n i h);
+  long = length-replicate c 0 ∙ sym height;
+  below = λ n. let end = no_end c n in omega (arith, end);
+  before = λ i d e. cc;
+  marked = λ n n'. (λ h. absurd (none n n' h), λ h. let stands = h.stands in cc);
 }
 
 -- one more fact
-module _ (facts : List Fact) (partners partners' : List (List ℕ)) (c : Fact) (ok : ArePairs facts partners) (within : c.old < length partners) (few : length facts + 1 < 2 ^ 32) (free : HasPair facts c.old c.new → ⊥) (is : partners' ≡ set partners c.old (get_or partners c.old [] ++ length facts ∷ [])) where
+module _ (facts : List Fact) (ends ends' : List ℕ) (held held' : PairSet) (c : Fact) (ok : ArePairs facts ends held) (within : c.old < held.height) (few : length facts + 1 < 2 ^ 32) (free : HasPair facts c.old c.new → ⊥) (is : ends' ≡ set ends c.old (length facts + 1)) (height : held'.height ≡ held.height)
+    (adds : (n n' : ℕ) → IsIn held'.width held'.words.items n n' ↔ (IsIn held.width held.words.items n n' ⊎ ((n ≡ c.old) × (n' ≡ c.new)))) where
   apart : (i : ℕ) (d : Fact) → slice_get facts i ≡ Some d → d.old ≡ c.old → d.new ≡ c.new → ⊥
   apart i d e o n = free (record { place = i; fact = d; stands = e; old = o; new = n })
 
   abbrev Front : ℕ → Fact → Type 0
   Front i d = (slice_get facts i ≡ Some d) ⊎ ((i ≡ length facts) × (d ≡ c))
 
-  pub pairs_push : ArePairs (facts ++ c ∷ []) partners'
+  end_here : get_or ends' c.old 0 ≡ length facts + 1
+  end_here = ap (λ l. get_or l c.old 0) is ∙ get_or-set_same ends c.old (length facts + 1) 0 (let long = ok.long in omega (arith, long, within))
+
+  end_there : (n : ℕ) → (n ≡ c.old → ⊥) → get_or ends' n 0 ≡ get_or ends n 0
+  end_there n other = ap (λ l. get_or l n 0) is ∙ get_or-set_other ends c.old n (length facts + 1) 0 other
+
+  longer : length (facts ++ c ∷ []) ≡ length facts + 1
+  longer = length-append facts (c ∷ [])
+
+  pub pairs_push : ArePairs (facts ++ c ∷ []) ends' held'
   pairs_push = record {
-    few = omega (arith, length-append facts (c ∷ []));
+    few = omega (arith, longer);
     once = λ i j d e di ej o n. once_case i j d e o n (get_push facts c i d di) (get_push facts c j e ej);
-    listed = λ i d e. listed_case i d (get_push facts c i d e);
-    sound = λ n i h. sound_case n i (lists_cases partners partners' c.old (length facts) within is n i h);
+    long = ap length is ∙ length-set ends c.old (length facts + 1) ∙ ok.long ∙ sym height;
+    below = λ n. below_case n (cases_eq n c.old);
+    before = λ i d e. before_case i d (get_push facts c i d e) (cases_eq d.old c.old);
+    marked = λ n n'. (λ h. has_case n n' ((adds n n').0 h), λ h. (adds n n').1 (in_case n n' h (get_push facts c h.place h.fact h.stands)));
   }
     where
+      has_case : (n n' : ℕ) → IsIn held.width held.words.items n n' ⊎ ((n ≡ c.old) × (n' ≡ c.new)) → HasPair (facts ++ c ∷ []) n n'
+      has_case n n' (inl h) = let p = (ok.marked n n').0 h in record { place = p.place; fact = p.fact; stands = get_left facts (c ∷ []) p.place p.fact p.stands; old = p.old; new = p.new }
+      has_case n n' (inr h) = record { place = length facts; fact = c; stands = get_last facts c; old = sym h.0; new = sym h.1 }
+
+      in_case : (n n' : ℕ) (h : HasPair (facts ++ c ∷ []) n n') → Front h.place h.fact → IsIn held.width held.words.items n n' ⊎ ((n ≡ c.old) × (n' ≡ c.new))
+      in_case n n' h (inl a) = inl ((ok.marked n n').1 (record { place = h.place; fact = h.fact; stands = a; old = h.old; new = h.new }))
+      in_case n n' h (inr b) = inr (sym h.old ∙ ap (λ (f : Fact). f.old) b.1, sym h.new ∙ ap (λ (f : Fact). f.new) b.1)
+
       once_case : (i j : ℕ) (d e : Fact) → d.old ≡ e.old → d.new ≡ e.new → Front i d → Front j e → i ≡ j
       once_case i j d e o n (inl a) (inl b) = ok.once i j d e a b o n
       once_case i j d e o n (inl a) (inr b) = absurd (apart i d a (o ∙ ap (λ (f : Fact). f.old) b.1) (n ∙ ap (λ (f : Fact). f.new) b.1))
       once_case i j d e o n (inr a) (inl b) = absurd (apart j e b (sym o ∙ ap (λ (f : Fact). f.old) a.1) (sym n ∙ ap (λ (f : Fact). f.new) a.1))
       once_case i j d e o n (inr a) (inr b) = a.0 ∙ sym b.0
 
-      listed_case : (i : ℕ) (d : Fact) → Front i d → Lists partners' d.old i
-      listed_case i d (inl a) = lists_kept partners partners' c.old (length facts) within is d.old i (ok.listed i d a)
-      listed_case i d (inr b) = subst₂ (λ (f : Fact) k. Lists partners' f.old k) (sym b.1) (sym b.0) (lists_added partners partners' c.old (length facts) within is)
+      below_case : (n : ℕ) → (n ≡ c.old) ⊎ (n ≡ c.old → ⊥) → get_or ends' n 0 ≤ length (facts ++ c ∷ [])
+      below_case n (inl e) = let at = ap (λ m. get_or ends' m 0) e ∙ end_here in omega (arith, at, longer)
+      below_case n (inr o) = let at = end_there n o in let b = ok.below n in omega (arith, at, b, longer)
 
-      sound_case : (n i : ℕ) → Lists partners n i ⊎ ((n ≡ c.old) × (i ≡ length facts)) → (d : Fact) × (slice_get (facts ++ c ∷ []) i ≡ Some d) × (d.old ≡ n)
-      sound_case n i (inl h) = let s = ok.sound n i h in (s.0, get_left facts (c ∷ []) i s.0 s.1, s.2)
-      sound_case n i (inr h) = (c, ap (slice_get (facts ++ c ∷ [])) h.1 ∙ get_last facts c, sym h.0)
+      before_case : (i : ℕ) (d : Fact) → Front i d → (d.old ≡ c.old) ⊎ (d.old ≡ c.old → ⊥) → i < get_or ends' d.old 0
+      before_case i d (inl a) (inl e) = let at = ap (λ m. get_or ends' m 0) e ∙ end_here in let w = slice_get_within facts i d a in omega (arith, at, w)
+      before_case i d (inl a) (inr o) = let at = end_there d.old o in let b = ok.before i d a in omega (arith, at, b)
+      before_case i d (inr b) h = let at = ap (λ (f : Fact). get_or ends' f.old 0) b.1 ∙ end_here in let place = b.0 in omega (arith, at, place)
 
 pub has_last : (facts : List Fact) (c : Fact) → HasPair (facts ++ c ∷ []) c.old c.new
 has_last facts c = record { place = length facts; fact = c; stands = get_last facts c; old = refl; new = refl }

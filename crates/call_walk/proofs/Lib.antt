@@ -18,5 +18,6 @@ mod Naming
 mod Explaining
 mod Following
 mod Counting
+mod SetBits
 mod CallWays
 mod Marking

@@ -39,12 +39,6 @@ module _ {X : Type 0} where
   get_take (suc n) (y ∷ xs) zero x e = (omega arith, e)
   get_take (suc n) (y ∷ xs) (suc i) x e = let r = get_take n xs i x e in (omega (arith, r.0), r.1)
 
-  pub in_take : (n : ℕ) (xs : List X) (i : ℕ) (x : X) → i < n → slice_get xs i ≡ Some x → slice_get (take n xs) i ≡ Some x
-  in_take zero xs i x l e = absurd (omega arith)
-  in_take (suc n) [] i x l e = cc
-  in_take (suc n) (y ∷ xs) zero x l e = e
-  in_take (suc n) (y ∷ xs) (suc i) x l e = in_take n xs i x (omega arith) e
-
   pub append_nil : (xs : List X) → xs ++ [] ≡ xs
   append_nil [] = refl
   append_nil (x ∷ xs) = ap (λ l. x ∷ l) (append_nil xs)

@@ -1,6 +1,6 @@
 -- Dangerous edges and marks in a row.
-use Rattle.std.proofs.Common.{◌≡◌, ℕ, ◌+◌, ◌<◌, ◌≤◌, List, length, set, Option, Some, None, Bool, true, false, IsTrue, refl, sym, ap, ◌∙◌, subst, subst₂, ◌⊎◌, inl, inr, arith, get_or-set_same, get_or-set_other}
-use Rattle.std.specs.Prelude.{slice_get, is_some, IfSome, IfNone}
+use Rattle.std.proofs.Common.{◌≡◌, ℕ, ◌+◌, ◌<◌, ◌≤◌, List, length, set, Some, None, Bool, true, false, IsTrue, refl, sym, ap, ◌∙◌, subst, subst₂, ◌⊎◌, inl, inr, arith, get_or-set_same, get_or-set_other}
+use Rattle.std.specs.Prelude.{slice_get}
 use Rattle.std.proofs.lemmas.Bool.{cases_lt, cases_eq}
 use Rattle.std.proofs.lemmas.Option.{slice_get_within, same_Some}
 use Rattle.csub_objects.specs.Types.{Name}
@@ -22,11 +22,6 @@ use Rattle.call_walk.proofs.Reaching.{reached_step, reached_over}
 use Rattle.call_walk.proofs.Naming.{Each, fact_held, held_reached, held_same}
 use Rattle.call_walk.proofs.Following.{pair_held, held_pair}
 use Rattle.call_walk.proofs.CallWays.{call_leads_by_next}
-
--- whether a pair has a place
-pub has_place : (facts : List Fact) (n n' : ℕ) (o : Option ℕ) → IfSome o (λ place. (c : Fact) × (slice_get facts place ≡ Some c) × (c.old ≡ n) × (c.new ≡ n')) → IfNone o (HasPair facts n n' → ⊥) → (IsTrue (is_some o) → HasPair facts n n') × (HasPair facts n n' → IsTrue (is_some o))
-has_place facts n n' None some none = (λ e. cc, λ h. absurd (none h))
-has_place facts n n' (Some place) some none = (λ e. record { place = place; fact = some.0; stands = some.1; old = some.2; new = some.3 }, λ h. refl)
 
 -- a callee comes back where the pair of its exits has a place
 pub back_at : (P P' : ProgramTree) → IsValid P → IsValid P' → (facts : List Fact) (f : Name) (p : PointTree) (k : Callee) → IsCallee P P' f p k → (HasPair facts k.exit.old k.exit.new → ComesBack P P' facts f p) × (ComesBack P P' facts f p → HasPair facts k.exit.old k.exit.new)

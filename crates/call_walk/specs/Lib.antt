@@ -3,4 +3,5 @@ pub mod Locality
 pub mod Lockstep
 pub mod Walks
 pub mod LabelRows
+pub mod Bits
 pub mod Moments

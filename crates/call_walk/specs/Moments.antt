@@ -1,6 +1,7 @@
--- A walk at a moment, for the functions inside: the facts that are held so far, the index of them by old points, the
--- calls that wait, and what has been followed.
-use Rattle.std.specs.Prelude.{ℕ, ◌≡◌, ◌<◌, ◌≤◌, ◌^◌, ◌++◌, ◌⊎◌, List, [], length, slice_get, slice_index_or, sum_by, take, Some, Bool, IsTrue}
+-- A walk at a moment, for the functions inside: the facts that are held so far, with the set of their pairs, the calls
+-- that wait, what has been followed, and how many questions that allows.
+use Rattle.std.specs.Prelude.{ℕ, ◌≡◌, ◌<◌, ◌≤◌, ◌^◌, ◌++◌, ◌⊎◌, ◌↔◌, List, [], length, slice_get, slice_index}
+use Rattle.std.specs.Prelude.{slice_index_or, sum_by, take, Some, Bool, IsTrue}
 use Rattle.std.specs.Option.{option_map}
 use Rattle.csub_objects.specs.Types.{Name}
 use Rattle.csub_semantics.specs.Points.{PointTree, entry, exit, ExitTree, next}
@@ -16,6 +17,8 @@ use Rattle.call_walk.specs.declared.fact.Why.{Why}
 use Rattle.call_walk.specs.declared.ask.Pair.{Pair}
 use Rattle.call_walk.specs.declared.ask.Callee.{Callee}
 use Rattle.call_walk.specs.declared.pairs.Pairs.{Pairs}
+use Rattle.call_walk.specs.declared.pair_set.PairSet.{PairSet}
+use Rattle.call_walk.specs.Bits.{IsIn}
 
 -- the number stands in the list at n
 pub record Lists (rows : List (List ℕ)) (n x : ℕ) : Type 0 where
@@ -59,12 +62,14 @@ pub record IsHeld (P P' : ProgramTree) (facts : List Fact) (f : Name) (p p' : Po
   pub stands : slice_get facts place ≡ Some fact
   pub at : AreAt P P' fact.old fact.new f p p'
 
--- facts without a pair twice, and by each old point the places of its facts
-pub record ArePairs (facts : List Fact) (partners : List (List ℕ)) : Type 0 where
+-- facts without a pair twice, by each old point a place behind all its facts, and the set of their pairs
+pub record ArePairs (facts : List Fact) (ends : List ℕ) (held : PairSet) : Type 0 where
   pub few : length facts < 2 ^ 32
   pub once : (i j : ℕ) (c d : Fact) → slice_get facts i ≡ Some c → slice_get facts j ≡ Some d → c.old ≡ d.old → c.new ≡ d.new → i ≡ j
-  pub listed : (i : ℕ) (c : Fact) → slice_get facts i ≡ Some c → Lists partners c.old i
-  pub sound : (n i : ℕ) → Lists partners n i → (c : Fact) × (slice_get facts i ≡ Some c) × (c.old ≡ n)
+  pub long : length ends ≡ held.height
+  pub below : (n : ℕ) → slice_index ends n ≤ length facts
+  pub before : (i : ℕ) (c : Fact) → slice_get facts i ≡ Some c → i < slice_index ends c.old
+  pub marked : (n n' : ℕ) → IsIn held.width held.words.items n n' ↔ HasPair facts n n'
 
 -- a fact's numbers are numbers of the graphs
 pub record IsWithin (g g' : Tables) (c : Fact) : Type 0 where
@@ -79,8 +84,9 @@ pub record AreExplained (g g' : Tables) (facts : List Fact) : Type 0 where
 
 -- a walk at a moment
 pub record IsMoment (g g' : Tables) (pairs : Pairs) : Type 0 where
-  pub indexed : ArePairs pairs.facts.items pairs.partners
-  pub points : length pairs.partners ≡ point_count g
+  pub indexed : ArePairs pairs.facts.items pairs.ends.items pairs.held
+  pub height : pairs.held.height ≡ point_count g
+  pub width : pairs.held.width ≡ point_count g'
   pub within : (i : ℕ) (c : Fact) → slice_get pairs.facts.items i ≡ Some c → IsWithin g g' c
   pub explained : AreExplained g g' pairs.facts.items
 
@@ -198,14 +204,14 @@ IsCalledAt g g' facts at k =
     (P P' : ProgramTree) (f : Name) (p p' : PointTree) (c : Fact) → IsGraphOf g P → IsGraphOf g' P'
     → slice_get facts at ≡ Some c → AreAt P P' c.old c.new f p p' → IsCallee P P' f p k
 
--- where the exits of the callee of a fact stand among the first n facts, the call has been passed over
-abbrev pub IsPassed : ProgramTree → ProgramTree → List Fact → ℕ → Fact → Type 0
-IsPassed P P' facts n c = (m : ℕ) (d : Fact) → m < n → slice_get facts m ≡ Some d → ComesBackAt P P' c d → HoldsNext P P' facts c next
+-- where the exits of the callee of a fact are held, the call has been passed over
+abbrev pub IsPassed : ProgramTree → ProgramTree → List Fact → Fact → Type 0
+IsPassed P P' facts c = (m : ℕ) (d : Fact) → slice_get facts m ≡ Some d → ComesBackAt P P' c d → HoldsNext P P' facts c next
 
--- what follows from one fact by steps, by its call, and by the exits of its callee that stand before it, is held afterwards
+-- what follows from one fact by steps, by its call, and by the exits of its callee that are held, is held afterwards
 pub record IsFollowed (P P' : ProgramTree) (facts : List Fact) (waiting : List (List ℕ)) (at : ℕ) (c : Fact) : Type 0 where
   pub leads : (f : Name) (p p' : PointTree) → AreAt P P' c.old c.new f p p' → LeadsOn P P' facts waiting at c f p p'
-  pub overs : IsPassed P P' facts at c
+  pub overs : IsPassed P P' facts c
 
 -- after the calls that wait for a fact of exits have been passed over: none is left, and the others wait as before
 pub record AreResumed (P P' : ProgramTree) (facts : List Fact) (before after : List (List ℕ)) (back : Fact) : Type 0 where

@@ -99,6 +99,7 @@ pub fn callee_at(old: &Graph, new: &Graph, point: u32) -> Option<Callee>
     ensures old_entry { IfSome result (λ k. k.entry.old < point_count old.now) }
     ensures new_entry { IfSome result (λ k. k.entry.new < point_count new.now) }
     ensures old_exit { IfSome result (λ k. k.exit.old < point_count old.now) }
+    ensures new_exit { IfSome result (λ k. k.exit.new < point_count new.now) }
 {
     match old.label_at(point) {
         Label::Call(call) => callee_named(old, new, &call.callee),
@@ -114,6 +115,7 @@ fn callee_named(old: &Graph, new: &Graph, name: &Text) -> Option<Callee>
     ensures old_entry { IfSome result (λ k. k.entry.old < point_count old.now) }
     ensures new_entry { IfSome result (λ k. k.entry.new < point_count new.now) }
     ensures old_exit { IfSome result (λ k. k.exit.old < point_count old.now) }
+    ensures new_exit { IfSome result (λ k. k.exit.new < point_count new.now) }
 {
     let Some(function) = old.find(name) else {
         return None;

@@ -14,7 +14,7 @@ ghost use Rattle.call_walk.specs.Moments.{ArePairs, AreWays, AreAt, IsMoment, Co
 
 use crate::ask::callee_at;
 use crate::fact::Fact;
-use crate::pairs::{Pairs, place_of};
+use crate::pairs::{Pairs, holds};
 use crate::rows::Rows;
 use csub_semantics::ExitLabel;
 use edge_trace::EdgeRow;
@@ -30,22 +30,23 @@ fn comes_back(old: &Graph, new: &Graph, pairs: &Pairs, from: Fact) -> bool
         IsTrue result ↔ ComesBack P P' pairs.now.facts.items f p }
 {
     match callee_at(old, new, from.old) {
-        Some(callee) => place_of(pairs, callee.exit.old, callee.exit.new).is_some(),
+        Some(callee) => holds(pairs, callee.exit.old, callee.exit.new),
         None => true,
     }
 }
 
 /// Whether the new point leads on along a way out, and the pair of the successors is held.
 fn goes_on(new: &Graph, pairs: &Pairs, to: u32, other: u32, exit: &ExitLabel) -> bool
-    requires pairs { ArePairs pairs.now.facts.items pairs.now.partners }
-    requires to { to < length pairs.now.partners }
+    requires pairs { ArePairs pairs.now.facts.items pairs.now.ends.items pairs.now.held }
+    requires width { pairs.now.held.width ≡ point_count new.now }
+    requires to { to < pairs.now.held.height }
     requires other { other < point_count new.now }
     ensures { (P P' : ProgramTree) (f : Name) (p p' q : PointTree) → IsGraphOf new.now P' → IsValid P →
         site_at P' other ≡ Some (site f p') → site_at P to ≡ Some (site f q) → (flow_of P).succ f p (exit_tree exit.now) ≡ Some q →
         IsTrue result ↔ GoesOn P P' pairs.now.facts.items f p p' (exit_tree exit.now) }
 {
     match new.follow(other, exit) {
-        Some(next) => place_of(pairs, to, next).is_some(),
+        Some(next) => holds(pairs, to, next),
         None => false,
     }
 }

@@ -13,7 +13,7 @@ ghost use Rattle.call_walk.specs.declared.fact.Fact.{Fact};
 use crate::ask::{Callee, Pair, are_exits, callee_at, successors};
 use crate::both::Both;
 use crate::fact::{Fact, Why};
-use crate::pairs::{Pairs, add, place_before};
+use crate::pairs::{Pairs, add, place_of};
 use crate::rows::Rows;
 use csub_semantics::ExitLabel;
 use edge_label::Steps;
@@ -119,8 +119,8 @@ fn pass_over<L: Ledger>(
     )
 }
 
-/// Passes over the call of a fact, if the exits of its callee have been followed; else the call waits for them. So it is
-/// passed over once.
+/// Passes over the call of a fact, if the exits of its callee are held; else the call waits for them. So it is passed
+/// over once.
 fn pass_or_wait<L: Ledger>(
     both: &Both<'_>,
     pairs: &mut Pairs,
@@ -135,15 +135,16 @@ fn pass_or_wait<L: Ledger>(
     requires at { at < length pairs.old.facts.items }
     requires callee { IsCalledAt both.now.old.now both.now.new.now pairs.old.facts.items at callee }
     requires old_exit { callee.exit.old < point_count both.now.old.now }
+    requires new_exit { callee.exit.new < point_count both.now.new.now }
     ensures moment { OnOk result (IsMoment both.now.old.now both.now.new.now pairs.new) }
     ensures grows { OnOk result (Extends pairs.old.facts.items pairs.new.facts.items) }
     ensures waiting { OnOk result (AreWaiting both.now.old.now both.now.new.now pairs.new.facts.items waiting.new) }
     ensures waits { OnOk result ((n j : ℕ) → Lists waiting.old n j → Lists waiting.new n j) }
     ensures own { OnOk result ((P P' : ProgramTree) (c : Fact) → IsGraphOf both.now.old.now P → IsGraphOf both.now.new.now P' → slice_get pairs.old.facts.items at ≡ Some c → Lists waiting.new callee.exit.old at ⊎ HoldsNext P P' pairs.new.facts.items c next) }
-    ensures over { OnOk result ((P P' : ProgramTree) (c : Fact) → IsGraphOf both.now.old.now P → IsGraphOf both.now.new.now P' → slice_get pairs.old.facts.items at ≡ Some c → IsPassed P P' pairs.new.facts.items at c) }
+    ensures over { OnOk result ((P P' : ProgramTree) (c : Fact) → IsGraphOf both.now.old.now P → IsGraphOf both.now.new.now P' → slice_get pairs.old.facts.items at ≡ Some c → IsPassed P P' pairs.new.facts.items c) }
     ensures cost { steps.new + count_all waiting.new ≤ steps.old + count_all waiting.old + 1 }
 {
-    match place_before(pairs, callee.exit.old, callee.exit.new, at) {
+    match place_of(pairs, callee.exit.old, callee.exit.new) {
         Some(back) => pass_over(both, pairs, at, back, steps),
         None => waiting.push(callee.exit.old, at),
     }
@@ -170,6 +171,7 @@ fn enter<L: Ledger>(
     requires old_entry { callee.entry.old < point_count both.now.old.now }
     requires new_entry { callee.entry.new < point_count both.now.new.now }
     requires old_exit { callee.exit.old < point_count both.now.old.now }
+    requires new_exit { callee.exit.new < point_count both.now.new.now }
     ensures moment { OnOk result (IsMoment both.now.old.now both.now.new.now pairs.new) }
     ensures grows { OnOk result (Extends pairs.old.facts.items pairs.new.facts.items) }
     ensures waiting { OnOk result (AreWaiting both.now.old.now both.now.new.now pairs.new.facts.items waiting.new) }

@@ -13,6 +13,7 @@ mod danger;
 pub mod fact;
 mod follow;
 pub mod laws;
+mod pair_set;
 mod pairs;
 mod rows;
 mod walking;

@@ -1,80 +1,98 @@
-//! The facts of a walk, and by each old point the places of its facts.
-ghost use Rattle.std.specs.Prelude.{◌≡◌, ◌<◌, ◌⊎◌, ◌++◌, ℕ, [], ◌∷◌, Some, length, take, slice_get, IfOk, IfSome, IfNone, OnOk};
+//! The facts of a walk, and the set of their pairs.
+ghost use Rattle.std.specs.Prelude.{◌≡◌, ◌<◌, ◌⊎◌, ◌↔◌, ◌++◌, ℕ, [], ◌∷◌, Some, length, slice_get, IfOk, IfSome, IfNone, IsTrue, OnOk};
 ghost use Rattle.call_walk.specs.Moments.{HasPair, ArePairs};
 ghost use Rattle.call_walk.specs.declared.fact.Fact.{Fact};
 
 use crate::fact::Fact;
-use crate::rows::Rows;
+use crate::pair_set::PairSet;
 use std::alloc::{AllocError, Global};
 
-/// The facts of a walk, in order, and by each old point the places of its facts. An old point has few partners, so a
-/// pair is looked for among them alone.
+/// The facts of a walk, in order. Whether a pair is held says a bit, also where an old point has many partners.
 #[derive(Drop)]
 pub struct Pairs {
     /// The facts.
     pub facts: Vec<Fact>,
-    /// The places of the facts, by their old points.
-    pub partners: Rows,
+    /// By each old point, the place behind its last fact; 0 where it has none.
+    pub ends: Vec<u32>,
+    /// The pairs of the facts.
+    pub held: PairSet,
 }
 
-/// No facts, of so many old points. An `Err` is want of memory.
-pub fn no_pairs(alloc: Global, points: u32) -> Result<Pairs, AllocError>
-    ensures pairs { IfOk result (λ pairs. ArePairs pairs.facts.items pairs.partners) }
+/// No facts, of so many old points and new ones. An `Err` is want of memory.
+pub fn no_pairs(alloc: Global, points: u32, others: u32) -> Result<Pairs, AllocError>
+    ensures pairs { IfOk result (λ pairs. ArePairs pairs.facts.items pairs.ends.items pairs.held) }
     ensures facts { IfOk result (λ pairs. pairs.facts.items ≡ []) }
-    ensures points { IfOk result (λ pairs. length pairs.partners ≡ points) }
+    ensures height { IfOk result (λ pairs. pairs.held.height ≡ points) }
+    ensures width { IfOk result (λ pairs. pairs.held.width ≡ others) }
 {
-    let partners = Rows::new(alloc, points)?;
+    let ends = vec![in alloc; 0; points as usize]?;
+    let held = PairSet::new(alloc, points as usize, others as usize)?;
     Ok(Pairs {
         facts: Vec::new(alloc),
-        partners,
+        ends,
+        held,
     })
 }
 
-/// The place of the fact of a pair. The work is in proportion to the partners of the old point.
+/// Whether a pair is held.
+pub fn holds(pairs: &Pairs, old: u32, new: u32) -> bool
+    requires pairs { ArePairs pairs.now.facts.items pairs.now.ends.items pairs.now.held }
+    requires old { old < pairs.now.held.height }
+    requires new { new < pairs.now.held.width }
+    ensures { IsTrue result ↔ HasPair pairs.now.facts.items old new }
+{
+    pairs.held.has(old as usize, new as usize)
+}
+
+/// Whether a fact is that of a pair.
+fn is_of(fact: Fact, old: u32, new: u32) -> bool
+    ensures { IsTrue result ↔ ((fact.old ≡ old) × (fact.new ≡ new)) }
+{
+    fact.old == old && fact.new == new
+}
+
+/// The place of the fact of a pair. If the pair is held, it is looked for from the last fact of its old point backwards:
+/// that of an exit, which has no other partner, is found at once.
 pub fn place_of(pairs: &Pairs, old: u32, new: u32) -> Option<u32>
-    requires pairs { ArePairs pairs.now.facts.items pairs.now.partners }
-    requires old { old < length pairs.now.partners }
+    requires pairs { ArePairs pairs.now.facts.items pairs.now.ends.items pairs.now.held }
+    requires old { old < pairs.now.held.height }
+    requires new { new < pairs.now.held.width }
     ensures some { IfSome result (λ place. (c : Fact) × (slice_get pairs.now.facts.items place ≡ Some c) × (c.old ≡ old) × (c.new ≡ new)) }
     ensures none { IfNone result (HasPair pairs.now.facts.items old new → ⊥) }
 {
-    for place in pairs.partners.row(old) {
-        if pairs.facts[*place as usize].new == new {
-            return Some(*place);
+    if !holds(pairs, old, new) {
+        return None;
+    }
+    let mut at = pairs.ends[old as usize];
+    while at > 0 {
+        at -= 1;
+        if is_of(pairs.facts[at as usize], old, new) {
+            return Some(at);
         }
     }
     None
 }
 
-/// The place of the fact of a pair, if it is one of the first facts.
-pub fn place_before(pairs: &Pairs, old: u32, new: u32, end: u32) -> Option<u32>
-    requires pairs { ArePairs pairs.now.facts.items pairs.now.partners }
-    requires old { old < length pairs.now.partners }
-    ensures some { IfSome result (λ place. (c : Fact) × (slice_get pairs.now.facts.items place ≡ Some c) × (c.old ≡ old) × (c.new ≡ new)) }
-    ensures none { IfNone result (HasPair (take end pairs.now.facts.items) old new → ⊥) }
-{
-    let Some(place) = place_of(pairs, old, new) else {
-        return None;
-    };
-    if place < end { Some(place) } else { None }
-}
-
 /// Adds a fact, unless its pair is held. An `Err` is want of memory, which a list of 2^32 facts has long before.
 pub fn add(pairs: &mut Pairs, fact: Fact) -> Result<(), AllocError>
-    requires pairs { ArePairs pairs.old.facts.items pairs.old.partners }
-    requires old { fact.old < length pairs.old.partners }
-    ensures pairs { OnOk result (ArePairs pairs.new.facts.items pairs.new.partners) }
-    ensures points { OnOk result (length pairs.new.partners ≡ length pairs.old.partners) }
+    requires pairs { ArePairs pairs.old.facts.items pairs.old.ends.items pairs.old.held }
+    requires old { fact.old < pairs.old.held.height }
+    requires new { fact.new < pairs.old.held.width }
+    ensures pairs { OnOk result (ArePairs pairs.new.facts.items pairs.new.ends.items pairs.new.held) }
+    ensures height { OnOk result (pairs.new.held.height ≡ pairs.old.held.height) }
+    ensures width { OnOk result (pairs.new.held.width ≡ pairs.old.held.width) }
     ensures facts { OnOk result ((pairs.new.facts.items ≡ pairs.old.facts.items) ⊎ (pairs.new.facts.items ≡ pairs.old.facts.items ++ fact ∷ [])) }
     ensures held { OnOk result (HasPair pairs.new.facts.items fact.old fact.new) }
 {
-    if place_of(pairs, fact.old, fact.new).is_some() {
+    if holds(pairs, fact.old, fact.new) {
         return Ok(());
     }
     if pairs.facts.len() >= 4_294_967_295 {
         return Err(AllocError);
     }
     let place = pairs.facts.len() as u32;
-    pairs.partners.push(fact.old, place)?;
     pairs.facts.push(fact)?;
+    pairs.ends[fact.old as usize] = place + 1;
+    pairs.held.add(fact.old as usize, fact.new as usize);
     Ok(())
 }

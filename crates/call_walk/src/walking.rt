@@ -26,7 +26,7 @@ fn start(alloc: Global, old: &Graph, new: &Graph) -> Result<Pairs, AllocError>
     ensures moment { IfOk result (IsMoment old.now new.now) }
     ensures held { IfOk result (λ pairs. (P P' : ProgramTree) → IsGraphOf old.now P → IsGraphOf new.now P' → IsHeld P P' pairs.facts.items start_name entry entry) }
 {
-    let mut pairs = no_pairs(alloc, old.points())?;
+    let mut pairs = no_pairs(alloc, old.points(), new.points())?;
     if old.points() == 0 || new.points() == 0 {
         return Ok(pairs);
     }
@@ -66,10 +66,10 @@ fn reach<L: Ledger>(
 /// The walk of an old program and a new one, by their graphs: the reached pairs, each once and with its reason, and the
 /// dangerous edges (Rothermel and Harrold, ACM TOSEM 6(2), 1997). An `Err` is want of memory.
 ///
-/// Each point's label gets a number at the beginning. For each edge of a reached pair the edge's exit label is looked for at
-/// the new point, a case of a `switch` by a logarithm, and two numbers are compared once at most; `steps` counts these
-/// comparisons, also before an `Err`. A pair is looked for among the reached pairs of its old point, and functions are looked
-/// for by their names, one by one.
+/// Each point's label gets a number at the beginning. Beside one comparison of two numbers at most for each edge of a
+/// reached pair, which `steps` counts, also before an `Err`, the edge's exit label is looked for at the new point, a case
+/// of a `switch` by a logarithm, and functions are looked for by their names, one by one. Whether a pair is held says a
+/// bit: there is one for each old point and new point.
 pub fn walk<L: Ledger>(
     alloc: Global,
     old: &Graph,
@@ -92,6 +92,10 @@ pub fn walk<L: Ledger>(
     let ways = list_ways(alloc, old)?;
     let pairs = reach(alloc, &both, &ways, steps)?;
     let danger = dangerous(alloc, old, new, &ways, &pairs)?;
-    let Pairs { facts, partners: _ } = pairs;
+    let Pairs {
+        facts,
+        ends: _,
+        held: _,
+    } = pairs;
     Ok(WalkResult { facts, danger })
 }

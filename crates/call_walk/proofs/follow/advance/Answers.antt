@@ -1,5 +1,6 @@
 use Rattle.csub_semantics.specs.Points.{exit_tree}
-use Rattle.call_walk.proofs.Explaining.{moment_more, contained, on_ok, on_ok_3, together_held}
+use Rattle.call_walk.proofs.Explaining.{moment_more, contained, on_ok, on_ok_4, together_held}
+use Rattle.call_walk.proofs.Indexed.{extends_added}
 use Rattle.call_walk.proofs.Naming.{at_named}
 use Rattle.call_walk.proofs.follow.advance.Goals as goal
 
@@ -16,9 +17,12 @@ pub returns-clause-moment : goal.returns-clause-moment
 returns-clause-moment g c =
     let at = contained c.args.pairs.now.facts.items c.args.from c.requires.among in
     let w = c.requires.moment.within at.0 c.args.from at.1 in
-    on_ok_3 c.add.result (moment_more c.args.both.now.old.now c.args.both.now.new.now c.args.pairs.now c.add.new.pairs _ c.requires.moment (record { function = w.function; old = c.in-Some.ensures.old; new = c.in-Some.ensures.new })
+    on_ok_4 c.add.result (moment_more c.args.both.now.old.now c.args.both.now.new.now c.args.pairs.now c.add.new.pairs _ c.requires.moment (record { function = w.function; old = c.in-Some.ensures.old; new = c.in-Some.ensures.new })
     (λ P P' ok ok'. let n = (c.requires.moment.explained.each P P' ok ok' at.0 c.args.from at.1).named in c.requires.why P P' ok ok' n.name n.point n.other (at_named P P' c.args.from n) c.in-Some.next (c.in-Some.ensures.together P P' n.name n.point n.other ok ok' (at_named P P' c.args.from n))))
-    c.add.ensures.pairs c.add.ensures.points c.add.ensures.facts
+    c.add.ensures.pairs c.add.ensures.height c.add.ensures.width c.add.ensures.facts
+
+pub returns-clause-grows : goal.returns-clause-grows
+returns-clause-grows g c = on_ok c.add.result (λ facts. extends_added c.args.pairs.now.facts.items c.add.new.pairs.facts.items _ facts) c.add.ensures.facts
 
 pub returns-clause-held : goal.returns-clause-held
 returns-clause-held g c = on_ok c.add.result (λ h P P' ok ok' f p p' q q' at both. together_held P P' c.add.new.pairs.facts.items f p p' q q' (exit_tree c.args.exit.now) c.in-Some.next (c.in-Some.ensures.together P P' f p p' ok ok' at) h both) c.add.ensures.held

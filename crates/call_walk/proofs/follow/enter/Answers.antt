@@ -19,13 +19,13 @@ use Rattle.call_walk.proofs.follow.enter.Goals as goal
 -- the entries of a callee are added
 entries_added : (g g' : Tables) (before after : Pairs) (at : ℕ) (from : Fact) (k : Callee) → IsMoment g g' before → slice_get before.facts.items at ≡ Some from → IsCalledAt g g' before.facts.items at k
     → IsWithin g g' (record { function = k.function; old = k.entry.old; new = k.entry.new; why = Call at })
-    → ArePairs after.facts.items after.partners → length after.partners ≡ length before.partners
+    → ArePairs after.facts.items after.ends.items after.held → after.held.height ≡ before.held.height → after.held.width ≡ before.held.width
     → (after.facts.items ≡ before.facts.items) ⊎ (after.facts.items ≡ before.facts.items ++ record { function = k.function; old = k.entry.old; new = k.entry.new; why = Call at } ∷ []) → IsMoment g g' after
-entries_added g g' before after at from k ok stands called within indexed points facts =
+entries_added g g' before after at from k ok stands called within indexed height width facts =
     moment_more g g' before after (record { function = k.function; old = k.entry.old; new = k.entry.new; why = Call at }) ok within
     (λ P P' graph graph'. let n = moment_named g g' before ok P P' graph graph' at from stands in
     call_explained P P' before.facts.items at from n.name n.point n.other k stands n (at_named P P' from n) (called P P' n.name n.point n.other from graph graph' stands (at_named P P' from n)))
-    indexed points facts
+    indexed height width facts
 
 empty_row : (row : List ℕ) (b : Bool) → b ≡ eqb (length row) 0 → b ≡ true → row ≡ []
 empty_row [] b is t = refl
@@ -38,7 +38,7 @@ some_row (x ∷ row) b is f = omega arith
 pub returns-then-is_empty-clause-moment : goal.returns-then-is_empty-clause-moment
 returns-then-is_empty-clause-moment g c =
     entries_added c.args.both.now.old.now c.args.both.now.new.now c.args.pairs.now c.add.new.pairs c.args.at c.args.from c.args.callee c.requires.moment c.requires.stands c.requires.callee
-    (record { function = c.requires.function; old = c.requires.old_entry; new = c.requires.new_entry }) c.in_ok-add.ensures.pairs c.in_ok-add.ensures.points c.in_ok-add.ensures.facts
+    (record { function = c.requires.function; old = c.requires.old_entry; new = c.requires.new_entry }) c.in_ok-add.ensures.pairs c.in_ok-add.ensures.height c.in_ok-add.ensures.width c.in_ok-add.ensures.facts
 
 pub returns-then-is_empty-clause-grows : goal.returns-then-is_empty-clause-grows
 returns-then-is_empty-clause-grows g c = extends_added c.args.pairs.now.facts.items c.add.new.pairs.facts.items _ c.in_ok-add.ensures.facts
@@ -49,7 +49,7 @@ returns-then-is_empty-clause-waiting g c = waiting_extends c.args.both.now.old.n
 pub returns-then-is_empty-clause-followed : goal.returns-then-is_empty-clause-followed
 returns-then-is_empty-clause-followed g c P P' ok ok' =
     entered P P' ok.valid c.add.new.pairs.facts.items c.add.new.pairs.facts.items c.args.waiting.now c.args.at c.args.from c.args.callee (λ f p p' at. c.requires.callee P P' f p p' c.args.from ok ok' c.requires.stands at) c.in_ok-add.ensures.held extends_none (inr none)
-    (passed_by P P' c.add.new.pairs.facts.items c.args.at c.args.from none)
+    (passed_by P P' c.add.new.pairs.facts.items c.args.from none)
   where
     none : HoldsNext P P' c.add.new.pairs.facts.items c.args.from next
     none = no_way c.args.both.now.old.now P P' ok c.args.ways.now c.requires.ways c.add.new.pairs.facts.items c.args.from c.row.result.now c.row.ensures (empty_row c.row.result.now c.is_empty.result c.is_empty.ensures c.if-is_empty.true) next
@@ -57,7 +57,7 @@ returns-then-is_empty-clause-followed g c P P' ok ok' =
 pub pass_or_wait-requires-clause-moment : goal.pass_or_wait-requires-clause-moment
 pass_or_wait-requires-clause-moment g c =
     entries_added c.args.both.now.old.now c.args.both.now.new.now c.args.pairs.now c.add.new.pairs c.args.at c.args.from c.args.callee c.requires.moment c.requires.stands c.requires.callee
-    (record { function = c.requires.function; old = c.requires.old_entry; new = c.requires.new_entry }) c.in_ok-add.ensures.pairs c.in_ok-add.ensures.points c.in_ok-add.ensures.facts
+    (record { function = c.requires.function; old = c.requires.old_entry; new = c.requires.new_entry }) c.in_ok-add.ensures.pairs c.in_ok-add.ensures.height c.in_ok-add.ensures.width c.in_ok-add.ensures.facts
 
 pub pass_or_wait-requires-clause-at : goal.pass_or_wait-requires-clause-at
 pass_or_wait-requires-clause-at g c =

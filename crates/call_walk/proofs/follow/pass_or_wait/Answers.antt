@@ -18,7 +18,7 @@ pub returns-in-Some-clause-own : goal.returns-in-Some-clause-own
 returns-in-Some-clause-own g c = on_ok c.pass_over.result (λ h P P' d ok ok' e. inr (h P P' d ok ok' e)) c.pass_over.ensures.held
 
 pub returns-in-Some-clause-over : goal.returns-in-Some-clause-over
-returns-in-Some-clause-over g c = on_ok c.pass_over.result (λ h P P' d ok ok' e. passed_by P P' c.pass_over.new.pairs.facts.items c.args.at d (h P P' d ok ok' e)) c.pass_over.ensures.held
+returns-in-Some-clause-over g c = on_ok c.pass_over.result (λ h P P' d ok ok' e. passed_by P P' c.pass_over.new.pairs.facts.items d (h P P' d ok ok' e)) c.pass_over.ensures.held
 
 pub returns-in-None-clause-moment : goal.returns-in-None-clause-moment
 returns-in-None-clause-moment g c = on_ok c.push.result (λ h. c.requires.moment) c.push.ensures.appended
@@ -49,7 +49,7 @@ returns-in-None-clause-own g c = on_ok c.push.result (λ is P P' d ok ok' e. inl
     within = let p = c.requires.waiting.points in let b = c.requires.old_exit in omega (arith, p, b)
 
 pub returns-in-None-clause-over : goal.returns-in-None-clause-over
-returns-in-None-clause-over g c = on_ok c.push.result (λ is P P' d ok ok' e. none_back P P' ok.valid ok'.valid c.args.pairs.now.facts.items c.args.at d c.args.callee (λ f p p' at. c.requires.callee P P' f p p' d ok ok' e at) c.in-None.ensures.none) c.push.ensures.appended
+returns-in-None-clause-over g c = on_ok c.push.result (λ is P P' d ok ok' e. none_back P P' ok.valid ok'.valid c.args.pairs.now.facts.items d c.args.callee (λ f p p' at. c.requires.callee P P' f p p' d ok ok' e at) c.in-None.ensures.none) c.push.ensures.appended
 
 pub returns-in-None-clause-cost : goal.returns-in-None-clause-cost
 returns-in-None-clause-cost g c = let more = push_count c.args.waiting.now c.push.new.self c.args.callee.exit.old within c.push.result c.args.at c.push.ensures.appended c.push.ensures.unchanged in omega (arith, more)

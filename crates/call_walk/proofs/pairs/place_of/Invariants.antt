@@ -1,7 +1,13 @@
-use Rattle.std.proofs.Common.{◌≡◌, ◌<◌, ℕ, Some}
+use Rattle.std.proofs.Common.{◌≡◌, ◌≤◌, ℕ, Some, length}
 use Rattle.std.specs.Prelude.{slice_get}
 use Rattle.call_walk.specs.declared.fact.Fact.{Fact}
 use Rattle.call_walk.proofs.pairs.place_of.Given as goal
 
-abbrev pub invariant-loop-place : goal.invariant-loop-place
-invariant-loop-place l = (k i : ℕ) (c : Fact) → k < l.place-index → slice_get l.place-items k ≡ Some i → slice_get l.pairs.facts.items i ≡ Some c → c.new ≡ l.new → ⊥
+abbrev pub invariant-loop-at : goal.invariant-loop-at
+invariant-loop-at l = record {
+  upto : l.at ≤ length l.pairs.facts.items;
+  none : (k : ℕ) (c : Fact) → l.at ≤ k → slice_get l.pairs.facts.items k ≡ Some c → c.old ≡ l.old → c.new ≡ l.new → ⊥;
+}
+
+abbrev pub decreases-loop-at : goal.decreases-loop-at
+decreases-loop-at l = l.at
