@@ -1,7 +1,6 @@
 -- Which sources are accepted, and why others aren't.
 use Rattle.std.specs.Prelude.{ℕ, ◌+◌, ◌≤◌, ◌<◌, ◌≡◌, List, [], ◌∷◌, length, drop}
 use Rattle.csub_text.specs.declared.span.Span.{Span}
-use Rattle.csub_lex.specs.declared.error.FaultKind.{FaultKind}
 use Rattle.csub_lex.specs.declared.token.Token.{Token}
 use Rattle.csub_lex.specs.Tokens.{Tokens, Fault}
 use Rattle.csub_tree.specs.Units.{Source}
@@ -62,3 +61,10 @@ HasCause bytes (Syntax at) = NoUnitAt bytes at
 HasCause bytes (Meaning rule at) = Refuses bytes (λ u. resolved.HasCause u (resolving.Meaning rule at))
 HasCause bytes (Limit number count) = Refuses bytes (λ u. resolved.HasCause u (resolving.Limit number count))
 HasCause bytes Memory = Unit {0}
+
+-- the place that is told lies in the source, or at its end
+abbrev pub TellsWithin : List ℕ → SourceError → Type 0
+TellsWithin bytes (Lex kind at) = at.start < length bytes
+TellsWithin bytes (Syntax at) = (at.start ≤ at.end) × (at.end ≤ length bytes)
+TellsWithin bytes (Meaning rule at) = (at.start ≤ at.end) × (at.end ≤ length bytes)
+TellsWithin bytes cause = Unit {0}

@@ -5,7 +5,7 @@ ghost use Rattle.csub_lex.specs.Tokens.{Tokens};
 ghost use Rattle.csub_semantics.specs.Syntax.{ProgramTree, program_tree};
 ghost use Rattle.csub_tree.specs.Units.{Source, unit_tree};
 ghost use Rattle.csub_parse.specs.Syntax as syntax;
-ghost use Rattle.csub_accept.specs.Accepted.{Accepted, HasCause, place_of};
+ghost use Rattle.csub_accept.specs.Accepted.{Accepted, HasCause, TellsWithin, place_of};
 ghost use Rattle.csub_accept.specs.declared.error.SourceError.TheVariants.{Lex, Memory};
 
 use crate::error::SourceError;
@@ -99,6 +99,8 @@ pub fn accept(alloc: Global, source: &[u8]) -> Result<Program, SourceError>
     ensures only { (P : ProgramTree) → Accepted source.now P → MatchResult result (λ program. program_tree program ≡ P) (λ error. error ≡ Memory) }
     // Where each error comes.
     ensures cause { IfErr result (HasCause source.now) }
+    // The place that it tells lies in the source, or at its end.
+    ensures place { IfErr result (TellsWithin source.now) }
 {
     if source.len() > MOST_BYTES {
         return Err(SourceError::TooLong(source.len()));
