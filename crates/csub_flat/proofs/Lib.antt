@@ -2,6 +2,7 @@ pub mod LawsOrder
 pub mod LawsSites
 pub mod LawsSized
 pub mod LawsRows
+pub mod LawsThreads
 mod Objects
 mod Sized
 mod Arguments

@@ -9,8 +9,8 @@
 //! which every object has its place in the frame of its function or among the globals, the ways out of its switches, by
 //! which [`Choices::choose`] finds the one for a value (`specs/Ways`), and the counts of slots of the globals and of the
 //! greatest frame (`IsFlatOf` of `specs/Copies`). Proofs above cite `proofs/LawsSites`, points and functions by their
-//! numbers and names; `proofs/LawsOrder`, numbers in order; `proofs/LawsSized`, the types of places; and
-//! `proofs/LawsRows`, rows of expressions as lists.
+//! numbers and names; `proofs/LawsOrder`, numbers in order; `proofs/LawsSized`, the types of places;
+//! `proofs/LawsRows`, rows of expressions as lists; and `proofs/LawsThreads`, that workers may share a flat program.
 #![tactic(auto)]
 
 pub mod choices;

@@ -1,4 +1,3 @@
 mod JoinLemmas
 mod RunLemmas
-mod Threads
 mod Zips
