@@ -1,0 +1,5 @@
+mod DrawLemmas
+mod PairLemmas
+mod SuiteLemmas
+mod TestLemmas
+mod TextLemmas
