@@ -1,5 +1,3 @@
-mod Lists
-mod Reaching
 mod ReachedClosed
 mod Agreeing
 mod Evaluating
@@ -10,14 +8,6 @@ mod Covering
 mod Turns
 mod Together
 mod Respecting
-mod Indexed
-mod Labelling
-mod Numbered
-mod Asked
-mod Naming
-mod Explaining
-mod Following
-mod Counting
-mod SetBits
 mod CallWays
 mod Marking
+mod Entering

@@ -1,5 +1,5 @@
--- Dangerous edges and marks in a row.
-use Rattle.std.proofs.Common.{◌≡◌, ℕ, ◌+◌, ◌<◌, ◌≤◌, List, length, set, Some, None, Bool, true, false, IsTrue, refl, sym, ap, ◌∙◌, subst, subst₂, ◌⊎◌, inl, inr, arith, get_or-set_same, get_or-set_other}
+-- Dangerous edges, marks in a row, and what both make of held facts.
+use Rattle.std.proofs.Common.{◌≡◌, ℕ, ◌+◌, ◌<◌, ◌≤◌, List, length, set, Some, None, Bool, true, false, IsTrue, refl, sym, ap, ◌∙◌, subst, subst₂, ◌↔◌, ◌⊎◌, inl, inr, arith, get_or-set_same, get_or-set_other}
 use Rattle.std.specs.Prelude.{slice_get}
 use Rattle.std.proofs.lemmas.Bool.{cases_lt, cases_eq}
 use Rattle.std.proofs.lemmas.Option.{slice_get_within, same_Some}
@@ -7,20 +7,22 @@ use Rattle.csub_objects.specs.Types.{Name}
 use Rattle.csub_semantics.specs.Labels.{CallTree, call_of, PointLabel}
 use Rattle.csub_semantics.specs.Points.{PointTree, exit, ExitTree, next}
 use Rattle.csub_semantics.specs.Syntax.{ProgramTree}
-use Rattle.csub_semantics.specs.Flows.{Edge, flow_of}
+use Rattle.csub_semantics.specs.Flows.{Edge, edge_list, flow_of}
 use Rattle.csub_semantics.specs.Numbers.{Site, site, edge_at}
 use Rattle.csub_semantics.specs.Books.{Together, CallsAt, IsNoCallAt, Reached, Dangerous}
 use Rattle.csub_semantics.proofs.LawsLabels.{call_or_none}
 use Rattle.csub_validity.specs.Valid.{IsValid}
 use Rattle.edge_trace.specs.Rows.{has}
-use Rattle.call_walk.specs.declared.fact.Fact.{Fact}
-use Rattle.call_walk.specs.declared.ask.Callee.{Callee}
-use Rattle.call_walk.specs.Walks.{IsNamed, LeavesFrom}
-use Rattle.call_walk.specs.Moments.{AreAt, HasPair, IsHeld, IsCallee, ComesBack, GoesOn, Stops, IsStopped, IsStoppedBefore, Marks}
-use Rattle.call_walk.proofs.ReachedClosed.{one_callee}
-use Rattle.call_walk.proofs.Reaching.{reached_step, reached_over}
-use Rattle.call_walk.proofs.Naming.{Each, fact_held, held_reached, held_same}
-use Rattle.call_walk.proofs.Following.{pair_held, held_pair}
+use Rattle.dual_walk.specs.declared.fact.Fact.{Fact}
+use Rattle.dual_walk.specs.declared.ask.Callee.{Callee}
+use Rattle.dual_walk.specs.Books.{IsNamed, LeavesFrom, AreReasoned}
+use Rattle.dual_walk.specs.Held.{AreAt, HasPair, IsHeld}
+use Rattle.dual_walk.specs.Callees.{IsCallee}
+use Rattle.dual_walk.proofs.LawsReaching.{one_callee, reached_step, reached_over}
+use Rattle.dual_walk.proofs.LawsFacts.{book_of, fact_held, held_named, held_reached, held_same, pair_held, held_pair}
+use Rattle.call_walk.specs.declared.answer.WalkResult.{WalkResult}
+use Rattle.call_walk.specs.Walks.{IsWalk}
+use Rattle.call_walk.specs.Danger.{ComesBack, GoesOn, Stops, IsStopped, IsStoppedBefore, Marks}
 use Rattle.call_walk.proofs.CallWays.{call_leads_by_next}
 
 -- a callee comes back where the pair of its exits has a place
@@ -124,21 +126,21 @@ module _ (P P' : ProgramTree) (facts : List Fact) where
           m.marked e (subst (λ f. IsStopped P P' facts f e) one h.stopped)
 
 -- an edge is dangerous exactly where it stops at a fact, if the facts hold every reached pair
-module _ (P P' : ProgramTree) (valid : IsValid P) (valid' : IsValid P') (facts : List Fact) (each : Each P P' facts) (all : (f : Name) (p p' : PointTree) → Reached (flow_of P) (flow_of P') f p p' → IsHeld P P' facts f p p') where
+module _ (P P' : ProgramTree) (valid : IsValid P) (valid' : IsValid P') (facts : List Fact) (are : AreReasoned P P' facts) (all : (f : Name) (p p' : PointTree) → Reached (flow_of P) (flow_of P') f p p' → IsHeld P P' facts f p p') where
   -- successors with equal labels are reached
   next_reached : (f : Name) (p p' q q' : PointTree) (x : ExitTree) → IsHeld P P' facts f p p' → ComesBack P P' facts f p → Together (flow_of P) (flow_of P') f p p' x q q' → Reached (flow_of P) (flow_of P') f q q'
   next_reached f p p' q q' x h back both =
-      let same = held_same P P' facts each valid valid' f p p' h in
+      let same = held_same P P' facts are valid valid' f p p' h in
       by_label same.label same.old (call_or_none (call_of same.label.tree))
     where
       by_label : (l : PointLabel) → (flow_of P).label f p ≡ Some l → ((c : CallTree) × (call_of l.tree ≡ Some c)) ⊎ (call_of l.tree ≡ None) → Reached (flow_of P) (flow_of P') f q q'
       by_label l e (inl c) =
           let at : CallsAt (flow_of P) f p c.0.callee = record { label = l; labelled = e; call = c.0; is = c.1; callee = refl } in
           let x_next : x ≡ next = call_leads_by_next P valid f p q l c.0 x e c.1 both.old in
-          reached_over (flow_of P) (flow_of P') f p p' q q' c.0.callee (held_reached P P' facts each f p p' h) at (held_reached P P' facts each c.0.callee exit exit (back c.0.callee at)) (subst (λ y. Together (flow_of P) (flow_of P') f p p' y q q') x_next both)
+          reached_over (flow_of P) (flow_of P') f p p' q q' c.0.callee (held_reached P P' facts are f p p' h) at (held_reached P P' facts are c.0.callee exit exit (back c.0.callee at)) (subst (λ y. Together (flow_of P) (flow_of P') f p p' y q q') x_next both)
       by_label l e (inr none) =
           let plain : IsNoCallAt (flow_of P) f p = record { label = l; labelled = e; none = none } in
-          reached_step (flow_of P) (flow_of P') f p p' q q' x (held_reached P P' facts each f p p' h) plain both
+          reached_step (flow_of P) (flow_of P') f p p' q q' x (held_reached P P' facts are f p p' h) plain both
 
   danger_from : (e : ℕ) (edge : Edge) → edge_at P e ≡ Some edge → IsStoppedBefore P P' facts (length facts) e → Dangerous (flow_of P) (flow_of P') edge.function edge.from edge.exit
   danger_from e edge numbered h =
@@ -148,9 +150,9 @@ module _ (P P' : ProgramTree) (valid : IsValid P) (valid' : IsValid P') (facts :
         to = s.to;
         leads = s.leads;
         other = s.other;
-        reached = held_reached P P' facts each s.edge.function s.edge.from s.other (here);
+        reached = held_reached P P' facts are s.edge.function s.edge.from s.other (here);
         none = λ q' leads' alike. s.stops (record { to = s.to; to' = q'; leads = s.leads; leads' = leads'; held = all s.edge.function s.to q' (next_reached s.edge.function s.edge.from s.other s.to q' s.edge.exit here h.stopped.back (record { old = s.leads; new = leads'; same = alike })) });
-        returns = λ g called. held_reached P P' facts each g exit exit (h.stopped.back g called);
+        returns = λ g called. held_reached P P' facts are g exit exit (h.stopped.back g called);
       })
     where
       here : IsHeld P P' facts h.stopped.stops.edge.function h.stopped.stops.edge.from h.stopped.stops.other
@@ -173,7 +175,31 @@ module _ (P P' : ProgramTree) (valid : IsValid P) (valid' : IsValid P') (facts :
       stops : GoesOn P P' facts edge.function edge.from d.other edge.exit → ⊥
       stops g =
           let old : g.to ≡ d.to = same_Some g.to d.to (sym g.leads ∙ d.leads) in
-          d.none g.to' g.leads' (held_same P P' facts each valid valid' edge.function d.to g.to' (subst (λ q. IsHeld P P' facts edge.function q g.to') old g.held))
+          d.none g.to' g.leads' (held_same P P' facts are valid valid' edge.function d.to g.to' (subst (λ q. IsHeld P P' facts edge.function q g.to') old g.held))
 
   pub danger_iff : (e : ℕ) (edge : Edge) → edge_at P e ≡ Some edge → (IsStoppedBefore P P' facts (length facts) e → Dangerous (flow_of P) (flow_of P') edge.function edge.from edge.exit) × (Dangerous (flow_of P) (flow_of P') edge.function edge.from edge.exit → IsStoppedBefore P P' facts (length facts) e)
   danger_iff e edge numbered = (danger_from e edge numbered, danger_to e edge numbered)
+
+-- facts that hold every reached pair, with a row that has the edges at which they stop
+pub record IsMarked (P P' : ProgramTree) (facts : List Fact) (row : List Bool) : Type 0 where
+  pub reasoned : AreReasoned P P' facts
+  pub once : (i j : ℕ) (c d : Fact) → slice_get facts i ≡ Some c → slice_get facts j ≡ Some d → c.old ≡ d.old → c.new ≡ d.new → i ≡ j
+  pub all : (f : Name) (p p' : PointTree) → Reached (flow_of P) (flow_of P') f p p' → IsHeld P P' facts f p p'
+  pub edges : length row ≡ length (edge_list P)
+  pub marked : (e : ℕ) → IsTrue (has row e) ↔ IsStoppedBefore P P' facts (length facts) e
+
+-- are a walk
+pub walk_of : (P P' : ProgramTree) → IsValid P → IsValid P' → (facts : List Fact) (result : WalkResult) → result.facts.items ≡ facts → IsMarked P P' facts result.danger → IsWalk P P' result
+walk_of P P' valid valid' facts result is h = of (subst (λ l. IsMarked P P' l result.danger) (sym is) h)
+  where
+    of : IsMarked P P' result.facts.items result.danger → IsWalk P P' result
+    of m = record {
+      book = book_of P P' result.facts.items m.reasoned;
+      reasons = m.reasoned.each;
+      once = m.once;
+      all = λ f p p' r. held_named P P' result.facts.items m.reasoned f p p' (m.all f p p' r);
+      edges = m.edges;
+      danger = λ e edge numbered.
+          let d = danger_iff P P' valid valid' result.facts.items m.reasoned m.all e edge numbered in
+          (λ x. d.0 ((m.marked e).0 x), λ x. (m.marked e).1 (d.1 x));
+    }

@@ -1,30 +1,14 @@
 -- The reached pairs and the dangerous edges are a closed claim.
 use Rattle.std.proofs.Common.{◌≡◌, Option, Some, None, refl, sym, ap, ◌∙◌, subst, ◌⊎◌, inl, inr}
 use Rattle.csub_objects.specs.Types.{Name}
-use Rattle.csub_semantics.specs.Labels.{CallTree, call_of, PointLabel}
-use Rattle.csub_semantics.specs.Points.{PointTree, entry, exit, ExitTree, next}
+use Rattle.csub_semantics.specs.Labels.{PointLabel}
+use Rattle.csub_semantics.specs.Points.{PointTree, exit, ExitTree, next}
 use Rattle.csub_semantics.specs.Flows.{Flow}
-use Rattle.csub_semantics.specs.Books.{SameLabel, Together, CallsAt, IsNoCallAt, Reached, Dangerous, GoesOn, Closed}
+use Rattle.csub_semantics.specs.Books.{SameLabel, Together, CallsAt, Reached, Dangerous, GoesOn, Closed}
 use Rattle.program_laws.specs.Decided.{Decided}
-use Rattle.program_laws.specs.Flows.{entry_label, IsFlow}
+use Rattle.program_laws.specs.Flows.{IsFlow}
 use Rattle.program_laws.proofs.LawsLabels.{labels_decided}
-use Rattle.call_walk.proofs.Reaching.{reached_start, reached_step, reached_call, reached_over, every_reached}
-
--- a point that calls g calls nothing else, and calls something
-pub one_callee : (P : Flow) (f : Name) (p : PointTree) (g h : Name) → CallsAt P f p g → CallsAt P f p h → g ≡ h
-one_callee P f p g h a b =
-    let both : ◌≡◌ {A = Option PointLabel} (Some a.label) (Some b.label) = sym a.labelled ∙ b.labelled in
-    let same : a.label ≡ b.label = cc in
-    let calls : ◌≡◌ {A = Option CallTree} (Some a.call) (Some b.call) = sym a.is ∙ ap (λ (l : PointLabel). call_of l.tree) same ∙ b.is in
-    let one : a.call ≡ b.call = cc in
-    sym a.callee ∙ ap (λ (c : CallTree). c.callee) one ∙ b.callee
-
-pub calls_or_not : (P : Flow) (f : Name) (p : PointTree) (g : Name) → IsNoCallAt P f p → CallsAt P f p g → ⊥
-calls_or_not P f p g plain at =
-    let both : ◌≡◌ {A = Option PointLabel} (Some plain.label) (Some at.label) = sym plain.labelled ∙ at.labelled in
-    let same : plain.label ≡ at.label = cc in
-    let calls : ◌≡◌ {A = Option CallTree} None (Some at.call) = sym plain.none ∙ ap (λ (l : PointLabel). call_of l.tree) same ∙ at.is in
-    cc
+use Rattle.dual_walk.proofs.LawsReaching.{reached_start, reached_step, reached_call, reached_over, reached_same, one_callee, calls_or_not}
 
 module _ (P P' : Flow) where
   abbrev Same : Name → PointTree → PointTree → Type 0
@@ -57,30 +41,11 @@ module _ (P P' : Flow) where
           decide (inl s) = inr (record { to = q'; leads = eo; claimed = on q' (record { old = e; new = eo; same = s }) })
           decide (inr n) = inl (danger (λ q2 e2 s. let a : ◌≡◌ {A = Option PointTree} (Some q') (Some q2) = sym eo ∙ e2 in let b : q2 ≡ q' = cc in n (subst (λ y. Same f q y) b s)))
 
-  -- both points of a reached pair have equal labels
   module _ (ok : IsFlow P) (ok' : IsFlow P') where
-    entries : (f : Name) (p p' : PointTree) (g : Name) → Same f p p' → CallsAt P f p g → Same g entry entry
-    entries f p p' g s at =
-        let both : ◌≡◌ {A = Option PointLabel} (Some s.label) (Some at.label) = sym s.old ∙ at.labelled in
-        let same : s.label ≡ at.label = cc in
-        let call : call_of s.label.tree ≡ Some at.call = ap (λ (l : PointLabel). call_of l.tree) same ∙ at.is in
-        subst (λ n. Same n entry entry) at.callee (record {
-          label = entry_label;
-          old = ok.called f p s.label at.call s.old call;
-          new = ok'.called f p' s.label at.call s.new call;
-        })
-
-    pub reached_same : (f : Name) (p p' : PointTree) → Reached P P' f p p' → Same f p p'
-    reached_same = every_reached P P' Same
-        (record { label = entry_label; old = ok.starts; new = ok'.starts })
-        (λ f p p' q q' x s plain both. both.same)
-        entries
-        (λ f p p' q q' g s at e both. both.same)
-
     pub reached_closed : Closed P P' (Reached P P') (Dangerous P P')
     reached_closed = record {
       starts = reached_start P P';
-      same = reached_same;
+      same = reached_same P P' ok ok';
       steps = λ f p p' q x r plain e. on_or_danger f p p' q x r (λ g at. absurd (calls_or_not P f p g plain at)) (λ q' both. reached_step P P' f p p' q q' x r plain both) e;
       enters = λ f p p' g r at. reached_call P P' f p p' g r at;
       over = λ f p p' q g r at back e. on_or_danger f p p' q next r (λ h at'. subst (λ n. Reached P P' n exit exit) (one_callee P f p g h at at') back) (λ q' both. reached_over P P' f p p' q q' g r at back both) e;

@@ -2,6 +2,4 @@ pub mod Shared
 pub mod Locality
 pub mod Lockstep
 pub mod Walks
-pub mod LabelRows
-pub mod Bits
-pub mod Moments
+pub mod Danger

@@ -5,18 +5,16 @@
 //! status, output and number of turns ([`laws::lockstep`]). The same holds over every closed claim, whoever made it
 //! ([`laws::certificate`]), and the reached pairs with the dangerous edges are one ([`laws::reached_is_closed`]). Both
 //! rest on acts being local ([`laws::locality`]).
+//!
+//! [`walk`] finds the reached pairs and the dangerous edges. Its steps are those of a `dual_walk::Walk`; what is done here
+//! is to enter the callees and to mark the edges.
 #![tactic(auto)]
 
-mod ask;
-mod both;
+pub mod answer;
 mod danger;
-pub mod fact;
-mod follow;
 pub mod laws;
-mod pair_set;
-mod pairs;
-mod rows;
 mod walking;
 
-pub use fact::{Fact, WalkResult, Why};
+pub use answer::WalkResult;
+pub use dual_walk::{Fact, Why};
 pub use walking::walk;

@@ -1,66 +1,120 @@
 //! The walk of two programs through calls.
-ghost use Rattle.std.specs.Prelude.{◌≡◌, ◌≤◌, ◌+◌, ◌*◌, IfOk};
-ghost use Rattle.csub_semantics.specs.Points.{entry};
-ghost use Rattle.csub_semantics.specs.Flows.{start_name};
+ghost use Rattle.std.specs.Prelude.{◌≡◌, ◌<◌, ◌≤◌, ◌+◌, ◌*◌, [], Some, length, slice_get, IfOk, OnOk};
+ghost use Rattle.csub_objects.specs.Types.{Name};
+ghost use Rattle.csub_semantics.specs.Points.{PointTree, entry};
+ghost use Rattle.csub_semantics.specs.Flows.{flow_of, start_name};
 ghost use Rattle.csub_semantics.specs.Syntax.{ProgramTree};
+ghost use Rattle.csub_semantics.specs.Books.{CallsAt};
 ghost use Rattle.flow_graph.specs.Graph.{IsGraphOf, edge_count, point_count};
+ghost use Rattle.dual_walk.specs.declared.fact.Fact.{Fact};
+ghost use Rattle.dual_walk.specs.Held.{AreAt, IsHeld, Extends};
+ghost use Rattle.dual_walk.specs.LabelRows.{AreLabelled};
+ghost use Rattle.dual_walk.specs.Rest.{facts_of, asked_of, IsAtRest};
 ghost use Rattle.call_walk.specs.Walks.{IsWalk};
-ghost use Rattle.call_walk.specs.LabelRows.{AreLabelled};
-ghost use Rattle.call_walk.specs.Moments.{AreWays, IsMoment, IsHeld, HoldsAll};
+ghost use Rattle.call_walk.specs.Danger.{HoldsAll};
 
-use crate::ask::list_ways;
-use crate::both::{Both, number_labels};
+use crate::answer::WalkResult;
 use crate::danger::dangerous;
-use crate::fact::{Fact, WalkResult, Why};
-use crate::follow::follow;
-use crate::pairs::{Pairs, add, no_pairs};
-use crate::rows::Rows;
+use dual_walk::{Both, Fact, Walk, Why, callee_at, number_labels};
 use edge_label::{LabelBook, Steps};
 use flow_graph::Graph;
 use std::alloc::{AllocError, Global};
 use std::sync::ledger::Ledger;
 
-/// The facts with the pair of the points 0 alone, the entries of `#start`; none where a graph has no points, and so is
-/// that of no program.
-fn start(alloc: Global, old: &Graph, new: &Graph) -> Result<Pairs, AllocError>
-    ensures moment { IfOk result (IsMoment old.now new.now) }
-    ensures held { IfOk result (λ pairs. (P P' : ProgramTree) → IsGraphOf old.now P → IsGraphOf new.now P' → IsHeld P P' pairs.facts.items start_name entry entry) }
+/// Adds the pair of the points 0, the entries of `#start`, and what follows from it; nothing where a graph has no points,
+/// and so is that of no program.
+fn start<L: Ledger>(
+    both: &Both<'_>,
+    walk: &mut Walk,
+    steps: &mut Steps<L>,
+) -> Result<(), AllocError>
+    requires labels { AreLabelled both.now }
+    requires rests { IsAtRest both.now.old.now both.now.new.now walk.old }
+    requires none { facts_of walk.old ≡ [] }
+    ensures rests { OnOk result (IsAtRest both.now.old.now both.now.new.now walk.new) }
+    ensures held { OnOk result ((P P' : ProgramTree) → IsGraphOf both.now.old.now P → IsGraphOf both.now.new.now P' → IsHeld P P' (facts_of walk.new) start_name entry entry) }
+    ensures counted { steps.new + asked_of walk.old ≡ steps.old + asked_of walk.new }
+    ensures few { asked_of walk.new ≤ edge_count both.now.old.now * point_count both.now.new.now }
 {
-    let mut pairs = no_pairs(alloc, old.points(), new.points())?;
-    if old.points() == 0 || new.points() == 0 {
-        return Ok(pairs);
+    if both.old.points() == 0 || both.new.points() == 0 {
+        return Ok(());
     }
     let fact = Fact {
-        function: old.function_at(0),
+        function: both.old.function_at(0),
         old: 0,
         new: 0,
         why: Why::Start,
     };
-    add(&mut pairs, fact)?;
-    Ok(pairs)
+    walk.add(
+        both.old,
+        both.new,
+        both.old_labels,
+        both.new_labels,
+        both.book,
+        fact,
+        steps,
+    )
 }
 
-/// Every reached pair: the facts are their own queue.
-fn reach<L: Ledger>(
-    alloc: Global,
+/// Adds the entries of what is called at the fact with a place, and what follows from them.
+fn enter<L: Ledger>(
     both: &Both<'_>,
-    ways: &Rows,
+    walk: &mut Walk,
+    at: u32,
     steps: &mut Steps<L>,
-) -> Result<Pairs, AllocError>
+) -> Result<(), AllocError>
     requires labels { AreLabelled both.now }
-    requires ways { AreWays both.now.old.now ways.now }
-    ensures moment { IfOk result (IsMoment both.now.old.now both.now.new.now) }
-    ensures all { IfOk result (λ pairs. HoldsAll both.now.old.now both.now.new.now pairs.facts.items) }
-    ensures counted { steps.new ≤ steps.old + edge_count both.now.old.now * point_count both.now.new.now }
+    requires rests { IsAtRest both.now.old.now both.now.new.now walk.old }
+    requires at { at < length (facts_of walk.old) }
+    ensures rests { OnOk result (IsAtRest both.now.old.now both.now.new.now walk.new) }
+    ensures grows { Extends (facts_of walk.old) (facts_of walk.new) }
+    ensures entered { OnOk result ((P P' : ProgramTree) (c : Fact) (f g : Name) (p p' : PointTree) → IsGraphOf both.now.old.now P → IsGraphOf both.now.new.now P' →
+        slice_get (facts_of walk.old) at ≡ Some c → AreAt P P' c.old c.new f p p' → CallsAt (flow_of P) f p g → IsHeld P P' (facts_of walk.new) g entry entry) }
+    ensures counted { steps.new + asked_of walk.old ≡ steps.old + asked_of walk.new }
+    ensures few { asked_of walk.new ≤ edge_count both.now.old.now * point_count both.now.new.now }
 {
-    let mut pairs = start(alloc, both.old, both.new)?;
-    let mut waiting = Rows::new(alloc, both.old.points())?;
+    let from = walk.pairs()[at as usize];
+    let Some(callee) = callee_at(both.old, both.new, from.old) else {
+        return Ok(());
+    };
+    let fact = Fact {
+        function: callee.function,
+        old: callee.entry.old,
+        new: callee.entry.new,
+        why: Why::Call(at),
+    };
+    walk.add(
+        both.old,
+        both.new,
+        both.old_labels,
+        both.new_labels,
+        both.book,
+        fact,
+        steps,
+    )
+}
+
+/// Adds every reached pair: the start, and the callee of each pair at a call.
+fn reach<L: Ledger>(
+    both: &Both<'_>,
+    walk: &mut Walk,
+    steps: &mut Steps<L>,
+) -> Result<(), AllocError>
+    requires labels { AreLabelled both.now }
+    requires rests { IsAtRest both.now.old.now both.now.new.now walk.old }
+    requires none { facts_of walk.old ≡ [] }
+    ensures rests { OnOk result (IsAtRest both.now.old.now both.now.new.now walk.new) }
+    ensures all { OnOk result (HoldsAll both.now.old.now both.now.new.now (facts_of walk.new)) }
+    ensures counted { steps.new + asked_of walk.old ≡ steps.old + asked_of walk.new }
+    ensures few { asked_of walk.new ≤ edge_count both.now.old.now * point_count both.now.new.now }
+{
+    start(both, walk, steps)?;
     let mut at = 0;
-    while at < pairs.facts.len() {
-        follow(both, ways, &mut pairs, &mut waiting, at as u32, steps)?;
+    while at < walk.pairs().len() {
+        enter(both, walk, at as u32, steps)?;
         at += 1;
     }
-    Ok(pairs)
+    Ok(())
 }
 
 /// The walk of an old program and a new one, by their graphs: the reached pairs, each once and with its reason, and the
@@ -89,13 +143,9 @@ pub fn walk<L: Ledger>(
         old_labels: &old_labels,
         new_labels: &new_labels,
     };
-    let ways = list_ways(alloc, old)?;
-    let pairs = reach(alloc, &both, &ways, steps)?;
-    let danger = dangerous(alloc, old, new, &ways, &pairs)?;
-    let Pairs {
-        facts,
-        ends: _,
-        held: _,
-    } = pairs;
+    let mut pairs = Walk::new(alloc, old, new)?;
+    reach(&both, &mut pairs, steps)?;
+    let danger = dangerous(alloc, old, new, &pairs)?;
+    let facts = pairs.into_facts();
     Ok(WalkResult { facts, danger })
 }

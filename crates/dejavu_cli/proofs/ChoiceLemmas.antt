@@ -7,7 +7,7 @@ use Rattle.std.proofs.lemmas.Option.{slice_get_cases}
 use Rattle.csub_semantics.specs.Syntax.{ProgramTree}
 use Rattle.csub_semantics.specs.Flows.{edge_list}
 use Rattle.edge_trace.specs.Rows.{has}
-use Rattle.call_walk.specs.declared.fact.WalkResult.{WalkResult}
+use Rattle.call_walk.specs.declared.answer.WalkResult.{WalkResult}
 use Rattle.call_walk.specs.Walks.{IsWalk}
 use Rattle.test_history.specs.Histories.{EntryParts}
 use Rattle.test_select.specs.declared.choice.Choice.{Choice}

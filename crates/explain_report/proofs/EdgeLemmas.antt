@@ -67,7 +67,7 @@ line_passed P source row edges i within other =
     ∙ ap (λ b. cond b (edge_line P source i (get_or edges i no_edge) ∷ rest) rest) other
 
 -- a text with one more line, and the lines that are left
-line_added : (before after whole line rest : List ℕ) → after ≡ before ++ line ++ 10 ∷ [] → before ++ (line ++ 10 ∷ rest) ≡ whole → after ++ rest ≡ whole
+pub line_added : (before after whole line rest : List ℕ) → after ≡ before ++ line ++ 10 ∷ [] → before ++ (line ++ 10 ∷ rest) ≡ whole → after ++ rest ≡ whole
 line_added before after whole line rest h k =
     ap (λ text. text ++ rest) h ∙ append_assoc (before ++ line) (10 ∷ []) rest ∙ append_assoc before line (10 ∷ rest) ∙ k
 

@@ -1,5 +1,5 @@
 -- What the text of a walk means: its row has the dangerous edges, and its pairs are the reached ones, each once.
-use Rattle.std.proofs.Common.{◌≡◌, ◌≢◌, ℕ, zero, suc, ◌<◌, List, [], ◌∷◌, length, Some, AllPairs, Contains, get_or, refl, sym, ap, ◌∙◌, arith}
+use Rattle.std.proofs.Common.{◌≡◌, ◌≢◌, ℕ, ◌<◌, List, length, Some, AllPairs, Contains, get_or, sym, ap, ◌∙◌, arith}
 use Rattle.std.specs.Prelude.{slice_get}
 use Rattle.std.specs.Option.{option_map}
 use Rattle.std.proofs.lemmas.List.{length-map}
@@ -7,40 +7,25 @@ use Rattle.std.proofs.lemmas.Option.{slice_get-map, slice_get-get_or, get_or_fro
 use Rattle.csub_objects.specs.Types.{Name}
 use Rattle.csub_semantics.specs.Points.{PointTree}
 use Rattle.csub_semantics.specs.Syntax.{ProgramTree}
-use Rattle.csub_semantics.specs.Flows.{point_list, flow_of}
-use Rattle.csub_semantics.specs.Numbers.{Site, site, site_of, site_at}
+use Rattle.csub_semantics.specs.Flows.{flow_of}
+use Rattle.csub_semantics.specs.Numbers.{site}
 use Rattle.csub_semantics.specs.Books as books
 use Rattle.csub_semantics.specs.Books.{Reached}
 use Rattle.csub_validity.specs.Valid.{IsValid}
-use Rattle.flow_graph.proofs.LawsLists.{made_of}
-use Rattle.flow_graph.proofs.LawsPlaces.{points_once}
-use Rattle.call_walk.specs.declared.fact.Fact.{Fact}
-use Rattle.call_walk.specs.declared.fact.WalkResult.{WalkResult}
-use Rattle.call_walk.specs.Walks.{IsNamed, name_in, point_in, named_fact, named_facts, IsWalk}
+use Rattle.dual_walk.specs.declared.fact.Fact.{Fact}
+use Rattle.call_walk.specs.declared.answer.WalkResult.{WalkResult}
+use Rattle.dual_walk.specs.Books.{IsNamed, named_fact, named_facts}
+use Rattle.call_walk.specs.Walks.{IsWalk}
 use Rattle.explain_report.specs.WalkTexts.{walk_text}
 use Rattle.explain_report.specs.Walks.{AreReachedPairs, IsWalkText}
-
--- a valid program has one number for each point
-one_number : (P : ProgramTree) → IsValid P → (n m : ℕ) (s : Site) → site_at P n ≡ Some s → site_at P m ≡ Some s → n ≡ m
-one_number P valid n m s a b =
-    let x = made_of site_of (slice_get (point_list P) n) s a in
-    let y = made_of site_of (slice_get (point_list P) m) s b in
-    points_once P.functions valid.distinct n m x.value y.value x.is y.is (x.gives ∙ sym y.gives)
-
--- what stands at a place
-item_at : {A : Type 0} (xs : List A) (i : ℕ) → i < length xs → (x : A) × (slice_get xs i ≡ Some x)
-item_at [] i h = absurd (omega arith)
-item_at (x ∷ xs) zero h = (x, refl)
-item_at (x ∷ xs) (suc i) h = item_at xs i (omega arith)
+use Rattle.explain_report.proofs.Places.{get_some}
+use Rattle.explain_report.proofs.ReachLemmas.{one_number, named_as}
 
 module _ (P P' : ProgramTree) where
-  named_as : (c : Fact) (n : IsNamed P P' c) → named_fact P P' c ≡ books.fact n.name n.point n.other
-  named_as c n = λ i. books.fact (name_in (n.function i)) (point_in (n.old i)) (point_in (n.new i))
-
   -- facts of the same names have the same numbers
   same_numbers : IsValid P → IsValid P' → (c d : Fact) → IsNamed P P' c → IsNamed P P' d → named_fact P P' c ≡ named_fact P P' d → (c.old ≡ d.old) × (c.new ≡ d.new)
   same_numbers valid valid' c d n m e =
-      let same : books.fact n.name n.point n.other ≡ books.fact m.name m.point m.other = sym (named_as c n) ∙ e ∙ named_as d m in
+      let same : books.fact n.name n.point n.other ≡ books.fact m.name m.point m.other = sym (named_as P P' c n) ∙ e ∙ named_as P P' d m in
       let old : site n.name n.point ≡ site m.name m.point = ap (λ (f : books.Fact). site f.function f.old) same in
       let new : site n.name n.other ≡ site m.name m.other = ap (λ (f : books.Fact). site f.function f.new) same in
       (one_number P valid c.old d.old (site m.name m.point) (n.old ∙ ap Some old) m.old, one_number P' valid' c.new d.new (site m.name m.other) (n.new ∙ ap Some new) m.new)
@@ -62,8 +47,8 @@ module _ (P P' : ProgramTree) where
     apart : IsValid P → IsValid P' → AllPairs (λ c d. c ≢ d) pairs
     apart valid valid' i j d less within same =
         let later : j < length facts = omega (arith, pairs_counted) in
-        let c = item_at facts i (omega arith) in
-        let e = item_at facts j later in
+        let c = get_some facts i (omega arith) in
+        let e = get_some facts j later in
         let numbers = same_numbers valid valid' c.0 e.0 (walk.reasons i c.0 c.1).named (walk.reasons j e.0 e.1).named (sym (named_at facts i c.0 d c.1) ∙ same ∙ named_at facts j e.0 d e.1) in
         let one : i ≡ j = walk.once i j c.0 e.0 c.1 e.1 numbers.0 numbers.1 in
         absurd (omega arith)

@@ -66,7 +66,7 @@ fn push_named_edge(text: &mut Vec<u8>, edge: u32, function: &[u8]) -> Result<(),
 }
 
 /// Appends a way out.
-fn push_exit(text: &mut Vec<u8>, exit: &ExitLabel) -> Result<(), AllocError>
+pub fn push_exit(text: &mut Vec<u8>, exit: &ExitLabel) -> Result<(), AllocError>
     ensures { OnOk result (text.new.items ≡ text.old.items ++ exit_text (exit_tree exit.now)) }
 {
     match exit {

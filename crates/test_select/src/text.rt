@@ -41,7 +41,8 @@ fn push_choice_lines(
     Ok(())
 }
 
-fn push_choice_line(text: &mut Vec<u8>, entry: &Entry, choice: Choice) -> Result<(), AllocError>
+/// Appends the line of a test and of the choice for it. An error means that no memory was left.
+pub fn push_choice_line(text: &mut Vec<u8>, entry: &Entry, choice: Choice) -> Result<(), AllocError>
     ensures { OnOk result (text.new.items ≡ text.old.items ++ choice_line entry.now choice ++ 10 ∷ []) }
 {
     match choice {
@@ -71,7 +72,8 @@ fn push_count_line(text: &mut Vec<u8>, choices: &[Choice]) -> Result<(), AllocEr
     Ok(())
 }
 
-fn count_selected(choices: &[Choice]) -> usize
+/// How many of the choices select their test.
+pub fn count_selected(choices: &[Choice]) -> usize
     ensures { result ≡ count_by is_selected choices.now }
 {
     choices.iter().filter(|choice| choice.is_selected()).count()

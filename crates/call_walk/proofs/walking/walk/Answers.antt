@@ -1,8 +1,9 @@
 use Rattle.std.proofs.Common.{sym, subst}
-use Rattle.call_walk.specs.LabelRows.{AreNumbered}
-use Rattle.call_walk.proofs.Labelling.{row_kept}
-use Rattle.call_walk.proofs.Naming.{book_of, held_named}
-use Rattle.call_walk.proofs.Marking.{danger_iff}
+use Rattle.dual_walk.specs.LabelRows.{AreNumbered}
+use Rattle.dual_walk.specs.Rest.{facts_of}
+use Rattle.dual_walk.proofs.LawsNumbers.{row_kept}
+use Rattle.dual_walk.proofs.LawsRest.{rest_book}
+use Rattle.call_walk.proofs.Marking.{walk_of}
 use Rattle.call_walk.proofs.walking.walk.Goals as goal
 
 pub reach-requires-clause-labels : goal.reach-requires-clause-labels
@@ -14,16 +15,6 @@ reach-requires-clause-labels g c = record {
 
 pub returns-clause-is_walk : goal.returns-clause-is_walk
 returns-clause-is_walk g c P P' ok ok' =
-    let each = c.in_ok-pairs.ensures.moment.explained.each P P' ok ok' in
-    let all = c.in_ok-pairs.ensures.all P P' ok ok' in
-    record {
-      book = book_of P P' c.in_ok-pairs.pairs.facts.items each;
-      reasons = each;
-      once = c.in_ok-pairs.ensures.moment.indexed.once;
-      all = λ f p p' r. held_named P P' c.in_ok-pairs.pairs.facts.items each f p p' (all f p p' r);
-      edges = c.in_ok-danger.ensures.edges P ok;
-      danger = λ e edge numbered.
-          let d = danger_iff P P' ok.valid ok'.valid c.in_ok-pairs.pairs.facts.items each all e edge numbered in
-          let m = c.in_ok-danger.ensures.marked P P' ok ok' e in
-          (λ x. d.0 (m.0 x), λ h. m.1 (d.1 h));
-    }
+    let book = rest_book c.args.old.now c.args.new.now c.reach.new.walk c.in_ok-reach.ensures.rests in
+    walk_of P P' ok.valid ok'.valid (facts_of c.reach.new.walk) _ c.into_facts-facts.ensures
+    (record { reasoned = book.reasoned P P' ok ok'; once = book.once; all = c.in_ok-reach.ensures.all P P' ok ok'; edges = c.in_ok-danger.ensures.edges P ok; marked = c.in_ok-danger.ensures.marked P P' ok ok' })

@@ -1,0 +1,72 @@
+-- Numbers of labels, as a row of them grows and when two are compared.
+use Rattle.std.proofs.Common.{◌≡◌, ◌<◌, ◌↔◌, ℕ, ◌++◌, ◌∷◌, [], List, Bor, length, get_or, map, Option, Some, None, option_map, refl, sym, ap, ◌∙◌, ◌⊎◌, inl, inr, arith}
+use Rattle.std.specs.Prelude.{slice_get}
+use Rattle.std.proofs.lemmas.List.{length-map}
+use Rattle.std.proofs.lemmas.Option.{slice_get-get_or, slice_get-map, same_Some}
+use Rattle.csub_objects.specs.Types.{Name}
+use Rattle.csub_semantics.specs.declared.label.Label.{Label}
+use Rattle.csub_semantics.specs.Types.{GlobalTree}
+use Rattle.csub_semantics.specs.Labels.{PointLabel, label_tree}
+use Rattle.csub_semantics.specs.Points.{PointTree}
+use Rattle.csub_semantics.specs.Syntax.{ProgramTree}
+use Rattle.csub_semantics.specs.Flows.{flow_of}
+use Rattle.csub_semantics.specs.Numbers.{Site, site, site_at}
+use Rattle.csub_semantics.specs.Books.{SameLabel}
+use Rattle.edge_label.specs.Numbers.{HasNumber, HaveNumbers, whole}
+use Rattle.edge_label.proofs.LawsNumbers.{HaveNumbers-length, HaveNumbers-at}
+use Rattle.flow_graph.specs.Graph.{Tables, IsGraphOf, point_count}
+use Rattle.dual_walk.specs.LabelRows.{IsNumbered, AreNumbered, AreLabelsOf}
+use Rattle.dual_walk.specs.Held.{AreAt}
+use Rattle.dual_walk.proofs.LawsLists.{get_push}
+
+-- one label more behind those of the points so far
+pub labels_push : (g : Tables) (labels : List (Bor Label)) (last : Bor Label)
+    → ((P : ProgramTree) (s : Site) → IsGraphOf g P → site_at P (length labels) ≡ Some s → (flow_of P).label s.function s.point ≡ Some (whole P.globals (label_tree last.now)))
+    → ((n : ℕ) (label : Bor Label) (P : ProgramTree) (s : Site) → slice_get labels n ≡ Some label → IsGraphOf g P → site_at P n ≡ Some s → (flow_of P).label s.function s.point ≡ Some (whole P.globals (label_tree label.now)))
+    → (n : ℕ) (label : Bor Label) (P : ProgramTree) (s : Site) → slice_get (labels ++ last ∷ []) n ≡ Some label → IsGraphOf g P → site_at P n ≡ Some s
+    → (flow_of P).label s.function s.point ≡ Some (whole P.globals (label_tree label.now))
+labels_push g labels last this before n label P s at ok there = pick (get_push labels last n label at)
+  where
+    pick : (slice_get labels n ≡ Some label) ⊎ ((n ≡ length labels) × (label ≡ last)) → (flow_of P).label s.function s.point ≡ Some (whole P.globals (label_tree label.now))
+    pick (inl h) = before n label P s h ok there
+    pick (inr h) = this P s ok (ap (site_at P) (sym h.0) ∙ there) ∙ ap (λ (l : Bor Label). Some (whole P.globals (label_tree l.now))) (sym h.1)
+
+-- the numbers of a book for the labels of a graph's points are those of the points
+pub row_numbered : (book : List PointLabel) (row : List ℕ) (g : Tables) (labels : List (Bor Label)) (globals : List GlobalTree) → AreLabelsOf g labels
+    → ((P : ProgramTree) → IsGraphOf g P → globals ≡ P.globals) → HaveNumbers book row (map (λ (label : Bor Label). whole globals (label_tree label.now)) labels) → AreNumbered book row g
+row_numbered book row g labels globals are its have = record {
+  points = HaveNumbers-length book row (map whole_of labels) have ∙ length-map labels whole_of ∙ are.points;
+  each = λ n number at. numbered n number (HaveNumbers-at book row (map whole_of labels) have n number at);
+}
+  where
+    whole_of : Bor Label → PointLabel
+    whole_of label = whole globals (label_tree label.now)
+
+    numbered : (n number : ℕ) → (label : PointLabel) × (slice_get (map whole_of labels) n ≡ Some label) × HasNumber book number label → IsNumbered book g n number
+    numbered n number found = pick (slice_get labels n) refl (sym (slice_get-map whole_of labels n) ∙ found.1)
+      where
+        pick : (o : Option (Bor Label)) → slice_get labels n ≡ o → option_map whole_of o ≡ Some found.0 → IsNumbered book g n number
+        pick None at is = absurd cc
+        pick (Some label) at is = record {
+          label = found.0;
+          has = found.2;
+          labelled = λ P s ok there. are.each n label P s at ok there ∙ ap (λ gs. Some (whole gs (label_tree label.now))) (sym (its P ok)) ∙ is;
+        }
+
+-- the number that a row has for a point
+pub number_at : (book : List PointLabel) (row : List ℕ) (g : Tables) (n : ℕ) → AreNumbered book row g → n < point_count g → IsNumbered book g n (get_or row n 0)
+number_at book row g n h within = let points = h.points in h.each n (get_or row n 0) (slice_get-get_or row n 0 (omega (arith, points, within)))
+
+-- two points have one label exactly where those of their numbers are equal
+pub same_labels : (g g' : Tables) (book : List PointLabel) (P P' : ProgramTree) (f : Name) (p p' : PointTree) (n n' number number' : ℕ) → IsGraphOf g P → IsGraphOf g' P'
+    → AreAt P P' n n' f p p' → (h : IsNumbered book g n number) (h' : IsNumbered book g' n' number') → (h.label ≡ h'.label) ↔ SameLabel (flow_of P) (flow_of P') f p p'
+same_labels g g' book P P' f p p' n n' number number' ok ok' at h h' = (
+  λ e. record { label = h.label; old = here; new = there ∙ ap Some (sym e) },
+  λ same. same_Some h.label same.label (sym here ∙ same.old) ∙ same_Some same.label h'.label (sym same.new ∙ there),
+)
+  where
+    here : (flow_of P).label f p ≡ Some h.label
+    here = h.labelled P (site f p) ok at.old
+
+    there : (flow_of P').label f p' ≡ Some h'.label
+    there = h'.labelled P' (site f p') ok' at.new

@@ -1,0 +1,115 @@
+-- What the numbers of a valid program stand for: its points, its ways out, its functions and its labels.
+use Rattle.std.proofs.Common.{◌≡◌, ℕ, zero, suc, ◌+◌, ◌<◌, List, [], ◌∷◌, length, Bool, true, false, cond, Option, Some, None, find, option_map, refl, sym, ap, ◌∙◌, subst, subst₂}
+use Rattle.std.specs.Prelude.{slice_get}
+use Rattle.std.specs.List.{flat_map}
+use Rattle.std.proofs.lemmas.Option.{slice_get-map, slice_get_within, same_Some}
+use Rattle.csub_objects.specs.Types.{Name}
+use Rattle.csub_semantics.specs.Types.{name_eq}
+use Rattle.csub_semantics.specs.Labels.{CallTree, call_of, PointLabel}
+use Rattle.csub_semantics.specs.Points.{PointTree, entry, ExitTree, exit_eq}
+use Rattle.csub_semantics.specs.Syntax.{FunctionTree, ProgramTree}
+use Rattle.csub_semantics.specs.Successors.{Way}
+use Rattle.csub_semantics.specs.Flows.{points_of, point_list, Edge, edges_from, function_of, node_of, way_in, way_of, labelled, flow_of, start_name}
+use Rattle.csub_semantics.specs.Numbers.{Site, site, site_of, site_at, edge_at}
+use Rattle.csub_validity.specs.Valid.{BeginsWithStart, IsValid}
+use Rattle.program_laws.specs.Flows.{entry_label, IsFlow}
+use Rattle.program_laws.proofs.LawsNames.{same_name, same_exit}
+use Rattle.flow_graph.specs.Graph.{Tables, IsGraphOf, point_count}
+use Rattle.flow_graph.proofs.LawsLists.{slice_get-left, slice_get-right, made_of}
+use Rattle.flow_graph.proofs.LawsPlaces.{found, points_once, points_counted}
+use Rattle.edge_label.specs.Numbers.{KeepsNumbers}
+use Rattle.dual_walk.specs.LabelRows.{IsNumbered, AreNumbered}
+use Rattle.dual_walk.specs.Callees.{Defines}
+use Rattle.dual_walk.proofs.LawsLists.{get_some}
+
+-- one number for each point
+pub site_one : (P : ProgramTree) → IsValid P → (n m : ℕ) (s : Site) → site_at P n ≡ Some s → site_at P m ≡ Some s → n ≡ m
+site_one P valid n m s a b =
+    let x = made_of site_of (slice_get (point_list P) n) s a in
+    let y = made_of site_of (slice_get (point_list P) m) s b in
+    points_once P.functions valid.distinct n m x.value y.value x.is y.is (x.gives ∙ sym y.gives)
+
+-- the numbers of points are those below their count
+pub site_within : (g : Tables) (P : ProgramTree) (n : ℕ) → IsGraphOf g P → n < point_count g → (s : Site) × (site_at P n ≡ Some s)
+site_within g P n ok within =
+    let x = get_some (point_list P) n (subst (λ k. n < k) (points_counted g P ok) within) in
+    (site_of x.0, ap (option_map site_of) x.1)
+
+pub site_below : (g : Tables) (P : ProgramTree) (n : ℕ) (s : Site) → IsGraphOf g P → site_at P n ≡ Some s → n < point_count g
+site_below g P n s ok e =
+    let m = made_of site_of (slice_get (point_list P) n) s e in
+    subst (λ k. n < k) (sym (points_counted g P ok)) (slice_get_within (point_list P) n m.value m.is)
+
+-- the first point is the entry of `#start`
+start_site : (fs : List FunctionTree) → BeginsWithStart fs → option_map site_of (slice_get (points_of fs) 0) ≡ Some (site start_name entry)
+start_site [] h = absurd h
+start_site (f ∷ rest) h = ap (λ n. Some (site n entry)) h.name
+
+pub first_site : (P : ProgramTree) → IsValid P → site_at P 0 ≡ Some (site start_name entry)
+first_site P valid = start_site P.functions valid.start
+
+-- a way out has a number
+flat_at : {A B : Type 0} (f : A → List B) (xs : List A) (n i : ℕ) (x : A) (y : B) → slice_get xs n ≡ Some x → slice_get (f x) i ≡ Some y → (k : ℕ) × (slice_get (flat_map f xs) k ≡ Some y)
+flat_at f [] n i x y e h = absurd cc
+flat_at f (z ∷ xs) zero i x y e h = (i, slice_get-left (f z) (flat_map f xs) i y (ap (λ w. slice_get (f w) i) (same_Some z x e) ∙ h))
+flat_at f (z ∷ xs) (suc n) i x y e h =
+    let r = flat_at f xs n i x y e h in
+    (length (f z) + r.0, slice_get-right (f z) (flat_map f xs) (length (f z)) r.0 (length (f z) + r.0) refl refl ∙ r.1)
+
+found_at : {A : Type 0} (test : A → Bool) (xs : List A) (x : A) → find test xs ≡ Some x → (i : ℕ) × (slice_get xs i ≡ Some x) × (test x ≡ true)
+found_at test [] x e = absurd cc
+found_at {A} test (y ∷ ys) x e = pick (test y) refl e (found_at test ys x)
+  where
+    pick : (b : Bool) → test y ≡ b → cond b (Some y) (find test ys) ≡ Some x → (find test ys ≡ Some x → (i : ℕ) × (slice_get ys i ≡ Some x) × (test x ≡ true)) → (i : ℕ) × (slice_get (y ∷ ys) i ≡ Some x) × (test x ≡ true)
+    pick true t e rest = (0, e, ap test (sym (same_Some y x e)) ∙ t)
+    pick false t e rest = let r = rest e in (suc r.0, r.1, r.2)
+
+pub edge_of : (P : ProgramTree) → IsValid P → (n : ℕ) (f : Name) (p q : PointTree) (x : ExitTree) → site_at P n ≡ Some (site f p) → (flow_of P).succ f p x ≡ Some q → (e : ℕ) × (edge_at P e ≡ Some (record { function = f; from = p; exit = x }))
+edge_of P valid n f p q x h leads =
+    let m = made_of site_of (slice_get (point_list P) n) (site f p) h in
+    let node = m.value in
+    let same_name' : node.function ≡ f = ap (λ (s : Site). s.function) m.gives in
+    let same_point' : node.node.point ≡ p = ap (λ (s : Site). s.point) m.gives in
+    let there : node_of (function_of P f) p ≡ Some node.node = subst₂ (λ a b. node_of (function_of P a) b ≡ Some node.node) same_name' same_point' (found P.functions n node valid.distinct m.is) in
+    let w = made_of (λ (w : Way PointTree). w.to) (way_in node.node.ways x) q (sym (ap (λ o. option_map (λ (w : Way PointTree). w.to) (way_of o x)) there) ∙ leads) in
+    let at = found_at (λ (w : Way PointTree). exit_eq w.exit x) node.node.ways w.value w.is in
+    let one_exit : w.value.exit ≡ x = same_exit w.value.exit x at.2 in
+    let of = λ (u : Way PointTree). let y : Edge = record { function = node.function; from = node.node.point; exit = u.exit } in y in
+    let there_too : slice_get (edges_from node) at.0 ≡ Some (of w.value) = slice_get-map of node.node.ways at.0 ∙ ap (option_map of) at.1 in
+    let same : of w.value ≡ record { function = f; from = p; exit = x } = λ i. record { function = same_name' i; from = same_point' i; exit = one_exit i } in
+    flat_at edges_from (point_list P) n at.0 node (record { function = f; from = p; exit = x }) m.is (there_too ∙ ap Some same)
+
+-- a function that has an entry is defined
+pub defined_by : (P : ProgramTree) (g : Name) (l : PointLabel) → (flow_of P).label g entry ≡ Some l → Defines P g
+defined_by P g l e = pick (function_of P g) refl e
+  where
+    pick : (o : Option FunctionTree) → function_of P g ≡ o → option_map (labelled P.globals) (node_of o entry) ≡ Some l → Defines P g
+    pick None is e = absurd cc
+    pick (Some f) is e = record { function = f; is = is }
+
+pub callee_defined : (P : ProgramTree) → IsFlow (flow_of P) → (f : Name) (p : PointTree) (l : PointLabel) (k : CallTree) → (flow_of P).label f p ≡ Some l → call_of l.tree ≡ Some k → Defines P k.callee
+callee_defined P ok f p l k e is = defined_by P k.callee entry_label (ok.called f p l k e is)
+
+pub defined_name : (P : ProgramTree) (g : Name) (d : Defines P g) → d.function.name ≡ g
+defined_name P g d = same_name d.function.name g (found_at (λ (f : FunctionTree). name_eq f.name g) P.functions d.function d.is).2
+
+-- no point is led to
+pub leads_none : (P : ProgramTree) (f : Name) (o : Option PointTree) → None ≡ option_map (site f) o → (q : PointTree) → o ≡ Some q → ⊥
+leads_none P f o e q is = let both : ◌≡◌ {A = Option Site} None (Some (site f q)) = e ∙ ap (option_map (site f)) is in cc
+
+-- a point is led to
+pub record Led (P : ProgramTree) (f : Name) (o : Option PointTree) (n : ℕ) : Type 0 where
+  pub to : PointTree
+  pub leads : o ≡ Some to
+  pub at : site_at P n ≡ Some (site f to)
+
+pub leads_some : (P : ProgramTree) (f : Name) (o : Option PointTree) (n : ℕ) (s : Site) → site_at P n ≡ Some s → site_at P n ≡ option_map (site f) o → Led P f o n
+leads_some P f None n s there e = let both : ◌≡◌ {A = Option Site} (Some s) None = sym there ∙ e in absurd (cc)
+leads_some P f (Some q) n s there e = record { to = q; leads = refl; at = e }
+
+-- a number stays one of its label
+numbered_kept : (book book' : List PointLabel) (g : Tables) (n number : ℕ) → KeepsNumbers book book' → IsNumbered book g n number → IsNumbered book' g n number
+numbered_kept book book' g n number keeps h = record { label = h.label; has = keeps number h.label h.has; labelled = h.labelled }
+
+pub row_kept : (book book' : List PointLabel) (row : List ℕ) (g : Tables) → KeepsNumbers book book' → AreNumbered book row g → AreNumbered book' row g
+row_kept book book' row g keeps h = record { points = h.points; each = λ n number at. numbered_kept book book' g n number keeps (h.each n number at) }

@@ -1,0 +1,33 @@
+-- The labels of a graph's points by numbers of a book of labels: what is the same at two points is decided by numbers.
+use Rattle.std.specs.Prelude.{ℕ, ◌≡◌, List, length, slice_get, Some}
+use Rattle.std.specs.Borrow.{Bor}
+use Rattle.csub_semantics.specs.declared.label.Label.{Label}
+use Rattle.csub_semantics.specs.Labels.{PointLabel, label_tree}
+use Rattle.csub_semantics.specs.Syntax.{ProgramTree}
+use Rattle.csub_semantics.specs.Flows.{flow_of}
+use Rattle.csub_semantics.specs.Numbers.{Site, site_at}
+use Rattle.edge_label.specs.Numbers.{HasNumber, whole}
+use Rattle.flow_graph.specs.Graph.{Tables, IsGraphOf, point_count}
+use Rattle.dual_walk.specs.declared.both.Both.{Both}
+
+-- by each point of a graph, the tree of its label
+pub record AreLabelsOf (g : Tables) (labels : List (Bor Label)) : Type 0 where
+  pub points : length labels ≡ point_count g
+  pub each : (n : ℕ) (label : Bor Label) (P : ProgramTree) (s : Site) → slice_get labels n ≡ Some label → IsGraphOf g P → site_at P n ≡ Some s
+      → (flow_of P).label s.function s.point ≡ Some (whole P.globals (label_tree label.now))
+
+-- the book has this number for a label, which is the whole label of the graph's point n, whatever program the graph is of
+pub record IsNumbered (book : List PointLabel) (g : Tables) (n number : ℕ) : Type 0 where
+  pub label : PointLabel
+  pub has : HasNumber book number label
+  pub labelled : (P : ProgramTree) (s : Site) → IsGraphOf g P → site_at P n ≡ Some s → (flow_of P).label s.function s.point ≡ Some label
+
+-- by each point of the graph, the number of its label
+pub record AreNumbered (book : List PointLabel) (row : List ℕ) (g : Tables) : Type 0 where
+  pub points : length row ≡ point_count g
+  pub each : (n number : ℕ) → slice_get row n ≡ Some number → IsNumbered book g n number
+
+-- both graphs by numbers of one book
+pub record AreLabelled (both : Both) : Type 0 where
+  pub old : AreNumbered both.book.now both.old_labels.now both.old.now
+  pub new : AreNumbered both.book.now both.new_labels.now both.new.now

@@ -1,0 +1,169 @@
+-- What stands at a place of a list, and what a list contains.
+use Rattle.std.proofs.Common.{◌≡◌, ℕ, zero, suc, ◌+◌, ◌<◌, ◌≤◌, false, IsTrue, List, [], ◌∷◌, ◌++◌, length, get_or, set, replicate, take, Some, refl, sym, ap, ◌∙◌, subst, ◌⊎◌, inl, inr, arith}
+use Rattle.std.specs.Prelude.{slice_get, slice_index_or, Contains, AllPairs}
+use Rattle.std.specs.List.{AllZip}
+use Rattle.std.proofs.lemmas.Bool.{cases_lt}
+use Rattle.std.proofs.lemmas.List.{take_more}
+use Rattle.std.proofs.lemmas.Option.{slice_get_within, slice_get-get_or, get_or_from_slice_get, same_Some}
+
+module _ {X : Type 0} where
+  pub get_some : (xs : List X) (i : ℕ) → i < length xs → (x : X) × (slice_get xs i ≡ Some x)
+  get_some [] i l = absurd (omega arith)
+  get_some (x ∷ xs) zero l = (x, refl)
+  get_some (x ∷ xs) (suc i) l = get_some xs i (omega arith)
+
+  -- an element that was read
+  pub read_at : (xs : List X) (i : ℕ) (x : X) → i < length xs → x ≡ get_or xs i x → slice_get xs i ≡ Some x
+  read_at xs i x l e = slice_get-get_or xs i x l ∙ ap Some (sym e)
+
+  -- what is contained stands somewhere
+  pub contained : (xs : List X) (x : X) → Contains xs x → (i : ℕ) × (slice_get xs i ≡ Some x)
+  contained xs x h = (h.0, slice_get-get_or xs h.0 x h.1 ∙ ap Some h.2)
+
+  pub contains_at : (xs : List X) (i : ℕ) (x : X) → slice_get xs i ≡ Some x → Contains xs x
+  contains_at xs i x e = (i, slice_get_within xs i x e, get_or_from_slice_get xs i x x e)
+
+  -- one more element at the end
+  pub get_push_left : (xs : List X) (y : X) (i : ℕ) (x : X) → slice_get xs i ≡ Some x → slice_get (xs ++ y ∷ []) i ≡ Some x
+  get_push_left [] y i x e = cc
+  get_push_left (z ∷ xs) y zero x e = e
+  get_push_left (z ∷ xs) y (suc i) x e = get_push_left xs y i x e
+
+  pub get_push_last : (xs : List X) (y : X) → slice_get (xs ++ y ∷ []) (length xs) ≡ Some y
+  get_push_last [] y = refl
+  get_push_last (x ∷ xs) y = get_push_last xs y
+
+  pub get_push : (xs : List X) (y : X) (i : ℕ) (x : X) → slice_get (xs ++ y ∷ []) i ≡ Some x → (slice_get xs i ≡ Some x) ⊎ ((i ≡ length xs) × (x ≡ y))
+  get_push [] y zero x e = inr (refl, cc)
+  get_push [] y (suc i) x e = cc
+  get_push (z ∷ xs) y zero x e = inl e
+  get_push (z ∷ xs) y (suc i) x e = go (get_push xs y i x e)
+    where
+      go : (slice_get xs i ≡ Some x) ⊎ ((i ≡ length xs) × (x ≡ y)) → (slice_get (z ∷ xs) (suc i) ≡ Some x) ⊎ ((suc i ≡ length (z ∷ xs)) × (x ≡ y))
+      go (inl h) = inl h
+      go (inr h) = inr (ap suc h.0, h.1)
+
+  -- the front of a list up to an element that was read, and with it
+  pub take_read : (xs : List X) (i : ℕ) (x : X) → i < length xs → x ≡ get_or xs i x → take (i + 1) xs ≡ take i xs ++ x ∷ []
+  take_read xs i x l e = take_more xs i x l ∙ ap (λ y. take i xs ++ y ∷ []) (sym e)
+
+  -- a place that is written, and the others
+  pub get_set_same : (xs : List X) (i : ℕ) (y : X) → i < length xs → slice_get (set xs i y) i ≡ Some y
+  get_set_same [] i y l = absurd (omega arith)
+  get_set_same (x ∷ xs) zero y l = refl
+  get_set_same (x ∷ xs) (suc i) y l = get_set_same xs i y (omega arith)
+
+  pub get_set_other : (xs : List X) (i j : ℕ) (y : X) → (j ≡ i → ⊥) → slice_get (set xs i y) j ≡ slice_get xs j
+  get_set_other [] i j y n = refl
+  get_set_other (x ∷ xs) zero zero y n = absurd (n refl)
+  get_set_other (x ∷ xs) zero (suc j) y n = refl
+  get_set_other (x ∷ xs) (suc i) zero y n = refl
+  get_set_other (x ∷ xs) (suc i) (suc j) y n = get_set_other xs i j y (λ e. n (ap suc e))
+
+  -- the front of a list
+  pub get_take : (n : ℕ) (xs : List X) (i : ℕ) (x : X) → slice_get (take n xs) i ≡ Some x → (i < n) × (slice_get xs i ≡ Some x)
+  get_take zero xs i x e = cc
+  get_take (suc n) [] i x e = cc
+  get_take (suc n) (y ∷ xs) zero x e = (omega arith, e)
+  get_take (suc n) (y ∷ xs) (suc i) x e = let r = get_take n xs i x e in (omega (arith, r.0), r.1)
+
+  pub take_get : (n : ℕ) (xs : List X) (i : ℕ) (x : X) → i < n → slice_get xs i ≡ Some x → slice_get (take n xs) i ≡ Some x
+  take_get zero xs i x l e = absurd (omega arith)
+  take_get (suc n) [] i x l e = e
+  take_get (suc n) (y ∷ xs) zero x l e = e
+  take_get (suc n) (y ∷ xs) (suc i) x l e = take_get n xs i x (omega arith) e
+
+-- two lists, place by place
+module _ {X : Type 0} {Y : Type 0} where
+  pub zip_push : (R : X → Y → Type 0) (xs : List X) (ys : List Y) (x : X) (y : Y) → AllZip R xs ys → R x y → AllZip R (xs ++ x ∷ []) (ys ++ y ∷ [])
+  zip_push R [] [] x y h r = (r, tt)
+  zip_push R [] (b ∷ ys) x y h r = absurd h
+  zip_push R (a ∷ xs) [] x y h r = absurd h
+  zip_push R (a ∷ xs) (b ∷ ys) x y h r = (h.0, zip_push R xs ys x y h.1 r)
+
+  pub zip_weaker : (R S : X → Y → Type 0) → ((x : X) (y : Y) → R x y → S x y) → (xs : List X) (ys : List Y) → AllZip R xs ys → AllZip S xs ys
+  zip_weaker R S f [] [] h = tt
+  zip_weaker R S f [] (b ∷ ys) h = absurd h
+  zip_weaker R S f (a ∷ xs) [] h = absurd h
+  zip_weaker R S f (a ∷ xs) (b ∷ ys) h = (f a b h.0, zip_weaker R S f xs ys h.1)
+
+  pub zip_long : (R : X → Y → Type 0) (xs : List X) (ys : List Y) → AllZip R xs ys → length xs ≡ length ys
+  zip_long R [] [] h = refl
+  zip_long R [] (b ∷ ys) h = absurd h
+  zip_long R (a ∷ xs) [] h = absurd h
+  zip_long R (a ∷ xs) (b ∷ ys) h = ap suc (zip_long R xs ys h.1)
+
+  -- what stands beside an element of the first list, and of the second
+  pub zip_right : (R : X → Y → Type 0) (xs : List X) (ys : List Y) (i : ℕ) (x : X) → AllZip R xs ys → slice_get xs i ≡ Some x → (y : Y) × (slice_get ys i ≡ Some y) × R x y
+  zip_right R [] [] i x h e = absurd cc
+  zip_right R [] (b ∷ ys) i x h e = absurd h
+  zip_right R (a ∷ xs) [] i x h e = absurd h
+  zip_right R (a ∷ xs) (b ∷ ys) zero x h e = let same : a ≡ x = cc in (b, refl, subst (λ z. R z b) same h.0)
+  zip_right R (a ∷ xs) (b ∷ ys) (suc i) x h e = zip_right R xs ys i x h.1 e
+
+  pub zip_left : (R : X → Y → Type 0) (xs : List X) (ys : List Y) (i : ℕ) (y : Y) → AllZip R xs ys → slice_get ys i ≡ Some y → (x : X) × (slice_get xs i ≡ Some x) × R x y
+  zip_left R [] [] i y h e = absurd cc
+  zip_left R [] (b ∷ ys) i y h e = absurd h
+  zip_left R (a ∷ xs) [] i y h e = absurd h
+  zip_left R (a ∷ xs) (b ∷ ys) zero y h e = let same : b ≡ y = cc in (a, refl, subst (R a) same h.0)
+  zip_left R (a ∷ xs) (b ∷ ys) (suc i) y h e = zip_left R xs ys i y h.1 e
+
+-- no flag is set
+pub unset : (n i : ℕ) → IsTrue (slice_index_or (replicate n false) i false) → ⊥
+unset zero i h = cc
+unset (suc n) zero h = cc
+unset (suc n) (suc i) h = unset n i h
+
+-- lists of one number and of two
+pub one_place : (j i : ℕ) → Contains (j ∷ []) i → i ≡ j
+one_place j i h = pick h.0 h.1 h.2
+  where
+    pick : (k : ℕ) → k < 1 → get_or (j ∷ []) k i ≡ i → i ≡ j
+    pick zero l e = sym e
+    pick (suc k) l e = absurd (omega arith)
+
+pub two_places : (j m i : ℕ) → Contains (j ∷ m ∷ []) i → (i ≡ j) ⊎ (i ≡ m)
+two_places j m i h = pick h.0 h.1 h.2
+  where
+    pick : (k : ℕ) → k < 2 → get_or (j ∷ m ∷ []) k i ≡ i → (i ≡ j) ⊎ (i ≡ m)
+    pick zero l e = inl (sym e)
+    pick (suc zero) l e = inr (sym e)
+    pick (suc (suc k)) l e = absurd (omega arith)
+
+-- numbers that rise
+module _ (places : List ℕ) (rising : AllPairs (λ i j. i < j) places) where
+  -- a smaller one stands earlier, and each stands once
+  pub places_before : (i k a b : ℕ) → slice_get places i ≡ Some a → slice_get places k ≡ Some b → b < a → k < i
+  places_before i k a b ea eb less = pick (cases_lt k i)
+    where
+      later : (i < k) ⊎ (k ≤ i) → i ≤ k → k < i
+      later (inl l) within =
+          let w = slice_get_within places k b eb in
+          let r = rising i k 0 l w in
+          let x = get_or_from_slice_get places i a 0 ea in
+          let y = get_or_from_slice_get places k b 0 eb in
+          absurd (omega arith)
+      later (inr l) within =
+          let same : i ≡ k = omega arith in
+          let one : a ≡ b = same_Some a b (sym ea ∙ ap (slice_get places) same ∙ eb) in
+          absurd (omega arith)
+
+      pick : (k < i) ⊎ (i ≤ k) → k < i
+      pick (inl l) = l
+      pick (inr l) = later (cases_lt i k) l
+
+  pub places_once : (i k a : ℕ) → slice_get places i ≡ Some a → slice_get places k ≡ Some a → i ≡ k
+  places_once i k a ei ek = pick (cases_lt i k) (cases_lt k i)
+    where
+      clash : (n m : ℕ) → n < m → slice_get places n ≡ Some a → slice_get places m ≡ Some a → ⊥
+      clash n m l en em =
+          let w = slice_get_within places m a em in
+          let r = rising n m 0 l w in
+          let x = get_or_from_slice_get places n a 0 en in
+          let y = get_or_from_slice_get places m a 0 em in
+          omega arith
+
+      pick : (i < k) ⊎ (k ≤ i) → (k < i) ⊎ (i ≤ k) → i ≡ k
+      pick (inl l) r = absurd (clash i k l ei ek)
+      pick (inr l) (inl r) = absurd (clash k i r ek ei)
+      pick (inr l) (inr r) = omega arith
