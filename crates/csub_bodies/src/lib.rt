@@ -6,6 +6,8 @@
 //! function, as a parameter is one; [`is_declared`] and [`stands_in`] tell whether a name is there already. Each takes time in
 //! proportion to what it looks at, save for a hash of each name and each case value. An `Err` is want of memory, or a full
 //! count.
+//!
+//! Proofs above cite `proofs/LawsGrows`: declarations only come on top, and behind a block stands what stood before it.
 #![tactic(auto)]
 
 pub mod body;

@@ -1,4 +1,3 @@
 mod Lists
-mod Leaving
 mod Starts
 mod Bodies

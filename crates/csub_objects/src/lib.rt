@@ -5,6 +5,9 @@
 //! [`part_type`], [`has_parts`] and [`is_sized`]. [`same_type`] is true exactly where the trees are equal, and
 //! [`copy_type`] gives the same tree. [`struct_of`] makes a struct type exactly where its members have different names.
 //! Laws of the definitions are the contracts of [`laws`].
+//!
+//! Proofs above cite `proofs/LawsTypes` and `LawsMembers`, the laws of types and of lists of members; `LawsParts`, where the
+//! parts of an object lie in it; and `LawsThreads`, that types may cross threads.
 #![tactic(auto)]
 
 mod count;

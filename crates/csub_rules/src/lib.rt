@@ -8,6 +8,14 @@
 //! there is no fault, no rule is broken and what was looked at can be resolved (`Fine*`). `ExprSorts` says what an expression
 //! is (a place of a type, a value of a kind), and `Constants` what a constant expression gives; `Here` is what a statement
 //! sees, and `Past` what is declared behind one.
+//!
+//! Proofs above cite, of an expression, `proofs/LawsSound` (its fault is a broken rule), `LawsLeast` (no rule is broken before
+//! it), `LawsFine` (without one it can be resolved), `LawsServed` (what has a sort and lacks nothing is what is asked for),
+//! `LawsCalls` (what is known of a call by its arguments) and `LawsUses` (what stands by itself, and enum constants); of a
+//! statement, `LawsStmts` and `LawsFineStmts`; of declarations, `LawsSlots` (declared names), `LawsParams`, `LawsInits`
+//! (initialisers), `LawsLocals` (declarations in blocks) and `LawsSizes` (the limits of types as truth values); of what is looked
+//! for in a whole body, `LawsCases` (the labels of a `switch`) and `LawsBodies` (names that stand twice); and `LawsEarlier`, which
+//! of two faults is the earlier.
 #![tactic(auto)]
 
 pub mod fault;

@@ -3,6 +3,8 @@
 //!
 //! What is promised: a [`Text`] holds exactly the bytes that it was made of (the contracts of [`Text::new`],
 //! [`Text::bytes`] and [`Text::copy`]), and texts are compared byte by byte.
+//!
+//! Proofs above cite `proofs/LawsThreads`: texts may cross threads.
 #![tactic(auto)]
 
 pub mod operator;

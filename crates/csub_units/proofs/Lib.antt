@@ -11,6 +11,6 @@ mod ParamTypes
 mod ConstantLoop
 mod Members
 mod MemberFacts
-mod Leaving
+pub mod LawsLeaving
 mod TypesAgree
 mod HeadFaults

@@ -10,5 +10,5 @@
 //! `LawsLimits` says what the limits give; `LawsFunctions`, that `#start` stands first, that `main` is there as it has to be, and
 //! that the names of functions differ; `LawsGlobals`, what the objects of file scope have; `LawsObjects`, that two objects of a
 //! function differ; `LawsTypes`, which types objects have, and that structs with one tag have the same members; `LawsBodies`,
-//! that bodies are valid and their labels differ.
+//! that bodies are valid and their labels differ. `LawsFields` puts these together.
 #![tactic(auto)]

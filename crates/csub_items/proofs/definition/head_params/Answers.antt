@@ -4,7 +4,7 @@ use Rattle.csub_bodies.specs.Views.{here_of}
 use Rattle.csub_rules.specs.Here.{Here}
 use Rattle.csub_scopes.specs.Meanings.{scope_of}
 use Rattle.csub_units.specs.Heads.{past_params}
-use Rattle.csub_items.proofs.Leaving.{params_closed}
+use Rattle.csub_units.proofs.LawsLeaving.{params_closed}
 use Rattle.csub_items.proofs.definition.head_params.Goals as goal
 
 pub returns-clause-past : goal.returns-clause-past

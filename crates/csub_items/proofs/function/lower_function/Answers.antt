@@ -11,7 +11,7 @@ use Rattle.csub_units.specs.Heads.{past_params}
 use Rattle.csub_units.specs.Items.{in_function}
 use Rattle.csub_resolution.specs.Programs.{params}
 use Rattle.csub_items.proofs.Bodies.{entered, named, fine_lines, made_function}
-use Rattle.csub_items.proofs.Leaving.{body_closed}
+use Rattle.csub_units.proofs.LawsLeaving.{body_closed}
 use Rattle.csub_items.proofs.function.lower_function.Goals as goal
 
 pub lower_body-requires : goal.lower_body-requires

@@ -9,7 +9,7 @@ use Rattle.csub_scopes.specs.Scopes.{Scope, a_function}
 use Rattle.csub_units.specs.Files.{is_known, naming}
 use Rattle.csub_units.specs.Heads.{at_params, param_types, params_fault, past_params}
 use Rattle.csub_units.proofs.HeadFaults.{head_told, head_declared}
-use Rattle.csub_units.proofs.Leaving.{params_closed}
+use Rattle.csub_units.proofs.LawsLeaving.{params_closed}
 use Rattle.csub_units.proofs.heads.check_head.Goals as goal
 
 pub returns-clause-fault : goal.returns-clause-fault

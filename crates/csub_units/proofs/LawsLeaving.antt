@@ -1,4 +1,4 @@
--- Behind the scope of parameters the names are those that stood before it.
+-- Behind the scope of a function's parameters the names are those that stood before it.
 use Rattle.std.proofs.Common.{◌≡◌, ◌∙◌, refl, sym, ap, ℕ, List, [], ◌∷◌, ◌++◌, length, append_assoc, Option, Some, None}
 use Rattle.csub_tree.specs.declared.name.Name.{Name as NameAt}
 use Rattle.csub_tree.specs.Declarations.{Param}
@@ -42,13 +42,14 @@ body_left scope ps ss =
     ap (λ (h : Here). h.scope) (left (outside scope) (past_lines inner ss)
     (joins (at_params scope) inner (past_lines inner ss) (grows_params ps (at_params scope)) (grows_lines ss inner)))
 
--- by what the code keeps on the way
+-- behind a head, by what the code keeps on the way
 pub params_closed : (scope new : Scope) (enter params : Here) (ps : List Param) (mark : ℕ) → mark ≡ length scope.names → enter ≡ at_params scope
     → params ≡ past_params enter ps → new ≡ (closed params 0 mark).scope → new ≡ scope
 params_closed scope new enter params ps mark m e p n =
     let inner : params ≡ past_params (at_params scope) ps = p ∙ ap (λ (h : Here). past_params h ps) e in
     n ∙ ap (λ (k : ℕ). (closed params 0 k).scope) m ∙ ap (λ (h : Here). (closed h 0 (length scope.names)).scope) inner ∙ params_left scope ps
 
+-- behind a body, by what the code keeps on the way
 pub body_closed : (scope new : Scope) (enter params body : Here) (ps : List Param) (ss : Stmts) (mark : ℕ) → mark ≡ length scope.names
     → enter ≡ at_params scope → params ≡ past_params enter ps → body ≡ past_lines params ss → new ≡ (closed body 0 mark).scope → new ≡ scope
 body_closed scope new enter params body ps ss mark m e p b n =
