@@ -1,4 +1,4 @@
--- Where a call stands, the only way out is Next.
+-- Where a call stands.
 use Rattle.std.proofs.Common.{◌≡◌, Option, Some, None, option_map, refl, sym, ap, ◌∙◌}
 use Rattle.csub_objects.specs.Types.{Name}
 use Rattle.csub_semantics.specs.Labels.{CallTree, call_of, PointLabel}
@@ -11,6 +11,7 @@ use Rattle.program_laws.proofs.LawsStanding.{IsPoint, succ_at, node_is}
 use Rattle.program_laws.proofs.LawsFlows.{labelled_at}
 use Rattle.program_laws.proofs.LawsWays.{OnlyNext, call_next}
 
+-- the only way out is Next
 pub call_leads_by_next : (P : ProgramTree) → IsValid P → (g : Name) (p q : PointTree) (l : PointLabel) (c : CallTree) (x : ExitTree) → (flow_of P).label g p ≡ Some l → call_of l.tree ≡ Some c → (flow_of P).succ g p x ≡ Some q → x ≡ next
 call_leads_by_next P valid g p q l c x e is leads =
     by_way (way_in (labelled_at P g p l e).stands.node.ways x) refl (sym (succ_at P g p (labelled_at P g p l e).stands x) ∙ leads)

@@ -8,6 +8,6 @@ mod Covering
 mod Turns
 mod Together
 mod Respecting
-mod CallWays
+pub mod LawsCalls
 mod Marking
 mod Entering

@@ -23,7 +23,7 @@ use Rattle.dual_walk.proofs.LawsFacts.{book_of, fact_held, held_named, held_reac
 use Rattle.call_walk.specs.declared.answer.WalkResult.{WalkResult}
 use Rattle.call_walk.specs.Walks.{IsWalk}
 use Rattle.call_walk.specs.Danger.{ComesBack, GoesOn, Stops, IsStopped, IsStoppedBefore, Marks}
-use Rattle.call_walk.proofs.CallWays.{call_leads_by_next}
+use Rattle.call_walk.proofs.LawsCalls.{call_leads_by_next}
 
 -- a callee comes back where the pair of its exits has a place
 pub back_at : (P P' : ProgramTree) → IsValid P → IsValid P' → (facts : List Fact) (f : Name) (p : PointTree) (k : Callee) → IsCallee P P' f p k → (HasPair facts k.exit.old k.exit.new → ComesBack P P' facts f p) × (ComesBack P P' facts f p → HasPair facts k.exit.old k.exit.new)

@@ -72,8 +72,8 @@ fn mark_edges(old: &Graph, new: &Graph, walk: &Walk, from: Fact, danger: &mut Ed
     ensures edges { length danger.new ≡ edge_count old.now }
     ensures marks { (P P' : ProgramTree) → IsGraphOf old.now P → IsGraphOf new.now P' → Marks danger.old danger.new (Stops P P' (facts_of walk.now) from) }
 {
-    for edge in walk.ways(from.old) {
-        mark_edge(old, new, walk, from, *edge, danger);
+    for edge in old.edges_of(from.old) {
+        mark_edge(old, new, walk, from, edge, danger);
     }
 }
 

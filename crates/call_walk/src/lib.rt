@@ -8,6 +8,8 @@
 //!
 //! [`walk`] finds the reached pairs and the dangerous edges. Its steps are those of a `dual_walk::Walk`; what is done here
 //! is to enter the callees and to mark the edges.
+//!
+//! Proofs above cite `proofs/LawsCalls`: the only way out of a call is the next point.
 #![tactic(auto)]
 
 pub mod answer;

@@ -10,7 +10,7 @@ use Rattle.csub_semantics.specs.Points.{entry}
 use Rattle.csub_semantics.specs.Flows.{Edge, flow_of, start_name, function_in, point_list}
 use Rattle.csub_semantics.specs.Numbers.{Site, site, site_at}
 use Rattle.csub_semantics.specs.Runs as the
-use Rattle.csub_semantics.specs.Runs.{Standing, goes, stops, turn, Moment, running, ended, nowhere, crossing, after, opening, initial_cells}
+use Rattle.csub_semantics.specs.Runs.{Standing, goes, turn, Moment, running, ended, nowhere, crossing, after, opening, initial_cells}
 use Rattle.csub_validity.specs.Valid.{IsValid, BeginsWithStart}
 use Rattle.csub_flat.specs.Sites.{site_or, place_of}
 use Rattle.csub_machine.specs.Moments.{IsRunningAt, status_at, output_of, turns_of, crossed_of}

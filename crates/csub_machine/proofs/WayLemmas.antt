@@ -19,16 +19,8 @@ no_way : (f : Name) (o : Option PointTree) → ◌≡◌ {A = Option Site} None 
 no_way f None e = refl
 no_way f (Some q) e = cc
 
-no_edge : (s : Site) (x : ExitTree) (o : Option PointTree) → ◌≡◌ {A = Option Edge} None (option_map (λ q. record { function = s.function; from = s.point; exit = x }) o) → o ≡ None
-no_edge s x None e = refl
-no_edge s x (Some q) e = cc
-
 pub leads_nowhere : (P : ProgramTree) (n : ℕ) (x : ExitTree) → ◌≡◌ {A = Option Site} None (option_map (site (place_of P n).function) ((flow_of P).succ (place_of P n).function (place_of P n).point x)) → LeadsNowhere P n x
 leads_nowhere P n x e = no_way (place_of P n).function ((flow_of P).succ (place_of P n).function (place_of P n).point x) e
-
-pub crosses_nothing : (P : ProgramTree) (n : ℕ) (x : ExitTree)
-    → ◌≡◌ {A = Option Edge} None (option_map (λ q. record { function = (place_of P n).function; from = (place_of P n).point; exit = x }) ((flow_of P).succ (place_of P n).function (place_of P n).point x)) → LeadsNowhere P n x
-crosses_nothing P n x e = no_edge (place_of P n) x ((flow_of P).succ (place_of P n).function (place_of P n).point x) e
 
 pub leads_to : (P : ProgramTree) (n to edge : ℕ) (x : ExitTree) → to < length (point_list P) → edge < length (edge_list P)
     → site_at P to ≡ option_map (site (place_of P n).function) ((flow_of P).succ (place_of P n).function (place_of P n).point x)

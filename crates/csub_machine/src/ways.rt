@@ -19,7 +19,9 @@ pub fn step_along(program: &Program, graph: &Graph, point: u32, exit: &ExitLabel
     ensures some { IfSome result (LeadsTo (program_tree program.now) point (exit_tree exit.now)) }
     ensures none { IfNone result (LeadsNowhere (program_tree program.now) point (exit_tree exit.now)) }
 {
-    let to = graph.follow(point, exit)?;
-    let edge = graph.edge_number(point, exit)?;
-    Some(Step { to, edge })
+    let way = graph.way_out(point, exit)?;
+    Some(Step {
+        to: way.to,
+        edge: way.edge,
+    })
 }

@@ -3,10 +3,8 @@ use Rattle.std.proofs.Common.{◌≡◌, ℕ, Option, Some, None, option_map, re
 use Rattle.std.specs.Prelude.{MatchOption}
 use Rattle.std.proofs.lemmas.Option.{same_Some}
 use Rattle.csub_semantics.specs.declared.label.CallLabel.{CallLabel}
-use Rattle.csub_semantics.specs.declared.label.Label.{Label}
-use Rattle.csub_semantics.specs.declared.label.Label.TheVariants.{Call}
 use Rattle.csub_objects.specs.Types.{Name}
-use Rattle.csub_semantics.specs.Labels.{calls, call_of, PointLabel, label_tree, call_tree}
+use Rattle.csub_semantics.specs.Labels.{calls, call_of, PointLabel, call_tree}
 use Rattle.csub_semantics.specs.Points.{PointTree, ExitTree}
 use Rattle.csub_semantics.specs.Syntax.{ProgramTree}
 use Rattle.csub_semantics.specs.Flows.{flow_of}
@@ -27,11 +25,6 @@ leads_along P e n m x s l exit to at =
     let same : site l.edge.function l.edge.from ≡ s = same_Some _ _ (sym l.from ∙ at) in
     to ∙ ap (λ y. option_map (site l.edge.function) ((flow_of P).succ l.edge.function l.edge.from y)) (sym exit)
     ∙ ap (λ (z : Site). option_map (site z.function) ((flow_of P).succ z.function z.point x)) same
-
--- what is no call has the tree of none
-pub no_call : (l : Label) → ((k : CallLabel) → l ≡ Call k → ⊥) → call_of (label_tree l) ≡ None
-no_call (Call k) n = absurd (n k refl)
-no_call _ n = refl
 
 -- a label whose tree is a call stands at a point of both programs
 module _ (g g' : Tables) (P P' : ProgramTree) (ok : IsGraphOf g P) (ok' : IsGraphOf g' P') (f : Name) (p p' : PointTree) (same : SameLabel (flow_of P) (flow_of P') f p p') (k : CallLabel) (l : PointLabel) (tree : l.tree ≡ calls (call_tree k)) (labelled : (flow_of P).label f p ≡ Some l) where

@@ -1,17 +1,17 @@
 -- Facts without a pair twice have no more edges than the graphs have pairs of an edge and a point.
-use Rattle.std.proofs.Common.{◌≡◌, ℕ, zero, suc, Bool, true, false, cond, eqb, eq-eqb, true≢false, ◌+◌, ◌*◌, ◌/◌, ◌<◌, ◌≤◌, List, [], ◌∷◌, ◌++◌, length, get_or, set, replicate, take, Some, Result, Ok, Err, refl, sym, ap, ap₂, ◌∙◌, subst, arith, length-append}
-use Rattle.std.specs.Prelude.{slice_get, ⊤, OnOk, OnErr}
+use Rattle.std.proofs.Common.{◌≡◌, ℕ, zero, suc, Bool, true, false, cond, eqb, eq-eqb, true≢false, ◌+◌, ◌*◌, ◌/◌, ◌<◌, ◌≤◌, List, [], ◌∷◌, ◌++◌, map, length, get_or, set, replicate, take, Some, Result, Ok, Err, refl, sym, ap, ap₂, ◌∙◌, subst, arith, length-append}
+use Rattle.std.specs.Prelude.{slice_get, slice_index_or, sum_by, ⊤, OnOk, OnErr}
 use Rattle.std.proofs.lemmas.Bool.{eqb-true}
 use Rattle.std.proofs.lemmas.Nat.{div-mul-add, mul-add-lt, same_from_place}
 use Rattle.std.proofs.lemmas.Option.{slice_get_within, get_or_from_slice_get}
-use Rattle.std.proofs.Math.Nat.{mul-le-mul_right}
 use Rattle.std.proofs.lemmas.List.{take-append-le}
 use Rattle.std.proofs.lemmas.List.Folds.{sum_by-replicate}
 use Rattle.std.proofs.lemmas.List.Sums.{sum_by-cons, sum_by-set, sum_by_more, sum_by_more_le, sum_by-take-le}
-use Rattle.flow_graph.specs.Graph.{Tables, point_count, edge_count}
+use Rattle.flow_graph.specs.declared.node.GraphPoint.{GraphPoint}
+use Rattle.flow_graph.specs.Graph.{Tables, point_count, edge_count, way_count, way_count_at}
 use Rattle.dual_walk.specs.declared.fact.Fact.{Fact}
 use Rattle.dual_walk.specs.Held.{Extends, IsBookOf}
-use Rattle.dual_walk.specs.Ways.{row_count, count_all, AreWays}
+use Rattle.dual_walk.specs.Rows.{count_all}
 use Rattle.dual_walk.specs.Moments.{allowed}
 use Rattle.dual_walk.proofs.LawsLists.{get_some}
 
@@ -42,21 +42,19 @@ row_within rows at row stands =
     let some = sum_by_more_le (λ (row : List ℕ). length row) rows at [] (slice_get_within rows at row stands) in
     let one = ap (λ (row : List ℕ). length row) (get_or_from_slice_get rows at row [] stands) in omega (arith, some, one)
 
-pub row_counted : (rows : List (List ℕ)) (at : ℕ) (row : List ℕ) → slice_get rows at ≡ Some row → row_count rows at ≡ length row
-row_counted rows at row stands = ap (λ (row : List ℕ). length row) (get_or_from_slice_get rows at row [] stands)
-
 -- the sum of the first numbers
 abbrev total : (ℕ → ℕ) → ℕ → ℕ
 total f zero = 0
 total f (suc n) = total f n + f n
 
-total_cons : (row : List ℕ) (rows : List (List ℕ)) (n : ℕ) → total (λ k. row_count (row ∷ rows) k) (suc n) ≡ length row + total (λ k. row_count rows k) n
-total_cons row rows zero = omega arith
-total_cons row rows (suc n) = let before = total_cons row rows n in omega (arith, before)
+total_cons : (m : ℕ) (ms : List ℕ) (n : ℕ) → total (λ k. slice_index_or (m ∷ ms) k 0) (suc n) ≡ m + total (λ k. slice_index_or ms k 0) n
+total_cons m ms zero = omega arith
+total_cons m ms (suc n) = let before = total_cons m ms n in omega (arith, before)
 
-total_rows : (rows : List (List ℕ)) → total (λ k. row_count rows k) (length rows) ≡ count_all rows
-total_rows [] = refl
-total_rows (row ∷ rows) = total_cons row rows (length rows) ∙ ap (λ n. length row + n) (total_rows rows) ∙ sym (sum_by-cons (λ (r : List ℕ). length r) row rows)
+-- the ways out of all points are the edges
+total_ways : (points : List GraphPoint) → total (λ n. slice_index_or (map way_count points) n 0) (length points) ≡ sum_by way_count points
+total_ways [] = refl
+total_ways (p ∷ points) = total_cons (way_count p) (map way_count points) (length points) ∙ ap (λ n. way_count p + n) (total_ways points) ∙ sym (sum_by-cons way_count p points)
 
 -- the sum over a list, each element by its key
 module _ (key : Fact → ℕ) (f : ℕ → ℕ) where
@@ -164,53 +162,51 @@ module _ (width : ℕ) (f : ℕ → ℕ) where
   below_from [] n h = tt
   below_from (x ∷ xs) n h = (h 0 x refl, below_from xs n (λ i c e. h (suc i) c e))
 
-weighed : (ways : List (List ℕ)) (width : ℕ) (facts : List Fact) → ((i : ℕ) (c : Fact) → slice_get facts i ≡ Some c → c.new < width)
-    → weigh (λ (c : Fact). c.old * width + c.new) (λ k. row_count ways (k / width)) facts ≡ allowed ways facts
-weighed ways width [] h = refl
-weighed ways width (x ∷ xs) h =
-    ap₂ (λ m n. m + n) (ap (row_count ways) (div-mul-add x.old width x.new (h 0 x refl))) (weighed ways width xs (λ i c e. h (suc i) c e))
-    ∙ sym (sum_by-cons (λ (c : Fact). row_count ways c.old) x xs)
+weighed : (g : Tables) (width : ℕ) (facts : List Fact) → ((i : ℕ) (c : Fact) → slice_get facts i ≡ Some c → c.new < width)
+    → weigh (λ (c : Fact). c.old * width + c.new) (λ k. way_count_at g (k / width)) facts ≡ allowed g facts
+weighed g width [] h = refl
+weighed g width (x ∷ xs) h =
+    ap₂ (λ m n. m + n) (ap (way_count_at g) (div-mul-add x.old width x.new (h 0 x refl))) (weighed g width xs (λ i c e. h (suc i) c e))
+    ∙ sym (sum_by-cons (λ (c : Fact). way_count_at g c.old) x xs)
 
-pub allowed_within : (g g' : Tables) (facts : List Fact) (ways : List (List ℕ)) → AreWays g ways → IsBookOf g g' facts → allowed ways facts ≤ edge_count g * point_count g'
-allowed_within g g' facts ways are book =
-    let f : ℕ → ℕ = λ k. row_count ways (k / point_count g') in
+pub allowed_within : (g g' : Tables) (facts : List Fact) → IsBookOf g g' facts → allowed g facts ≤ edge_count g * point_count g'
+allowed_within g g' facts book =
+    let f : ℕ → ℕ = λ k. way_count_at g (k / point_count g') in
     let bound = weigh_total (place (point_count g') f) f (point_count g * point_count g') facts
     (apart_from (point_count g') f facts (λ i j c d ei ej is. let s = same_from_place c.old c.new d.old d.new (point_count g') (book.within i c ei).new (book.within j d ej).new is in book.once i j c d ei ej s.0 s.1))
     (below_from (point_count g') f facts (point_count g * point_count g') (λ i c e. let o = book.within i c e in let k = mul-add-lt c.old (point_count g') c.new (point_count g) o.old o.new in omega (arith, k))) in
-    let rows = rows_total (λ p. row_count ways p) (point_count g') (point_count g) in
-    let all : total (λ p. row_count ways p) (point_count g) ≡ count_all ways = ap (total (λ p. row_count ways p)) (sym are.points) ∙ total_rows ways in
-    let few = are.count in
-    let edges : total (λ p. row_count ways p) (point_count g) ≤ edge_count g = omega (arith, all, few) in
-    let scaled : total (λ p. row_count ways p) (point_count g) * point_count g' ≤ edge_count g * point_count g' = mul-le-mul_right (point_count g') edges in
-    let same = weighed ways (point_count g') facts (λ i c e. (book.within i c e).new) in
+    let rows = rows_total (λ p. way_count_at g p) (point_count g') (point_count g) in
+    let all : total (λ p. way_count_at g p) (point_count g) ≡ edge_count g = total_ways g.1 in
+    let scaled : total (λ p. way_count_at g p) (point_count g) * point_count g' ≡ edge_count g * point_count g' = ap (λ n. n * point_count g') all in
+    let same = weighed g (point_count g') facts (λ i c e. (book.within i c e).new) in
     omega (arith, bound, rows, scaled, same)
 
 -- what is asked, as one more fact is followed: asked questions and calls that wait are allowed by the facts so far
-module _ (ways : List (List ℕ)) (facts : List Fact) (at : ℕ) (asked left : ℕ) (paid : asked + left ≤ allowed ways (take at facts)) where
+module _ (g : Tables) (facts : List Fact) (at : ℕ) (asked left : ℕ) (paid : asked + left ≤ allowed g (take at facts)) where
   -- all that is asked is allowed
-  pub paid_now : asked + left ≤ allowed ways facts
-  paid_now = let part = sum_by-take-le (λ (d : Fact). row_count ways d.old) facts at in omega (arith, paid, part)
+  pub paid_now : asked + left ≤ allowed g facts
+  paid_now = let part = sum_by-take-le (λ (d : Fact). way_count_at g d.old) facts at in omega (arith, paid, part)
 
   -- and so is what the next fact asks
-  pub paid_next : at < length facts → (c : Fact) → slice_get facts at ≡ Some c → asked + left + row_count ways c.old ≤ allowed ways facts
+  pub paid_next : at < length facts → (c : Fact) → slice_get facts at ≡ Some c → asked + left + way_count_at g c.old ≤ allowed g facts
   paid_next within c stands =
-      let more = sum_by_more_le (λ (d : Fact). row_count ways d.old) facts at c within in
-      let read = ap (λ (d : Fact). row_count ways d.old) (get_or_from_slice_get facts at c c stands) in
+      let more = sum_by_more_le (λ (d : Fact). way_count_at g d.old) facts at c within in
+      let read = ap (λ (d : Fact). way_count_at g d.old) (get_or_from_slice_get facts at c c stands) in
       omega (arith, paid, more, read)
 
   -- after it has been followed
   pub paid_more : (facts' : List Fact) (asked' left' : ℕ) → at < length facts → Extends facts facts'
-      → ((c : Fact) → slice_get facts at ≡ Some c → asked' + left' ≤ asked + left + row_count ways c.old) → asked' + left' ≤ allowed ways (take (at + 1) facts')
+      → ((c : Fact) → slice_get facts at ≡ Some c → asked' + left' ≤ asked + left + way_count_at g c.old) → asked' + left' ≤ allowed g (take (at + 1) facts')
   paid_more facts' asked' left' within grows one =
       let c = get_some facts at within in
       let now = one c.0 c.1 in
-      let more = sum_by_more (λ (d : Fact). row_count ways d.old) facts at c.0 within in
-      let read = ap (λ (d : Fact). row_count ways d.old) (get_or_from_slice_get facts at c.0 c.0 c.1) in
-      let same = ap (allowed ways) (ap (take (at + 1)) grows.is ∙ take-append-le (at + 1) facts grows.more (omega arith)) in
+      let more = sum_by_more (λ (d : Fact). way_count_at g d.old) facts at c.0 within in
+      let read = ap (λ (d : Fact). way_count_at g d.old) (get_or_from_slice_get facts at c.0 c.0 c.1) in
+      let same = ap (allowed g) (ap (take (at + 1)) grows.is ∙ take-append-le (at + 1) facts grows.more (omega arith)) in
       omega (arith, paid, now, more, read, same)
 
   -- while facts are added
-  pub paid_extends : (facts' : List Fact) → at ≤ length facts → Extends facts facts' → asked + left ≤ allowed ways (take at facts')
+  pub paid_extends : (facts' : List Fact) → at ≤ length facts → Extends facts facts' → asked + left ≤ allowed g (take at facts')
   paid_extends facts' upto grows =
-      let same = ap (allowed ways) (ap (take at) grows.is ∙ take-append-le at facts grows.more upto) in
+      let same = ap (allowed g) (ap (take at) grows.is ∙ take-append-le at facts grows.more upto) in
       omega (arith, paid, same)

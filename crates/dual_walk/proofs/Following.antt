@@ -12,17 +12,17 @@ use Rattle.csub_semantics.specs.Numbers.{site, site_at}
 use Rattle.csub_semantics.specs.Books.{IsNoCallAt, SameLabel}
 use Rattle.csub_validity.specs.Valid.{IsValid}
 use Rattle.flow_graph.specs.Graph.{Tables, IsGraphOf, point_count}
+use Rattle.flow_graph.proofs.LawsPlaces.{site_one}
 use Rattle.dual_walk.specs.declared.fact.Fact.{Fact}
 use Rattle.dual_walk.specs.declared.ask.Callee.{Callee}
 use Rattle.dual_walk.specs.declared.pairs.Pairs.{Pairs}
-use Rattle.dual_walk.specs.Books.{IsNamed}
 use Rattle.dual_walk.specs.Held.{AreAt, HasPair, IsHeld, Extends, IsClosedUnder}
-use Rattle.dual_walk.specs.Ways.{Lists, AreWays}
+use Rattle.dual_walk.specs.Books.{IsNamed, LeavesFrom}
+use Rattle.dual_walk.specs.Rows.{Lists}
 use Rattle.dual_walk.specs.Callees.{IsCallee}
 use Rattle.dual_walk.specs.Moments.{IsMoment, WaitsFor, AreWaiting, IsCalledAt, IsPassed, HoldsNext, PassesOver, LeadsOn, ComesBackAt, IsDone, AreDone, IsFollowed, AreResumed}
-use Rattle.dual_walk.proofs.LawsLists.{in_row}
 use Rattle.dual_walk.proofs.LawsReaching.{one_callee, calls_or_not}
-use Rattle.dual_walk.proofs.LawsNumbers.{site_one, site_below, edge_of}
+use Rattle.dual_walk.proofs.LawsNumbers.{edge_of}
 use Rattle.dual_walk.proofs.LawsFacts.{extends_more, get_extends, get_back, extends_long, at_named, held_extends, fact_held, held_same, held_pair}
 use Rattle.dual_walk.proofs.RowLemmas.{lists_long, lists_cases, lists_none}
 
@@ -177,15 +177,10 @@ module _ (P P' : ProgramTree) (before mid after : List Fact) (waiting waiting' w
           over_or_none (inr h) = h
 
 -- where no edge leaves the old point of a fact, nothing follows
-pub no_way : (g : Tables) (P P' : ProgramTree) → IsGraphOf g P → (ways : List (List ℕ)) → AreWays g ways → (facts : List Fact) (c : Fact) (row : List ℕ) → slice_get ways c.old ≡ Some row → row ≡ [] → (x : ExitTree) → HoldsNext P P' facts c x
-no_way g P P' ok ways are facts c row stands none x f p p' q q' at both =
-    let e = edge_of P ok.valid c.old f p q x at.old both.old in
-    let listed = are.whole P ok c.old e.0 (site_below g P c.old (site f p) ok at.old) (record { edge = record { function = f; from = p; exit = x }; numbered = e.1; from = at.old }) in
-    let k = in_row ways c.old e.0 row stands listed in
-    absurd (nothing k.0 e.0 (subst (λ r. slice_get r k.0 ≡ Some e.0) none k.1))
-  where
-    nothing : (i n : ℕ) → slice_get [] i ≡ Some n → ⊥
-    nothing i n h = cc
+pub no_way : (P P' : ProgramTree) → IsValid P → (facts : List Fact) (c : Fact) → ((e : ℕ) → LeavesFrom P e c.old → ⊥) → (x : ExitTree) → HoldsNext P P' facts c x
+no_way P P' valid facts c none x f p p' q q' at both =
+    let e = edge_of P valid c.old f p q x at.old both.old in
+    absurd (none e.0 (record { edge = record { function = f; from = p; exit = x }; numbered = e.1; from = at.old }))
 
 -- where all facts have been followed, nothing more follows
 pub done_closed : (P P' : ProgramTree) (facts : List Fact) (waiting : List (List ℕ)) (n : ℕ) → length facts ≤ n → IsDone P P' facts waiting n → IsClosedUnder P P' facts

@@ -13,12 +13,12 @@ use Rattle.csub_semantics.specs.Books.{SameLabel, Justified, IsBook, Reached}
 use Rattle.csub_validity.specs.Valid.{IsValid}
 use Rattle.program_laws.proofs.LawsFlows.{is_flow}
 use Rattle.flow_graph.proofs.LawsLists.{Made, made_of}
+use Rattle.flow_graph.proofs.LawsPlaces.{site_one}
 use Rattle.dual_walk.specs.declared.fact.Fact.{Fact}
 use Rattle.dual_walk.specs.Books.{IsNamed, name_in, point_in, named_fact, named_facts, named_reason, AreReasoned}
 use Rattle.dual_walk.specs.Held.{AreAt, HasPair, IsHeld, Extends}
 use Rattle.dual_walk.proofs.LawsReaching.{reached_same}
 use Rattle.dual_walk.proofs.LawsLists.{get_left, get_start, append_nil}
-use Rattle.dual_walk.proofs.LawsNumbers.{site_one}
 
 -- more facts
 pub extends_more : {a b c : List Fact} → Extends a b → Extends b c → Extends a c

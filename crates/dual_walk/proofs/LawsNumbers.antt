@@ -1,6 +1,6 @@
 -- What the numbers of a valid program stand for: its points, its ways out, its functions and its labels.
-use Rattle.std.proofs.Common.{◌≡◌, ℕ, zero, suc, ◌+◌, ◌<◌, List, [], ◌∷◌, length, Bool, true, false, cond, Option, Some, None, find, option_map, refl, sym, ap, ◌∙◌, subst, subst₂}
-use Rattle.std.specs.Prelude.{slice_get}
+use Rattle.std.proofs.Common.{◌≡◌, ℕ, zero, suc, ◌+◌, ◌<◌, ◌≤◌, List, [], ◌∷◌, length, Bool, true, false, cond, Option, Some, None, find, option_map, refl, sym, ap, ◌∙◌, subst, subst₂}
+use Rattle.std.specs.Prelude.{◌↔◌, slice_get}
 use Rattle.std.specs.List.{flat_map}
 use Rattle.std.proofs.lemmas.Option.{slice_get-map, slice_get_within, same_Some}
 use Rattle.csub_objects.specs.Types.{Name}
@@ -8,26 +8,20 @@ use Rattle.csub_semantics.specs.Types.{name_eq}
 use Rattle.csub_semantics.specs.Labels.{CallTree, call_of, PointLabel}
 use Rattle.csub_semantics.specs.Points.{PointTree, entry, ExitTree, exit_eq}
 use Rattle.csub_semantics.specs.Syntax.{FunctionTree, ProgramTree}
-use Rattle.csub_semantics.specs.Successors.{Way}
+use Rattle.csub_semantics.specs.Successors.{Node, Way}
 use Rattle.csub_semantics.specs.Flows.{points_of, point_list, Edge, edges_from, function_of, node_of, way_in, way_of, labelled, flow_of, start_name}
 use Rattle.csub_semantics.specs.Numbers.{Site, site, site_of, site_at, edge_at}
 use Rattle.csub_validity.specs.Valid.{BeginsWithStart, IsValid}
 use Rattle.program_laws.specs.Flows.{entry_label, IsFlow}
 use Rattle.program_laws.proofs.LawsNames.{same_name, same_exit}
-use Rattle.flow_graph.specs.Graph.{Tables, IsGraphOf, point_count}
+use Rattle.flow_graph.specs.Graph.{Tables, IsGraphOf, point_count, source_at}
 use Rattle.flow_graph.proofs.LawsLists.{slice_get-left, slice_get-right, made_of}
-use Rattle.flow_graph.proofs.LawsPlaces.{found, points_once, points_counted}
+use Rattle.flow_graph.proofs.LawsPlaces.{found, points_counted}
 use Rattle.edge_label.specs.Numbers.{KeepsNumbers}
+use Rattle.dual_walk.specs.Books.{LeavesFrom}
 use Rattle.dual_walk.specs.LabelRows.{IsNumbered, AreNumbered}
 use Rattle.dual_walk.specs.Callees.{Defines}
 use Rattle.dual_walk.proofs.LawsLists.{get_some}
-
--- one number for each point
-pub site_one : (P : ProgramTree) → IsValid P → (n m : ℕ) (s : Site) → site_at P n ≡ Some s → site_at P m ≡ Some s → n ≡ m
-site_one P valid n m s a b =
-    let x = made_of site_of (slice_get (point_list P) n) s a in
-    let y = made_of site_of (slice_get (point_list P) m) s b in
-    points_once P.functions valid.distinct n m x.value y.value x.is y.is (x.gives ∙ sym y.gives)
 
 -- the numbers of points are those below their count
 pub site_within : (g : Tables) (P : ProgramTree) (n : ℕ) → IsGraphOf g P → n < point_count g → (s : Site) × (site_at P n ≡ Some s)
@@ -64,6 +58,10 @@ found_at {A} test (y ∷ ys) x e = pick (test y) refl e (found_at test ys x)
     pick true t e rest = (0, e, ap test (sym (same_Some y x e)) ∙ t)
     pick false t e rest = let r = rest e in (suc r.0, r.1, r.2)
 
+-- where a point leads, by its own ways out
+own_way : (o : Option (Node PointTree)) (n : Node PointTree) (x : ExitTree) (q : PointTree) → o ≡ Some n → option_map (λ (w : Way PointTree). w.to) (way_of o x) ≡ Some q → option_map (λ (w : Way PointTree). w.to) (way_in n.ways x) ≡ Some q
+own_way o n x q is leads = sym (ap (λ a. option_map (λ (w : Way PointTree). w.to) (way_of a x)) is) ∙ leads
+
 pub edge_of : (P : ProgramTree) → IsValid P → (n : ℕ) (f : Name) (p q : PointTree) (x : ExitTree) → site_at P n ≡ Some (site f p) → (flow_of P).succ f p x ≡ Some q → (e : ℕ) × (edge_at P e ≡ Some (record { function = f; from = p; exit = x }))
 edge_of P valid n f p q x h leads =
     let m = made_of site_of (slice_get (point_list P) n) (site f p) h in
@@ -71,13 +69,29 @@ edge_of P valid n f p q x h leads =
     let same_name' : node.function ≡ f = ap (λ (s : Site). s.function) m.gives in
     let same_point' : node.node.point ≡ p = ap (λ (s : Site). s.point) m.gives in
     let there : node_of (function_of P f) p ≡ Some node.node = subst₂ (λ a b. node_of (function_of P a) b ≡ Some node.node) same_name' same_point' (found P.functions n node valid.distinct m.is) in
-    let w = made_of (λ (w : Way PointTree). w.to) (way_in node.node.ways x) q (sym (ap (λ o. option_map (λ (w : Way PointTree). w.to) (way_of o x)) there) ∙ leads) in
+    let w = made_of (λ (w : Way PointTree). w.to) (way_in node.node.ways x) q (own_way (node_of (function_of P f) p) node.node x q there leads) in
     let at = found_at (λ (w : Way PointTree). exit_eq w.exit x) node.node.ways w.value w.is in
     let one_exit : w.value.exit ≡ x = same_exit w.value.exit x at.2 in
     let of = λ (u : Way PointTree). let y : Edge = record { function = node.function; from = node.node.point; exit = u.exit } in y in
     let there_too : slice_get (edges_from node) at.0 ≡ Some (of w.value) = slice_get-map of node.node.ways at.0 ∙ ap (option_map of) at.1 in
     let same : of w.value ≡ record { function = f; from = p; exit = x } = λ i. record { function = same_name' i; from = same_point' i; exit = one_exit i } in
     flat_at edges_from (point_list P) n at.0 node (record { function = f; from = p; exit = x }) m.is (there_too ∙ ap Some same)
+
+-- the point that is an edge's source is the one that it leaves
+leaves_from : (P : ProgramTree) (e n : ℕ) (s : Site) → site_at P n ≡ Some s → source_at P e ≡ Some s → LeavesFrom P e n
+leaves_from P e n s at source =
+    let edge = made_of (λ (x : Edge). site x.function x.from) (edge_at P e) s source in
+    record { edge = edge.value; numbered = edge.is; from = at ∙ ap Some (sym edge.gives) }
+
+-- the edges of a point, as the graph gives them: they are those that leave it
+module _ (g : Tables) (n start end : ℕ) (edges : (P : ProgramTree) (s : Site) (e : ℕ) → IsGraphOf g P → site_at P n ≡ Some s → ((start ≤ e) × (e < end)) ↔ (source_at P e ≡ Some s)) (P : ProgramTree) (ok : IsGraphOf g P) where
+  pub own_leaves : (e : ℕ) → n < point_count g → start ≤ e → e < end → LeavesFrom P e n
+  own_leaves e within from upto =
+      let at = site_within g P n ok within in
+      leaves_from P e n at.0 at.1 ((edges P at.0 e ok at.1).0 (from, upto))
+
+  pub leaves_own : (e : ℕ) → LeavesFrom P e n → (start ≤ e) × (e < end)
+  leaves_own e l = (edges P (site l.edge.function l.edge.from) e ok l.from).1 (ap (option_map (λ (x : Edge). site x.function x.from)) l.numbered)
 
 -- a function that has an entry is defined
 pub defined_by : (P : ProgramTree) (g : Name) (l : PointLabel) → (flow_of P).label g entry ≡ Some l → Defines P g

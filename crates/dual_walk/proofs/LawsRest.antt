@@ -11,17 +11,13 @@ use Rattle.dual_walk.specs.declared.fact.Fact.{Fact}
 use Rattle.dual_walk.specs.declared.walking.Walk.{Walk}
 use Rattle.dual_walk.specs.Books.{IsNamed}
 use Rattle.dual_walk.specs.Held.{AreAt, IsBookOf, IsClosedUnder}
-use Rattle.dual_walk.specs.Ways.{AreWays}
-use Rattle.dual_walk.specs.Rest.{facts_of, asked_of, ways_of, IsAtRest}
+use Rattle.dual_walk.specs.Rest.{facts_of, asked_of, IsAtRest}
 use Rattle.dual_walk.proofs.Following.{moment_named, moment_same, done_closed}
 use Rattle.dual_walk.proofs.Resting.{asked_few}
 
 module _ (g g' : Tables) (walk : Walk) (ok : IsAtRest g g' walk) where
   pub rest_book : IsBookOf g g' (facts_of walk)
   rest_book = ok.under_way.moment.book
-
-  pub rest_ways : AreWays g (ways_of walk)
-  rest_ways = ok.under_way.ways
 
   -- it has asked no more than one question for each edge and point
   pub rest_few : asked_of walk ≤ edge_count g * point_count g'

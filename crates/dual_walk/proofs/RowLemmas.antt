@@ -4,7 +4,7 @@ use Rattle.std.specs.Prelude.{slice_get}
 use Rattle.std.proofs.lemmas.Bool.{cases_eq}
 use Rattle.std.proofs.lemmas.Option.{slice_get-get_or, same_Some}
 use Rattle.std.proofs.Math.ListN.{length-set}
-use Rattle.dual_walk.specs.Ways.{Lists}
+use Rattle.dual_walk.specs.Rows.{Lists}
 use Rattle.dual_walk.proofs.LawsLists.{get_left, get_push, get_last, get_set_same, get_set_other, same_replicated}
 
 -- no number stands in empty lists

@@ -1,7 +1,7 @@
 pub mod Books
 pub mod Held
 pub mod LabelRows
-pub mod Ways
+pub mod Rows
 pub mod Callees
 pub mod Bits
 pub mod Moments

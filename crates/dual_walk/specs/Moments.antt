@@ -7,10 +7,10 @@ use Rattle.csub_semantics.specs.Syntax.{ProgramTree}
 use Rattle.csub_semantics.specs.Flows.{flow_of}
 use Rattle.csub_semantics.specs.Numbers.{site, site_at}
 use Rattle.csub_semantics.specs.Books.{Together, CallsAt, IsNoCallAt}
-use Rattle.flow_graph.specs.Graph.{Tables, IsGraphOf, point_count}
+use Rattle.flow_graph.specs.Graph.{Tables, IsGraphOf, point_count, way_count_at}
 use Rattle.dual_walk.specs.Books.{IsExplained}
 use Rattle.dual_walk.specs.Held.{AreAt, IsHeld, IsBookOf}
-use Rattle.dual_walk.specs.Ways.{Lists, row_count}
+use Rattle.dual_walk.specs.Rows.{Lists}
 use Rattle.dual_walk.specs.Callees.{IsCallee, AreTogether}
 use Rattle.dual_walk.specs.declared.fact.Fact.{Fact}
 use Rattle.dual_walk.specs.declared.fact.Why.{Why}
@@ -25,8 +25,8 @@ pub record IsMoment (g g' : Tables) (pairs : Pairs) : Type 0 where
   pub book : IsBookOf g g' pairs.facts.items
 
 -- how many questions facts allow: one for each edge that leaves the old point of a fact
-abbrev pub allowed : List (List ℕ) → List Fact → ℕ
-allowed ways facts = sum_by (λ c. row_count ways c.old) facts
+abbrev pub allowed : Tables → List Fact → ℕ
+allowed g facts = sum_by (λ c. way_count_at g c.old) facts
 
 -- the fact at a place calls the function whose exit has this number
 pub record WaitsFor (P P' : ProgramTree) (facts : List Fact) (n j : ℕ) : Type 0 where

@@ -1,23 +1,20 @@
 //! What a walk asks of both graphs.
-ghost use Rattle.std.specs.Prelude.{◌≡◌, ◌<◌, ◌≤◌, ◌+◌, ◌^◌, ◌↔◌, Some, IfOk, IfSome, IsTrue, MatchOption};
+ghost use Rattle.std.specs.Prelude.{◌≡◌, ◌<◌, ◌≤◌, ◌+◌, ◌^◌, ◌↔◌, Some, IfSome, IsTrue, MatchOption};
 ghost use Rattle.csub_objects.specs.Types.{Name};
 ghost use Rattle.csub_semantics.specs.Points.{PointTree, exit, exit_tree, point_tree};
 ghost use Rattle.csub_semantics.specs.Syntax.{ProgramTree};
 ghost use Rattle.csub_semantics.specs.Flows.{flow_of};
 ghost use Rattle.csub_semantics.specs.Numbers.{site, site_at};
 ghost use Rattle.csub_semantics.specs.Books.{SameLabel, Together, IsNoCallAt};
-ghost use Rattle.flow_graph.specs.Graph.{IsGraphOf, point_count, edge_count, function_count};
+ghost use Rattle.flow_graph.specs.Graph.{IsGraphOf, point_count, function_count};
 ghost use Rattle.dual_walk.specs.Held.{AreAt};
 ghost use Rattle.dual_walk.specs.LabelRows.{AreLabelled};
-ghost use Rattle.dual_walk.specs.Ways.{AreWays};
 ghost use Rattle.dual_walk.specs.Callees.{LeadsAlong, AreTogether, IsFunction, IsCallee, Defines};
 
 use crate::both::{Both, same_label};
-use crate::rows::Rows;
 use csub_semantics::{ExitLabel, Label, Point, Text};
 use edge_label::Steps;
-use flow_graph::{EdgeEnds, Graph};
-use std::alloc::{AllocError, Global};
+use flow_graph::Graph;
 use std::sync::ledger::Ledger;
 
 /// A point of the old graph and one of the new graph.
@@ -38,23 +35,6 @@ pub struct Callee {
     pub entry: Pair,
     /// Its exits.
     pub exit: Pair,
-}
-
-/// By each point the numbers of the edges that leave it. An `Err` is want of memory.
-pub fn list_ways(alloc: Global, graph: &Graph) -> Result<Rows, AllocError>
-    ensures ways { IfOk result (AreWays graph.now) }
-    ensures few { IfOk result (λ _. edge_count graph.now < 2 ^ 32) }
-{
-    let mut ways = Rows::new(alloc, graph.points())?;
-    for edge in 0..graph.edges() {
-        let EdgeEnds {
-            from,
-            exit: _,
-            to: _,
-        } = graph.edge_at(edge);
-        ways.push(from, edge)?;
-    }
-    Ok(ways)
 }
 
 /// The successors of two points along a way out, by which the old one leads to the point `to`, where the new one leads on

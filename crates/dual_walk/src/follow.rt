@@ -5,10 +5,10 @@ ghost use Rattle.csub_semantics.specs.Points.{PointTree, ExitTree, exit_tree, ne
 ghost use Rattle.csub_semantics.specs.Syntax.{ProgramTree};
 ghost use Rattle.csub_semantics.specs.Flows.{flow_of};
 ghost use Rattle.csub_semantics.specs.Books.{IsNoCallAt};
-ghost use Rattle.flow_graph.specs.Graph.{IsGraphOf, point_count};
+ghost use Rattle.flow_graph.specs.Graph.{IsGraphOf, point_count, way_count_at};
 ghost use Rattle.dual_walk.specs.Held.{AreAt, Extends};
 ghost use Rattle.dual_walk.specs.LabelRows.{AreLabelled};
-ghost use Rattle.dual_walk.specs.Ways.{Lists, row_count, count_all, AreWays};
+ghost use Rattle.dual_walk.specs.Rows.{Lists, count_all};
 ghost use Rattle.dual_walk.specs.Callees.{LeadsAlong};
 ghost use Rattle.dual_walk.specs.Moments.{IsMoment, AreWaiting, IsCalledAt, IsPassed, Explains, HoldsNext, PassesOver, AreDone, IsFollowed, AreResumed};
 ghost use Rattle.dual_walk.specs.declared.fact.Fact.{Fact};
@@ -70,7 +70,6 @@ fn advance<L: Ledger>(
 /// Adds what follows by steps from a fact that is no call.
 fn take_steps<L: Ledger>(
     both: &Both<'_>,
-    ways: &Rows,
     pairs: &mut Pairs,
     at: u32,
     from: Fact,
@@ -78,20 +77,19 @@ fn take_steps<L: Ledger>(
     steps: &mut Steps<L>,
 ) -> Result<(), AllocError>
     requires labels { AreLabelled both.now }
-    requires ways { AreWays both.now.old.now ways.now }
     requires moment { IsMoment both.now.old.now both.now.new.now pairs.old }
     requires stands { slice_get pairs.old.facts.items at ≡ Some from }
     requires plain { (P P' : ProgramTree) (f : Name) (p p' : PointTree) → IsGraphOf both.now.old.now P → IsGraphOf both.now.new.now P' → AreAt P P' from.old from.new f p p' → IsNoCallAt (flow_of P) f p }
-    requires room { asked.old + row_count ways.now from.old < 2 ^ 64 }
+    requires room { asked.old + way_count_at both.now.old.now from.old < 2 ^ 64 }
     ensures moment { IsMoment both.now.old.now both.now.new.now pairs.new }
     ensures grows { Extends pairs.old.facts.items pairs.new.facts.items }
     ensures steps { OnOk result ((P P' : ProgramTree) → IsGraphOf both.now.old.now P → IsGraphOf both.now.new.now P' → (x : ExitTree) → HoldsNext P P' pairs.new.facts.items from x) }
     ensures counted { steps.new + asked.old ≡ steps.old + asked.new }
-    ensures cost { asked.new ≤ asked.old + row_count ways.now from.old }
+    ensures cost { asked.new ≤ asked.old + way_count_at both.now.old.now from.old }
 {
-    for edge in ways.row(from.old) {
-        let EdgeEnds { from: _, exit, to } = both.old.edge_at(*edge);
-        let why = Why::Step(at, *edge);
+    for edge in both.old.edges_of(from.old) {
+        let EdgeEnds { from: _, exit, to } = both.old.edge_at(edge);
+        let why = Why::Step(at, edge);
         advance(both, pairs, from, to, exit, why, asked, steps)?;
     }
     Ok(())
@@ -170,7 +168,6 @@ fn pass_or_wait<L: Ledger>(
 /// Adds what follows over the call of a fact, if an edge leaves it.
 fn follow_call<L: Ledger>(
     both: &Both<'_>,
-    ways: &Rows,
     pairs: &mut Pairs,
     waiting: &mut Rows,
     at: u32,
@@ -180,23 +177,22 @@ fn follow_call<L: Ledger>(
     steps: &mut Steps<L>,
 ) -> Result<(), AllocError>
     requires labels { AreLabelled both.now }
-    requires ways { AreWays both.now.old.now ways.now }
     requires moment { IsMoment both.now.old.now both.now.new.now pairs.old }
     requires waiting { AreWaiting both.now.old.now both.now.new.now pairs.old.facts.items waiting.old }
     requires stands { slice_get pairs.old.facts.items at ≡ Some from }
     requires callee { IsCalledAt both.now.old.now both.now.new.now pairs.old.facts.items at callee }
     requires old_exit { callee.exit.old < point_count both.now.old.now }
     requires new_exit { callee.exit.new < point_count both.now.new.now }
-    requires room { asked.old + row_count ways.now from.old < 2 ^ 64 }
+    requires room { asked.old + way_count_at both.now.old.now from.old < 2 ^ 64 }
     ensures moment { IsMoment both.now.old.now both.now.new.now pairs.new }
     ensures grows { Extends pairs.old.facts.items pairs.new.facts.items }
     ensures waiting { OnOk result (AreWaiting both.now.old.now both.now.new.now pairs.new.facts.items waiting.new) }
     ensures waits { OnOk result ((n j : ℕ) → Lists waiting.old n j → Lists waiting.new n j) }
     ensures followed { OnOk result ((P P' : ProgramTree) → IsGraphOf both.now.old.now P → IsGraphOf both.now.new.now P' → IsFollowed P P' pairs.new.facts.items waiting.new at from) }
     ensures counted { steps.new + asked.old ≡ steps.old + asked.new }
-    ensures cost { asked.new + count_all waiting.new ≤ asked.old + count_all waiting.old + row_count ways.now from.old }
+    ensures cost { asked.new + count_all waiting.new ≤ asked.old + count_all waiting.old + way_count_at both.now.old.now from.old }
 {
-    if ways.row(from.old).is_empty() {
+    if both.old.edges_of(from.old).is_empty() {
         return Ok(());
     }
     pass_or_wait(both, pairs, waiting, at, callee, asked, steps)
@@ -205,7 +201,6 @@ fn follow_call<L: Ledger>(
 /// Adds what follows from the fact at a place by steps, or over the call at which it stands.
 fn follow_own<L: Ledger>(
     both: &Both<'_>,
-    ways: &Rows,
     pairs: &mut Pairs,
     waiting: &mut Rows,
     at: u32,
@@ -214,22 +209,21 @@ fn follow_own<L: Ledger>(
     steps: &mut Steps<L>,
 ) -> Result<(), AllocError>
     requires labels { AreLabelled both.now }
-    requires ways { AreWays both.now.old.now ways.now }
     requires moment { IsMoment both.now.old.now both.now.new.now pairs.old }
     requires waiting { AreWaiting both.now.old.now both.now.new.now pairs.old.facts.items waiting.old }
     requires stands { slice_get pairs.old.facts.items at ≡ Some from }
-    requires room { asked.old + row_count ways.now from.old < 2 ^ 64 }
+    requires room { asked.old + way_count_at both.now.old.now from.old < 2 ^ 64 }
     ensures moment { IsMoment both.now.old.now both.now.new.now pairs.new }
     ensures grows { Extends pairs.old.facts.items pairs.new.facts.items }
     ensures waiting { OnOk result (AreWaiting both.now.old.now both.now.new.now pairs.new.facts.items waiting.new) }
     ensures waits { OnOk result ((n j : ℕ) → Lists waiting.old n j → Lists waiting.new n j) }
     ensures followed { OnOk result ((P P' : ProgramTree) → IsGraphOf both.now.old.now P → IsGraphOf both.now.new.now P' → IsFollowed P P' pairs.new.facts.items waiting.new at from) }
     ensures counted { steps.new + asked.old ≡ steps.old + asked.new }
-    ensures cost { asked.new + count_all waiting.new ≤ asked.old + count_all waiting.old + row_count ways.now from.old }
+    ensures cost { asked.new + count_all waiting.new ≤ asked.old + count_all waiting.old + way_count_at both.now.old.now from.old }
 {
     match callee_at(both.old, both.new, from.old) {
-        Some(callee) => follow_call(both, ways, pairs, waiting, at, from, callee, asked, steps),
-        None => take_steps(both, ways, pairs, at, from, asked, steps),
+        Some(callee) => follow_call(both, pairs, waiting, at, from, callee, asked, steps),
+        None => take_steps(both, pairs, at, from, asked, steps),
     }
 }
 
@@ -273,7 +267,6 @@ fn resume<L: Ledger>(
 /// Adds what follows from the fact at a place, where the facts before it have been followed.
 pub fn follow<L: Ledger>(
     both: &Both<'_>,
-    ways: &Rows,
     pairs: &mut Pairs,
     waiting: &mut Rows,
     at: u32,
@@ -281,21 +274,20 @@ pub fn follow<L: Ledger>(
     steps: &mut Steps<L>,
 ) -> Result<(), AllocError>
     requires labels { AreLabelled both.now }
-    requires ways { AreWays both.now.old.now ways.now }
     requires moment { IsMoment both.now.old.now both.now.new.now pairs.old }
     requires waiting { AreWaiting both.now.old.now both.now.new.now pairs.old.facts.items waiting.old }
     requires at { at < length pairs.old.facts.items }
     requires done { AreDone both.now.old.now both.now.new.now pairs.old.facts.items waiting.old at }
-    requires room { (c : Fact) → slice_get pairs.old.facts.items at ≡ Some c → asked.old + count_all waiting.old + row_count ways.now c.old < 2 ^ 64 }
+    requires room { (c : Fact) → slice_get pairs.old.facts.items at ≡ Some c → asked.old + count_all waiting.old + way_count_at both.now.old.now c.old < 2 ^ 64 }
     ensures moment { IsMoment both.now.old.now both.now.new.now pairs.new }
     ensures grows { Extends pairs.old.facts.items pairs.new.facts.items }
     ensures waiting { OnOk result (AreWaiting both.now.old.now both.now.new.now pairs.new.facts.items waiting.new) }
     ensures done { OnOk result (AreDone both.now.old.now both.now.new.now pairs.new.facts.items waiting.new (at + 1)) }
     ensures counted { steps.new + asked.old ≡ steps.old + asked.new }
-    ensures cost { (c : Fact) → slice_get pairs.old.facts.items at ≡ Some c → asked.new ≤ asked.old + count_all waiting.old + row_count ways.now c.old }
-    ensures left { OnOk result ((c : Fact) → slice_get pairs.old.facts.items at ≡ Some c → asked.new + count_all waiting.new ≤ asked.old + count_all waiting.old + row_count ways.now c.old) }
+    ensures cost { (c : Fact) → slice_get pairs.old.facts.items at ≡ Some c → asked.new ≤ asked.old + count_all waiting.old + way_count_at both.now.old.now c.old }
+    ensures left { OnOk result ((c : Fact) → slice_get pairs.old.facts.items at ≡ Some c → asked.new + count_all waiting.new ≤ asked.old + count_all waiting.old + way_count_at both.now.old.now c.old) }
 {
     let from = pairs.facts[at as usize];
-    follow_own(both, ways, pairs, waiting, at, from, asked, steps)?;
+    follow_own(both, pairs, waiting, at, from, asked, steps)?;
     resume(both, pairs, waiting, at, from, asked, steps)
 }

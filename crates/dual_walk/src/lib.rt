@@ -7,11 +7,12 @@
 //! where memory is refused. Callees aren't entered: the caller adds the pairs of their entries, as `call_walk` does, or
 //! leaves them out.
 //!
+//! Which edges leave a point, the walk asks of the old graph (`flow_graph::Graph::edges_of`); it keeps no list of them.
 //! Labels are compared by their numbers in one `edge_label::LabelBook` ([`number_labels`]). [`callee_at`] says what is
 //! called at a point.
 //!
 //! `specs/Books` says what numbers and reasons of facts stand for, `Held` what facts hold and when they are closed, and
-//! `Rest` when a walk is at rest; `LabelRows`, `Ways` and `Callees` say what is asked of the graphs, and `Moments` and
+//! `Rest` when a walk is at rest; `LabelRows` and `Callees` say what is asked of the graphs, and `Rows`, `Moments` and
 //! `Bits` are for the functions inside. Proofs above cite `proofs/LawsReaching`, the rules by which pairs are reached;
 //! `LawsFacts`, what held facts stand for; `LawsNumbers`, what the numbers of a graph stand for; `LawsLists`, what stands
 //! in lists; and `LawsRest`, what is held by a walk at rest.

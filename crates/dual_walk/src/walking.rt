@@ -5,10 +5,9 @@ ghost use Rattle.flow_graph.specs.Graph.{IsGraphOf, edge_count, point_count};
 ghost use Rattle.dual_walk.specs.Books.{IsExplained};
 ghost use Rattle.dual_walk.specs.Held.{HasPair, Extends, IsWithin, IsBookOf, IsClosedUnder};
 ghost use Rattle.dual_walk.specs.LabelRows.{AreNumbered, AreLabelled};
-ghost use Rattle.dual_walk.specs.Rest.{facts_of, asked_of, ways_of, IsUnderWay, IsAtRest};
+ghost use Rattle.dual_walk.specs.Rest.{facts_of, asked_of, IsUnderWay, IsAtRest};
 ghost use Rattle.dual_walk.specs.declared.fact.Fact.{Fact};
 
-use crate::ask::list_ways;
 use crate::both::Both;
 use crate::fact::{Fact, Why};
 use crate::follow::follow;
@@ -29,8 +28,6 @@ pub struct Walk {
     pairs: Pairs,
     /// By each old exit point, the places of the calls that wait for it.
     waiting: Rows,
-    /// By each old point, the edges that leave it.
-    ways: Rows,
     /// How many facts have been followed.
     next: usize,
     /// How many questions were asked.
@@ -39,7 +36,7 @@ pub struct Walk {
 
 impl Walk {
     /// A walk of two graphs that holds no pair. An `Err` is want of memory: it takes a bit for each old point and new
-    /// point.
+    /// point, and an empty list for each old point.
     pub fn new(alloc: Global, old: &Graph, new: &Graph) -> Result<Walk, AllocError>
         ensures rests { IfOk result (IsAtRest old.now new.now) }
         ensures none { IfOk result (λ walk. facts_of walk ≡ []) }
@@ -47,11 +44,12 @@ impl Walk {
     {
         let pairs = no_pairs(alloc, old.points(), new.points())?;
         let waiting = Rows::new(alloc, old.points())?;
-        let ways = list_ways(alloc, old)?;
+        // 64 bits count all questions: one is asked at most for each old edge and new point.
+        let most = old.edges() as u64 * new.points() as u64;
+        prove!(most < u64::MAX);
         Ok(Walk {
             pairs,
             waiting,
-            ways,
             next: 0,
             asked: 0,
         })
@@ -115,7 +113,6 @@ impl Walk {
             let at = self.next as u32;
             follow(
                 both,
-                &self.ways,
                 &mut self.pairs,
                 &mut self.waiting,
                 at,
@@ -153,14 +150,6 @@ impl Walk {
             return false;
         }
         holds(&self.pairs, old, new)
-    }
-
-    /// The edges that leave an old point, by their numbers.
-    pub fn ways(&self, point: u32) -> &[u32]
-        requires { point < length (ways_of self.now) }
-        ensures { slice_get (ways_of self.now) point ≡ Some result.now }
-    {
-        self.ways.row(point)
     }
 
     /// The held facts, as a list of their own.

@@ -9,25 +9,13 @@ use Rattle.csub_semantics.specs.Types.{GlobalTree}
 use Rattle.csub_semantics.specs.Labels.{CallTree, call_of, call_tree, PointLabel, label_tree}
 use Rattle.csub_semantics.specs.Points.{PointTree, exit}
 use Rattle.csub_semantics.specs.Syntax.{ProgramTree}
-use Rattle.csub_semantics.specs.Flows.{Flow, flow_of}
+use Rattle.csub_semantics.specs.Flows.{flow_of}
 use Rattle.csub_semantics.specs.Books.{CallsAt}
+use Rattle.csub_semantics.proofs.LawsLabels.{no_call}
 use Rattle.dual_walk.specs.declared.fact.Fact.{Fact}
 use Rattle.dual_walk.specs.Held.{AreAt, IsHeld}
+use Rattle.dual_walk.proofs.LawsReaching.{one_callee}
 use Rattle.explain_report.specs.Explanations.{ComesBackBy}
-
--- a point that calls g calls nothing else
-one_callee : (P : Flow) (f : Name) (p : PointTree) (g h : Name) → CallsAt P f p g → CallsAt P f p h → g ≡ h
-one_callee P f p g h a b =
-    let both : ◌≡◌ {A = Option PointLabel} (Some a.label) (Some b.label) = sym a.labelled ∙ b.labelled in
-    let same : a.label ≡ b.label = cc in
-    let calls : ◌≡◌ {A = Option CallTree} (Some a.call) (Some b.call) = sym a.is ∙ ap (λ (l : PointLabel). call_of l.tree) same ∙ b.is in
-    let one : a.call ≡ b.call = cc in
-    sym a.callee ∙ ap (λ (c : CallTree). c.callee) one ∙ b.callee
-
--- a label that is no call's makes none
-no_call : (l : Label) → ((c : CallLabel) → l ≡ Call c → ⊥) → call_of (label_tree l) ≡ None
-no_call (Call c) other = absurd (other c refl)
-no_call l other = refl
 
 module _ (P P' : ProgramTree) (facts : List Fact) (f : Name) (p : PointTree) (l : Label) (globals : List GlobalTree)
     (labelled : (flow_of P).label f p ≡ Some (record { tree = label_tree l; globals = globals })) where

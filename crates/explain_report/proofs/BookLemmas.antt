@@ -18,7 +18,8 @@ use Rattle.dual_walk.specs.Books.{AreReasoned}
 use Rattle.explain_report.specs.Explanations.{ComesBackBy, Shows, AreUsed}
 use Rattle.explain_report.specs.Parts.{IsPartOf}
 use Rattle.explain_report.specs.Dangers.{IsShown, Argues}
-use Rattle.explain_report.proofs.Places.{get_some, contained, contains_at, zip_long, zip_right, one_place, two_places, places_before, places_once}
+use Rattle.dual_walk.proofs.LawsLists.{get_some, contained, contains_at}
+use Rattle.explain_report.proofs.Places.{zip_long, zip_right, one_place, two_places, places_before, places_once}
 use Rattle.explain_report.proofs.TrimLemmas.{trimmed_reasoned}
 
 -- what a reason names, the same reason in a part names at its place there

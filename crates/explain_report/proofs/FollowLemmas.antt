@@ -10,15 +10,14 @@ use Rattle.csub_semantics.specs.Numbers.{Site, site, site_of, site_at, edge_at}
 use Rattle.edge_trace.specs.Rows.{has}
 use Rattle.flow_graph.specs.Graph.{Tables, IsGraphOf, point_count, edge_count}
 use Rattle.flow_graph.proofs.LawsLists.{made_of}
-use Rattle.flow_graph.proofs.LawsPlaces.{points_counted, edges_counted}
+use Rattle.flow_graph.proofs.LawsPlaces.{points_counted, edges_counted, site_one}
 use Rattle.source_place.specs.declared.place.Place.{Place}
 use Rattle.source_place.specs.Places.{place_of, place_text}
 use Rattle.dual_walk.specs.Books.{exit_in}
 use Rattle.explain_report.specs.Explanations.{new_place}
 use Rattle.explain_report.specs.Dangers.{LeadsToNone}
 use Rattle.explain_report.proofs.EdgeLemmas.{IsPlaced, placed}
-use Rattle.explain_report.proofs.Places.{get_some}
-use Rattle.explain_report.proofs.ReachLemmas.{one_number}
+use Rattle.dual_walk.proofs.LawsLists.{get_some}
 
 -- a number of a graph is that of an edge of its program
 pub edge_there : (g : Tables) (P : ProgramTree) → IsGraphOf g P → (e : ℕ) → e < edge_count g → (edge : Edge) × (edge_at P e ≡ Some edge)
@@ -49,7 +48,7 @@ module _ (g : Tables) (P : ProgramTree) (ok : IsGraphOf g P) (f : Name) (p : Poi
         to : IsTrue (not (has partners n)) → LeadsToNone P partners f p x
         to other = record {
           none = λ q m leads at flagged.
-              let same : m ≡ n = one_number P ok.valid m n (site f q) at (e ∙ ap (option_map (site f)) leads) in
+              let same : m ≡ n = site_one P ok.valid m n (site f q) at (e ∙ ap (option_map (site f)) leads) in
               let set : has partners n ≡ true = ap (has partners) (sym same) ∙ flagged in
               let unset = not-true (has partners n) other in
               let clash : true ≡ false = sym set ∙ unset in

@@ -19,7 +19,8 @@ use Rattle.explain_report.specs.Trims.{named_places, Needed, SameReason, IsMoved
 use Rattle.explain_report.specs.Trims.Needed.{is_wanted}
 use Rattle.explain_report.specs.Marks.{AreMarked, AreClosed, marked_places}
 use Rattle.explain_report.specs.Parts.{renumbered, IsPartAt, IsPartOf}
-use Rattle.explain_report.proofs.Places.{contained, contains_at, get_push_left, get_push, get_set_same, get_set_other, zip_push, zip_weaker, zip_long}
+use Rattle.dual_walk.proofs.LawsLists.{contained, contains_at, get_left, get_push, get_set_same, get_set_other}
+use Rattle.explain_report.proofs.Places.{zip_push, zip_weaker, zip_long}
 
 -- ---- the marked places
 
@@ -90,9 +91,9 @@ same_reason places table (Over j m) at = (at j (0, omega arith, refl), at m (1, 
 -- one more place
 same_reason_more : (places : List ℕ) (n : ℕ) (why other : Why) → SameReason places why other → SameReason (places ++ n ∷ []) why other
 same_reason_more places n Start Start h = tt
-same_reason_more places n (Step j e) (Step k d) h = (get_push_left places n k j h.0, h.1)
-same_reason_more places n (Call j) (Call k) h = get_push_left places n k j h
-same_reason_more places n (Over j m) (Over k l) h = (get_push_left places n k j h.0, get_push_left places n l m h.1)
+same_reason_more places n (Step j e) (Step k d) h = (get_left places (n ∷ []) k j h.0, h.1)
+same_reason_more places n (Call j) (Call k) h = get_left places (n ∷ []) k j h
+same_reason_more places n (Over j m) (Over k l) h = (get_left places (n ∷ []) k j h.0, get_left places (n ∷ []) l m h.1)
 same_reason_more places n why other h = absurd h
 
 moved_more : (facts : List Fact) (places : List ℕ) (n place : ℕ) (c : Fact) → IsMoved facts places place c → IsMoved facts (places ++ n ∷ []) place c
@@ -146,7 +147,7 @@ module _ (facts : List Fact) (marks : List Bool) where
       named j k =
           let at = contained (marked_places marks n) j (places_all marks n j (closed.earlier n j c stands marked k) (closed.marked n j c stands marked k)) in
           let index : slice_index table j ≡ at.0 = get_or_from_slice_get table j at.0 0 (h.entered at.0 j at.1) in
-          ap (slice_get (marked_places marks n ++ n ∷ [])) index ∙ get_push_left (marked_places marks n) n at.0 j at.1
+          ap (slice_get (marked_places marks n ++ n ∷ [])) index ∙ get_left (marked_places marks n) (n ∷ []) at.0 j at.1
 
       entered : (k place : ℕ) → (slice_get (marked_places marks n) k ≡ Some place) ⊎ ((k ≡ length (marked_places marks n)) × (place ≡ n)) → slice_get (set table n (length kept)) place ≡ Some k
       entered k place (inl e) =

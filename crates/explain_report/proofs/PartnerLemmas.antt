@@ -8,7 +8,8 @@ use Rattle.edge_trace.specs.Rows.{has}
 use Rattle.dual_walk.specs.declared.fact.Fact.{Fact}
 use Rattle.dual_walk.specs.Held.{HasPair}
 use Rattle.explain_report.specs.Dangers.{ArePartners}
-use Rattle.explain_report.proofs.Places.{unset, get_push, get_push_left, get_push_last}
+use Rattle.dual_walk.proofs.LawsLists.{get_push, get_left, get_last}
+use Rattle.explain_report.proofs.Places.{unset}
 
 -- one more fact: a pair of the facts with it is one of theirs, or its own
 module _ (facts : List Fact) (n : ℕ) (c : Fact) where
@@ -20,10 +21,10 @@ module _ (facts : List Fact) (n : ℕ) (c : Fact) where
       pick (inr e) = inr (ap (λ (d : Fact). d.old) (sym e.1) ∙ h.old, ap (λ (d : Fact). d.new) (sym e.1) ∙ h.new)
 
   pair_kept : (n' : ℕ) → HasPair facts n n' → HasPair (facts ++ c ∷ []) n n'
-  pair_kept n' h = record { place = h.place; fact = h.fact; stands = get_push_left facts c h.place h.fact h.stands; old = h.old; new = h.new }
+  pair_kept n' h = record { place = h.place; fact = h.fact; stands = get_left facts (c ∷ []) h.place h.fact h.stands; old = h.old; new = h.new }
 
   pair_last : c.old ≡ n → HasPair (facts ++ c ∷ []) n c.new
-  pair_last e = record { place = length facts; fact = c; stands = get_push_last facts c; old = e; new = refl }
+  pair_last e = record { place = length facts; fact = c; stands = get_last facts c; old = e; new = refl }
 
   partners_marked : (partners : List Bool) → c.old ≡ n → c.new < length partners → ArePartners facts n partners → ArePartners (facts ++ c ∷ []) n (set partners c.new true)
   partners_marked partners e l are n' = (to (cases_eq n' c.new), λ h. from (pair_cases n' h) (cases_eq n' c.new))

@@ -4,69 +4,14 @@ use Rattle.std.specs.Prelude.{slice_get, slice_index_or, Contains, AllPairs}
 use Rattle.std.specs.List.{AllZip}
 use Rattle.std.proofs.lemmas.Bool.{cases_lt}
 use Rattle.std.proofs.lemmas.List.{take_more}
-use Rattle.std.proofs.lemmas.Option.{slice_get_within, slice_get-get_or, get_or_from_slice_get, same_Some}
+use Rattle.std.proofs.lemmas.Option.{slice_get_within, get_or_from_slice_get, same_Some}
 
 module _ {X : Type 0} where
-  pub get_some : (xs : List X) (i : ℕ) → i < length xs → (x : X) × (slice_get xs i ≡ Some x)
-  get_some [] i l = absurd (omega arith)
-  get_some (x ∷ xs) zero l = (x, refl)
-  get_some (x ∷ xs) (suc i) l = get_some xs i (omega arith)
-
-  -- an element that was read
-  pub read_at : (xs : List X) (i : ℕ) (x : X) → i < length xs → x ≡ get_or xs i x → slice_get xs i ≡ Some x
-  read_at xs i x l e = slice_get-get_or xs i x l ∙ ap Some (sym e)
-
-  -- what is contained stands somewhere
-  pub contained : (xs : List X) (x : X) → Contains xs x → (i : ℕ) × (slice_get xs i ≡ Some x)
-  contained xs x h = (h.0, slice_get-get_or xs h.0 x h.1 ∙ ap Some h.2)
-
-  pub contains_at : (xs : List X) (i : ℕ) (x : X) → slice_get xs i ≡ Some x → Contains xs x
-  contains_at xs i x e = (i, slice_get_within xs i x e, get_or_from_slice_get xs i x x e)
-
-  -- one more element at the end
-  pub get_push_left : (xs : List X) (y : X) (i : ℕ) (x : X) → slice_get xs i ≡ Some x → slice_get (xs ++ y ∷ []) i ≡ Some x
-  get_push_left [] y i x e = cc
-  get_push_left (z ∷ xs) y zero x e = e
-  get_push_left (z ∷ xs) y (suc i) x e = get_push_left xs y i x e
-
-  pub get_push_last : (xs : List X) (y : X) → slice_get (xs ++ y ∷ []) (length xs) ≡ Some y
-  get_push_last [] y = refl
-  get_push_last (x ∷ xs) y = get_push_last xs y
-
-  pub get_push : (xs : List X) (y : X) (i : ℕ) (x : X) → slice_get (xs ++ y ∷ []) i ≡ Some x → (slice_get xs i ≡ Some x) ⊎ ((i ≡ length xs) × (x ≡ y))
-  get_push [] y zero x e = inr (refl, cc)
-  get_push [] y (suc i) x e = cc
-  get_push (z ∷ xs) y zero x e = inl e
-  get_push (z ∷ xs) y (suc i) x e = go (get_push xs y i x e)
-    where
-      go : (slice_get xs i ≡ Some x) ⊎ ((i ≡ length xs) × (x ≡ y)) → (slice_get (z ∷ xs) (suc i) ≡ Some x) ⊎ ((suc i ≡ length (z ∷ xs)) × (x ≡ y))
-      go (inl h) = inl h
-      go (inr h) = inr (ap suc h.0, h.1)
-
   -- the front of a list up to an element that was read, and with it
   pub take_read : (xs : List X) (i : ℕ) (x : X) → i < length xs → x ≡ get_or xs i x → take (i + 1) xs ≡ take i xs ++ x ∷ []
   take_read xs i x l e = take_more xs i x l ∙ ap (λ y. take i xs ++ y ∷ []) (sym e)
 
-  -- a place that is written, and the others
-  pub get_set_same : (xs : List X) (i : ℕ) (y : X) → i < length xs → slice_get (set xs i y) i ≡ Some y
-  get_set_same [] i y l = absurd (omega arith)
-  get_set_same (x ∷ xs) zero y l = refl
-  get_set_same (x ∷ xs) (suc i) y l = get_set_same xs i y (omega arith)
-
-  pub get_set_other : (xs : List X) (i j : ℕ) (y : X) → (j ≡ i → ⊥) → slice_get (set xs i y) j ≡ slice_get xs j
-  get_set_other [] i j y n = refl
-  get_set_other (x ∷ xs) zero zero y n = absurd (n refl)
-  get_set_other (x ∷ xs) zero (suc j) y n = refl
-  get_set_other (x ∷ xs) (suc i) zero y n = refl
-  get_set_other (x ∷ xs) (suc i) (suc j) y n = get_set_other xs i j y (λ e. n (ap suc e))
-
-  -- the front of a list
-  pub get_take : (n : ℕ) (xs : List X) (i : ℕ) (x : X) → slice_get (take n xs) i ≡ Some x → (i < n) × (slice_get xs i ≡ Some x)
-  get_take zero xs i x e = cc
-  get_take (suc n) [] i x e = cc
-  get_take (suc n) (y ∷ xs) zero x e = (omega arith, e)
-  get_take (suc n) (y ∷ xs) (suc i) x e = let r = get_take n xs i x e in (omega (arith, r.0), r.1)
-
+  -- in the front of a list stands what stands in the list
   pub take_get : (n : ℕ) (xs : List X) (i : ℕ) (x : X) → i < n → slice_get xs i ≡ Some x → slice_get (take n xs) i ≡ Some x
   take_get zero xs i x l e = absurd (omega arith)
   take_get (suc n) [] i x l e = e

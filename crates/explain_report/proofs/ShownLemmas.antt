@@ -14,7 +14,7 @@ use Rattle.csub_semantics.proofs.LawsLabels.{call_or_none}
 use Rattle.edge_trace.specs.Rows.{has}
 use Rattle.flow_graph.specs.Graph.{Tables, IsGraphOf, point_count, edge_count, function_count, function_at, function_of}
 use Rattle.flow_graph.proofs.LawsLists.{made_of}
-use Rattle.flow_graph.proofs.LawsPlaces.{points_counted, edges_counted}
+use Rattle.flow_graph.proofs.LawsPlaces.{points_counted, edges_counted, site_one}
 use Rattle.dual_walk.specs.declared.fact.Fact.{Fact}
 use Rattle.dual_walk.specs.declared.fact.Why.{Why}
 use Rattle.dual_walk.specs.declared.fact.Why.TheVariants.{Start, Step, Call, Over}
@@ -25,7 +25,7 @@ use Rattle.dual_walk.specs.Held.{HasPair, IsHeld, IsWithin}
 use Rattle.dual_walk.specs.Books.{AreReasoned}
 use Rattle.explain_report.specs.Explanations.{ComesBackBy, Shows}
 use Rattle.explain_report.specs.Dangers.{AreWithin, AreNamed, ArePartners, LeadsToNone, LeadsToNoneAt, IsEdgeWithin, IsTellable}
-use Rattle.explain_report.proofs.ReachLemmas.{one_number, held_reached, reached_held, next_held}
+use Rattle.explain_report.proofs.ReachLemmas.{held_reached, reached_held, next_held}
 
 -- ---- numbers of a program are numbers of its graph
 
@@ -113,7 +113,7 @@ module _ (P P' : ProgramTree) (walked : WalkResult) (walk : IsWalk P P' walked) 
         place = h.place;
         fact = h.fact;
         stands = h.stands;
-        old = one_number P ok.valid h.fact.old from (site edge.function edge.from) h.at.old is_from;
+        old = site_one P ok.valid h.fact.old from (site edge.function edge.from) h.at.old is_from;
         new = h.at.new;
         leads = record { none = none };
       }
@@ -150,7 +150,7 @@ module _ (P P' : ProgramTree) (walked : WalkResult) (walk : IsWalk P P' walked) 
     parts q' leads' same =
         let both : Together (flow_of P) (flow_of P') edge.function edge.from named.other edge.exit danger.to q' = record { old = danger.leads; new = leads'; same = same } in
         let h = next_held P P' walked walk ok.valid edge.function edge.from named.other danger.to q' edge.exit label.label label.old here comes_back both in
-        let is : h.fact.old ≡ to = one_number P ok.valid h.fact.old to (site edge.function danger.to) h.at.old to_at in
+        let is : h.fact.old ≡ to = site_one P ok.valid h.fact.old to (site edge.function danger.to) h.at.old to_at in
         let pair : HasPair facts to h.fact.new = record { place = h.place; fact = h.fact; stands = h.stands; old = is; new = refl } in
         (leads P' edge.function named.other ok' new_at).none q' h.fact.new leads' h.at.new ((are h.fact.new).1 pair)
 

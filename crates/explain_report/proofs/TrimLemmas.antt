@@ -14,7 +14,8 @@ use Rattle.dual_walk.specs.declared.fact.Why.TheVariants.{Start, Step, Call, Ove
 use Rattle.dual_walk.specs.Books.{name_in, point_in, exit_in, named_fact, named_facts, named_reason, LeavesFrom, StepsAlong, IsExplained}
 use Rattle.explain_report.specs.Trims.{named_places, RestOnEarlier, SameReason, IsMoved, IsTrimmed}
 use Rattle.dual_walk.specs.Books.{AreReasoned}
-use Rattle.explain_report.proofs.Places.{get_take, take_get, zip_left, zip_right, one_place, two_places, places_before}
+use Rattle.dual_walk.proofs.LawsLists.{get_take}
+use Rattle.explain_report.proofs.Places.{take_get, zip_left, zip_right, one_place, two_places, places_before}
 
 module _ (P P' : ProgramTree) where
   -- ---- reasons name earlier facts

@@ -12,14 +12,15 @@ use Rattle.csub_semantics.specs.Numbers.{site}
 use Rattle.csub_semantics.specs.Books as books
 use Rattle.csub_semantics.specs.Books.{Reached}
 use Rattle.csub_validity.specs.Valid.{IsValid}
+use Rattle.flow_graph.proofs.LawsPlaces.{site_one}
 use Rattle.dual_walk.specs.declared.fact.Fact.{Fact}
 use Rattle.call_walk.specs.declared.answer.WalkResult.{WalkResult}
 use Rattle.dual_walk.specs.Books.{IsNamed, named_fact, named_facts}
 use Rattle.call_walk.specs.Walks.{IsWalk}
 use Rattle.explain_report.specs.WalkTexts.{walk_text}
 use Rattle.explain_report.specs.Walks.{AreReachedPairs, IsWalkText}
-use Rattle.explain_report.proofs.Places.{get_some}
-use Rattle.explain_report.proofs.ReachLemmas.{one_number, named_as}
+use Rattle.dual_walk.proofs.LawsLists.{get_some}
+use Rattle.explain_report.proofs.ReachLemmas.{named_as}
 
 module _ (P P' : ProgramTree) where
   -- facts of the same names have the same numbers
@@ -28,7 +29,7 @@ module _ (P P' : ProgramTree) where
       let same : books.fact n.name n.point n.other ≡ books.fact m.name m.point m.other = sym (named_as P P' c n) ∙ e ∙ named_as P P' d m in
       let old : site n.name n.point ≡ site m.name m.point = ap (λ (f : books.Fact). site f.function f.old) same in
       let new : site n.name n.other ≡ site m.name m.other = ap (λ (f : books.Fact). site f.function f.new) same in
-      (one_number P valid c.old d.old (site m.name m.point) (n.old ∙ ap Some old) m.old, one_number P' valid' c.new d.new (site m.name m.other) (n.new ∙ ap Some new) m.new)
+      (site_one P valid c.old d.old (site m.name m.point) (n.old ∙ ap Some old) m.old, site_one P' valid' c.new d.new (site m.name m.other) (n.new ∙ ap Some new) m.new)
 
   named_at : (facts : List Fact) (i : ℕ) (c : Fact) (d : books.Fact) → slice_get facts i ≡ Some c → get_or (named_facts P P' facts) i d ≡ named_fact P P' c
   named_at facts i c d is =

@@ -9,7 +9,8 @@ use Rattle.csub_semantics.specs.Syntax.{FunctionTree, ProgramTree}
 use Rattle.csub_semantics.specs.Successors.{Node}
 use Rattle.csub_semantics.specs.Types.{name_eq}
 use Rattle.csub_semantics.specs.Flows.{function_nodes, PlacedNode, placed, points_of, point_list, edge_list, function_in, node_in, node_of}
-use Rattle.csub_semantics.specs.Numbers.{Site, site_of}
+use Rattle.csub_semantics.specs.Numbers.{Site, site_of, site_at}
+use Rattle.csub_core.specs.Valid.{IsValid}
 use Rattle.program_laws.proofs.LawsNames.{same_name, name_itself, same_point, point_itself}
 use Rattle.flow_graph.specs.Graph.{Tables, IsGraphOf, point_count, edge_count, point_at, point_of}
 use Rattle.flow_graph.specs.Numbers.{count_function}
@@ -123,6 +124,13 @@ points_once (f ∷ rest) differ i j a b e g h =
     step (inl t) (inr u) later = absurd (apart a b i u.0 t u.2 (ap (λ (s : Site). s.function) h))
     step (inr t) (inl u) later = absurd (apart b a j t.0 u t.2 (sym (ap (λ (s : Site). s.function) h)))
     step (inr t) (inr u) later = t.1 ∙ ap (λ n. length (own_points f) + n) (later t.0 u.0 t.2 u.2) ∙ sym u.1
+
+-- a valid program has one number for each point
+pub site_one : (P : ProgramTree) → IsValid P → (n m : ℕ) (s : Site) → site_at P n ≡ Some s → site_at P m ≡ Some s → n ≡ m
+site_one P valid n m s a b =
+    let x = made_of site_of (slice_get (point_list P) n) s a in
+    let y = made_of site_of (slice_get (point_list P) m) s b in
+    points_once P.functions valid.distinct n m x.value y.value x.is y.is (x.gives ∙ sym y.gives)
 
 -- a graph has as many points and edges as its program
 pub points_counted : (g : Tables) (P : ProgramTree) → IsGraphOf g P → point_count g ≡ length (point_list P)

@@ -5,7 +5,7 @@ use Rattle.std.specs.Option.{option_map, option_and_then}
 use Rattle.std.proofs.lemmas.List.{length-map}
 use Rattle.std.proofs.lemmas.List.Sums.{sum_by-cons}
 use Rattle.std.proofs.lemmas.Simd.{map-map}
-use Rattle.std.proofs.lemmas.Option.{slice_get-map, same_Some, slice_get-get_or}
+use Rattle.std.proofs.lemmas.Option.{slice_get-map, slice_get_within, same_Some, slice_get-get_or, get_or_from_slice_get}
 use Rattle.csub_semantics.specs.declared.types.GlobalVar.{GlobalVar}
 use Rattle.csub_objects.specs.Types.{Name}
 use Rattle.csub_semantics.specs.Types.{name_eq}
@@ -15,14 +15,14 @@ use Rattle.csub_semantics.specs.Points.{PointTree, entry, exit, point_tree, Exit
 use Rattle.csub_semantics.specs.Syntax.{FunctionTree, ProgramTree}
 use Rattle.csub_semantics.specs.Successors.{Way}
 use Rattle.csub_semantics.specs.Flows as flows
-use Rattle.csub_semantics.specs.Flows.{PlacedNode, point_list, Edge, edges_from, edge_list, labelled, flow_of}
+use Rattle.csub_semantics.specs.Flows.{PlacedNode, point_list, Edge, edge_list, labelled, flow_of}
 use Rattle.csub_semantics.specs.Numbers.{Site, site, site_of, site_at, edge_at, name_at}
 use Rattle.flow_graph.specs.declared.node.GraphWay.{GraphWay}
 use Rattle.flow_graph.specs.declared.node.GraphPoint.{GraphPoint}
 use Rattle.flow_graph.specs.declared.node.GraphFunction.{GraphFunction}
-use Rattle.flow_graph.specs.Graph.{Tables, NamedPoint, NamedFunction, way_at, point_at, function_at, way_of, point_of, function_of, way_count, edge_count, point_count, function_count, IsGraphOf, firsts_of, sources_of}
+use Rattle.flow_graph.specs.Graph.{Tables, NamedPoint, NamedFunction, way_at, point_at, function_at, way_of, point_of, function_of, way_count, edge_count, point_count, function_count, IsGraphOf, firsts_of, sources_of, way_count_at, source_at}
 use Rattle.flow_graph.proofs.LawsLists.{find-map, Made, made_of}
-use Rattle.flow_graph.proofs.LawsPlaces.{found, point_placed}
+use Rattle.flow_graph.proofs.LawsPlaces.{found, point_placed, site_one, edges_counted}
 use Rattle.program_laws.proofs.LawsNames.{same_exit}
 use Rattle.program_laws.proofs.LawsWays.{found_by_exit, ways_differ}
 use Rattle.flow_graph.proofs.EdgePlaces.{edge_place, firsts-length, sources-length, source}
@@ -36,6 +36,56 @@ read_point t fs ps n p v h e = ap (λ (x : Tables). slice_get x.1 n) (sym v) ∙
 
 pub read_function : {gs : List GlobalVar} (t : Tables) (fs : List GraphFunction) (ps : List GraphPoint) (n : ℕ) (f : GraphFunction) → (fs, ps, gs) ≡ t → n < function_count t → f ≡ get_or fs n f → slice_get t.0 n ≡ Some f
 read_function t fs ps n f v h e = ap (λ (x : Tables). slice_get x.0 n) (sym v) ∙ at_read fs n f (subst (λ (x : Tables). n < length x.0) (sym v) h) e
+
+-- an element at a place of a list
+pub some_at : {A : Type 0} (xs : List A) (i : ℕ) → i < length xs → (x : A) × (slice_get xs i ≡ Some x)
+some_at [] i h = absurd (omega arith)
+some_at (x ∷ xs) zero h = (x, refl)
+some_at (x ∷ xs) (suc i) h = some_at xs i (omega arith)
+
+-- an edge by its source point, as the tables tell it
+pub record EdgeRead (t : Tables) (k from : ℕ) : Type 0 where
+  pub first : ℕ
+  pub index : ℕ
+  pub point : GraphPoint
+  pub is_point : slice_get t.1 from ≡ Some point
+  pub is_first : slice_get (firsts_of t.1 0) from ≡ Some first
+  pub is_edge : first + index ≡ k
+  pub within : index < way_count point
+
+pub source_read : (t : Tables) (k from : ℕ) → slice_get (sources_of t.1 0) k ≡ Some from → EdgeRead t k from
+source_read t k from there =
+    let at_source = source t.1 0 0 k from there in
+    let same : from ≡ at_source.place = at_source.is_from ∙ omega arith in
+    let edge = at_source.is_edge in
+    record {
+      first = at_source.first;
+      index = at_source.index;
+      point = at_source.point;
+      is_point = ap (slice_get t.1) same ∙ at_source.is_point;
+      is_first = ap (slice_get (firsts_of t.1 0)) same ∙ at_source.is_first;
+      is_edge = omega arith;
+      within = at_source.within;
+    }
+
+pub edge_read : {gs : List GlobalVar} (t : Tables) (fs : List GraphFunction) (ps : List GraphPoint) (sources : List ℕ) (k from : ℕ) → (fs, ps, gs) ≡ t → sources ≡ sources_of ps 0 → k < edge_count t → from ≡ get_or sources k from → EdgeRead t k from
+edge_read t fs ps sources k from v is h e =
+    let long : length sources ≡ edge_count t = ap length is ∙ sources-length ps 0 ∙ ap edge_count v in
+    let within : k < length sources = omega arith in
+    source_read t k from (sym (ap (λ l. slice_get l k) (is ∙ ap (λ (x : Tables). sources_of x.1 0) v)) ∙ at_read sources k from within e)
+
+-- the same edge, by what was read of it
+pub record EdgeAt (t : Tables) (k from first : ℕ) (p : GraphPoint) : Type 0 where
+  pub not_before : first ≤ k
+  pub within : k - first < way_count p
+
+pub edge_within : (t : Tables) (k from first : ℕ) (p : GraphPoint) → EdgeRead t k from → slice_get t.1 from ≡ Some p → slice_get (firsts_of t.1 0) from ≡ Some first → EdgeAt t k from first p
+edge_within t k from first p r e f =
+    let same_first = same_Some r.first first (sym r.is_first ∙ f) in
+    let same_count = ap way_count (same_Some r.point p (sym r.is_point ∙ e)) in
+    let edge = r.is_edge in
+    let within = r.within in
+    record { not_before = omega arith; within = omega arith }
 
 module _ (P : ProgramTree) (t : Tables) (g : IsGraphOf t P) where
   -- the program has a point at each number of the graph
@@ -225,6 +275,34 @@ module _ (P : ProgramTree) (t : Tables) (g : IsGraphOf t P) where
       ∙ ap (option_map (λ (q : PointTree). of (site_of node) x)) (sym succ)
       ∙ ap (λ y. option_map (λ (q : PointTree). of y x) ((flow_of P).succ y.function y.point x)) same
 
+  -- the source of an edge of the graph is the point that has it
+  edge_source : (n i k : ℕ) (p : GraphPoint) (w : GraphWay) → EdgeIs n i k p w → source_at P k ≡ site_at P n
+  edge_source n i k p w is = ap (option_map (λ (x : Edge). site x.function x.from)) is.edge ∙ sym (ap (option_map site_of) is.is_node)
+
+  source_site : (n i k : ℕ) (p : GraphPoint) (w : GraphWay) (s : Site) → EdgeIs n i k p w → source_at P k ≡ Some s → site_at P n ≡ Some s
+  source_site n i k p w s is leaves = sym (edge_source n i k p w is) ∙ leaves
+
+  -- an edge among those of a point leaves it, and each edge that leaves a point is among its own
+  pub among_leaves : (n first k : ℕ) (p : GraphPoint) (s : Site) → slice_get t.1 n ≡ Some p → slice_get (firsts_of t.1 0) n ≡ Some first → site_at P n ≡ Some s → first ≤ k → k < first + way_count p → source_at P k ≡ Some s
+  among_leaves n first k p s e f at from upto =
+      let within : k - first < way_count p = omega arith in
+      let way = some_at p.node.ways.items (k - first) within in
+      let sum : first + (k - first) ≡ k = omega arith in
+      edge_source n (k - first) k p way.0 (edge_is n (k - first) first k p way.0 e f way.1 sum) ∙ at
+
+  pub leaves_among : (n first k : ℕ) (p : GraphPoint) (s : Site) → slice_get t.1 n ≡ Some p → slice_get (firsts_of t.1 0) n ≡ Some first → site_at P n ≡ Some s → source_at P k ≡ Some s → EdgeAt t k n first p
+  leaves_among n first k p s e f at leaves =
+      let edge = made_of (λ (x : Edge). site x.function x.from) (edge_at P k) s leaves in
+      let below = slice_get_within (edge_list P) k edge.value edge.is in
+      let counted = edges_counted t P g in
+      let long = sources-length t.1 0 in
+      let from = some_at (sources_of t.1 0) k (omega arith) in
+      let read = source_read t k from.0 from.1 in
+      let way = some_at read.point.node.ways.items read.index read.within in
+      let at_from = source_site from.0 read.index k read.point way.0 s (edge_is from.0 read.index read.first k read.point way.0 read.is_point read.is_first way.1 read.is_edge) leaves in
+      let same = site_one P g.valid from.0 n s at_from at in
+      edge_within t k n first p (subst (EdgeRead t k) same read) e f
+
 -- the edges of a point are among all
 pub first_within : (ps : List GraphPoint) (e n first : ℕ) (p : GraphPoint) → slice_get (firsts_of ps e) n ≡ Some first → slice_get ps n ≡ Some p → first + way_count p ≤ e + sum_by way_count ps
 first_within [] e n first p f h = absurd cc
@@ -244,53 +322,10 @@ read_first t fs ps firsts n first v is h e =
     let within : n < length firsts = omega arith in
     sym (ap (λ l. slice_get l n) (is ∙ ap (λ (x : Tables). firsts_of x.1 0) v)) ∙ at_read firsts n first within e
 
--- an element at a place of a list
-pub some_at : {A : Type 0} (xs : List A) (i : ℕ) → i < length xs → (x : A) × (slice_get xs i ≡ Some x)
-some_at [] i h = absurd (omega arith)
-some_at (x ∷ xs) zero h = (x, refl)
-some_at (x ∷ xs) (suc i) h = some_at xs i (omega arith)
-
 pub none_made : {A : Type 0} {B : Type 0} {C : Type 0} (f : A → B) (h : A → C) (o : Option A) → None ≡ option_map f o → None ≡ option_map h o
 none_made f h None e = refl
 none_made f h (Some x) e = absurd cc
 
--- an edge by its source point, as the tables tell it
-pub record EdgeRead (t : Tables) (k from : ℕ) : Type 0 where
-  pub first : ℕ
-  pub index : ℕ
-  pub point : GraphPoint
-  pub is_point : slice_get t.1 from ≡ Some point
-  pub is_first : slice_get (firsts_of t.1 0) from ≡ Some first
-  pub is_edge : first + index ≡ k
-  pub within : index < way_count point
-
-pub edge_read : {gs : List GlobalVar} (t : Tables) (fs : List GraphFunction) (ps : List GraphPoint) (sources : List ℕ) (k from : ℕ) → (fs, ps, gs) ≡ t → sources ≡ sources_of ps 0 → k < edge_count t → from ≡ get_or sources k from → EdgeRead t k from
-edge_read t fs ps sources k from v is h e =
-    let long : length sources ≡ edge_count t = ap length is ∙ sources-length ps 0 ∙ ap edge_count v in
-    let within : k < length sources = omega arith in
-    let there = sym (ap (λ l. slice_get l k) (is ∙ ap (λ (x : Tables). sources_of x.1 0) v)) ∙ at_read sources k from within e in
-    let at_source = source t.1 0 0 k from there in
-    let same : from ≡ at_source.place = at_source.is_from ∙ omega arith in
-    let edge = at_source.is_edge in
-    record {
-      first = at_source.first;
-      index = at_source.index;
-      point = at_source.point;
-      is_point = ap (slice_get t.1) same ∙ at_source.is_point;
-      is_first = ap (slice_get (firsts_of t.1 0)) same ∙ at_source.is_first;
-      is_edge = omega arith;
-      within = at_source.within;
-    }
-
--- the same edge, by what was read of it
-pub record EdgeAt (t : Tables) (k from first : ℕ) (p : GraphPoint) : Type 0 where
-  pub not_before : first ≤ k
-  pub within : k - first < way_count p
-
-pub edge_within : (t : Tables) (k from first : ℕ) (p : GraphPoint) → EdgeRead t k from → slice_get t.1 from ≡ Some p → slice_get (firsts_of t.1 0) from ≡ Some first → EdgeAt t k from first p
-edge_within t k from first p r e f =
-    let same_first = same_Some r.first first (sym r.is_first ∙ f) in
-    let same_count = ap way_count (same_Some r.point p (sym r.is_point ∙ e)) in
-    let edge = r.is_edge in
-    let within = r.within in
-    record { not_before = omega arith; within = omega arith }
+-- how many ways out a point has, by its number
+pub count_read : (t : Tables) (n : ℕ) (p : GraphPoint) → slice_get t.1 n ≡ Some p → way_count_at t n ≡ way_count p
+count_read t n p e = get_or_from_slice_get (map way_count t.1) n (way_count p) 0 (slice_get-map way_count t.1 n ∙ ap (option_map way_count) e)

@@ -8,7 +8,7 @@ use Rattle.csub_semantics.specs.Types.{name_eq}
 use Rattle.csub_semantics.specs.Points.{PointTree, entry, exit, at, next, on_true, on_false, on_case, on_default}
 use Rattle.csub_semantics.specs.Syntax.{Stage, PartTree, StmtTree, StmtTrees, ElseTree, parts, block, conditional, while_loop, do_loop, for_loop, switch_on, case_label, default_label, breaks, continues, goes_to, marked, no_stmt, more_stmts, no_else, else_stmt, FunctionTree}
 use Rattle.csub_semantics.specs.Successors as points
-use Rattle.csub_semantics.specs.Successors.{Way, Node, Around, Mark, way, leaving, looping, switching, own_ways, last_ways, test_ways, case_of, case_way, is_default, case_values, rising, target}
+use Rattle.csub_semantics.specs.Successors.{Way, Node, Around, Mark, way, leaving, switching, own_ways, last_ways, test_ways, case_of, case_way, is_default, case_values, rising, target}
 use Rattle.csub_semantics.specs.Flows.{function_nodes, to_exit, goto_of, end_rule}
 use Rattle.csub_semantics.specs.Numbers.{Site, site}
 use Rattle.flow_graph.specs.Numbers.{Numbered, count, count_parts, count_head, count_list, enter, enter_list, enter_else, enter_part, enter_parts, part_numbered, parts_numbered, numbered, list_numbered, else_numbered, case_ways, default_to, switch_ways, in_while, in_for, marks, marks_list, marks_else, exit_number, by_exit, jump_of, function_numbered}

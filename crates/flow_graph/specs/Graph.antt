@@ -1,5 +1,7 @@
 -- What the graph of a program is: its functions and points in the program's order, with numbers in place of names.
 use Rattle.std.specs.Prelude.{ℕ, ◌≡◌, ◌+◌, ◌^◌, ◌<◌, List, [], ◌∷◌, ◌++◌, map, length, replicate, Option, Some, sum_by, All}
+use Rattle.std.specs.Prelude.{slice_index_or}
+use Rattle.std.specs.Option.{option_map}
 use Rattle.csub_text.specs.declared.span.Span.{Span}
 use Rattle.csub_semantics.specs.declared.types.GlobalVar.{GlobalVar}
 use Rattle.csub_objects.specs.Types.{Name}
@@ -8,8 +10,8 @@ use Rattle.csub_semantics.specs.Labels.{LabelTree, label_tree}
 use Rattle.csub_semantics.specs.Points.{PointTree, entry, exit, point_tree, exit_tree}
 use Rattle.csub_semantics.specs.Syntax.{FunctionTree, ProgramTree}
 use Rattle.csub_semantics.specs.Successors.{Node, Way, way}
-use Rattle.csub_semantics.specs.Flows.{PlacedNode, point_list}
-use Rattle.csub_semantics.specs.Numbers.{Site, site, site_at, name_at}
+use Rattle.csub_semantics.specs.Flows.{PlacedNode, point_list, Edge}
+use Rattle.csub_semantics.specs.Numbers.{Site, site, site_at, edge_at, name_at}
 use Rattle.csub_core.specs.Valid.{IsValid}
 use Rattle.flow_graph.specs.declared.node.GraphWay.{GraphWay}
 use Rattle.flow_graph.specs.declared.node.GraphPoint.{GraphPoint}
@@ -31,6 +33,14 @@ way_count p = length p.node.ways.items
 
 abbrev pub edge_count : Tables → ℕ
 edge_count g = sum_by way_count g.1
+
+-- how many ways out the point with a number has; none where no point has the number
+abbrev pub way_count_at : Tables → ℕ → ℕ
+way_count_at g n = slice_index_or (map way_count g.1) n 0
+
+-- the point that the edge with a number leaves
+abbrev pub source_at : ProgramTree → ℕ → Option Site
+source_at P e = option_map (λ (x : Edge). site x.function x.from) (edge_at P e)
 
 -- a point of a function, with its ways out by the points to which they lead
 pub record NamedNode : Type 0 where

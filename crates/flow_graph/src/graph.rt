@@ -1,5 +1,5 @@
 //! The graph of a program.
-ghost use Rattle.std.specs.Prelude.{◌≡◌, ◌<◌, IfOk, IfSome, OnSome, Some, length, map, slice_get};
+ghost use Rattle.std.specs.Prelude.{◌≡◌, ◌<◌, ◌≤◌, ◌+◌, ◌↔◌, ℕ, IfOk, IfSome, OnSome, Some, length, map, slice_get};
 ghost use Rattle.std.specs.Option.{option_and_then, option_map};
 ghost use Rattle.csub_objects.specs.Types.{Name};
 ghost use Rattle.csub_semantics.specs.Types.{global_tree};
@@ -9,7 +9,7 @@ ghost use Rattle.csub_semantics.specs.Points.{entry, exit, point_tree, exit_tree
 ghost use Rattle.csub_semantics.specs.Syntax.{ProgramTree, program_tree};
 ghost use Rattle.csub_semantics.specs.Flows.{PlacedNode, Edge, point_list, edge_list, flow_of, function_of};
 ghost use Rattle.csub_semantics.specs.Numbers.{Site, site, site_at, edge_at as edge_at', name_at};
-ghost use Rattle.flow_graph.specs.Graph.{IsGraphOf, point_count, edge_count, function_count};
+ghost use Rattle.flow_graph.specs.Graph.{IsGraphOf, point_count, edge_count, function_count, way_count_at, source_at};
 
 use crate::build::{Listed, copy_globals, list_points};
 use crate::case_table::list_cases;
@@ -21,6 +21,7 @@ use csub_semantics::{ExitLabel, GlobalVar, Label, Point, Span, Text};
 use std::alloc::{AllocError, Global};
 use std::collections::BTreeMap;
 use std::marker::Model;
+use std::ops::Range;
 
 /// The graph of a program: its points and edges, numbered from 0, and its objects of file scope. Points are numbered function by function, and in a
 /// function the entry, the points of the body in the order of the text, and the exit; edges by their source points and
@@ -61,6 +62,15 @@ pub struct EdgeEnds<'a> {
     pub from: u32,
     /// The exit label.
     pub exit: &'a ExitLabel,
+    /// The number of the point to which it leads.
+    pub to: u32,
+}
+
+/// A way out of a point: its edge, and the point to which it leads.
+#[derive(Clone, Copy)]
+pub struct WayOut {
+    /// The number of the edge.
+    pub edge: u32,
     /// The number of the point to which it leads.
     pub to: u32,
 }
@@ -179,32 +189,63 @@ impl Graph {
         }
     }
 
-    /// The point to which a way out of a point leads; `None` exactly where the point has no such exit label. A case is
-    /// found by a logarithm of the cases of the program.
+    /// The edge that leaves a point by an exit label, and the point to which it leads; `None` exactly where the point has no
+    /// such label. A case is found by a logarithm of the cases of the program, any other label one by one: a point without
+    /// cases has at most two ways out.
+    pub fn way_out(&self, point: u32, exit: &ExitLabel) -> Option<WayOut>
+        requires { point < point_count self.now }
+        ensures leads { (P : ProgramTree) (s : Site) → IsGraphOf self.now P → site_at P point ≡ Some s → option_and_then (site_at P) (option_map (λ w. w.to) result) ≡ option_map (site s.function) ((flow_of P).succ s.function s.point (exit_tree exit.now)) }
+        ensures number { (P : ProgramTree) (s : Site) → IsGraphOf self.now P → site_at P point ≡ Some s → option_and_then (edge_at' P) (option_map (λ w. w.edge) result) ≡ option_map (λ q. record { function = s.function; from = s.point; exit = exit_tree exit.now }) ((flow_of P).succ s.function s.point (exit_tree exit.now)) }
+        ensures to_within { IfSome result (λ w. w.to < point_count self.now) }
+        ensures edge_within { IfSome result (λ w. w.edge < edge_count self.now) }
+    {
+        let ways = self.points[point as usize].node.ways.as_slice();
+        match find_exit(ways, &self.cases, point, exit) {
+            Some(way) => Some(WayOut {
+                edge: self.firsts[point as usize] + way as u32,
+                to: ways[way].to,
+            }),
+            None => None,
+        }
+    }
+
+    /// The point to which a way out of a point leads; `None` exactly where the point has no such exit label. It takes what
+    /// [`Graph::way_out`] takes.
     pub fn follow(&self, point: u32, exit: &ExitLabel) -> Option<u32>
         requires { point < point_count self.now }
         ensures leads { (P : ProgramTree) (s : Site) → IsGraphOf self.now P → site_at P point ≡ Some s → option_and_then (site_at P) result ≡ option_map (site s.function) ((flow_of P).succ s.function s.point (exit_tree exit.now)) }
         ensures within { IfSome result (λ q. q < point_count self.now) }
     {
-        let ways = self.points[point as usize].node.ways.as_slice();
-        match find_exit(ways, &self.cases, point, exit) {
-            Some(way) => Some(ways[way].to),
+        match self.way_out(point, exit) {
+            Some(way) => Some(way.to),
             None => None,
         }
     }
 
     /// The number of the edge that leaves a point by an exit label; `None` exactly where the point has no such label. It
-    /// takes what [`Graph::follow`] takes.
+    /// takes what [`Graph::way_out`] takes.
     pub fn edge_number(&self, point: u32, exit: &ExitLabel) -> Option<u32>
         requires { point < point_count self.now }
         ensures number { (P : ProgramTree) (s : Site) → IsGraphOf self.now P → site_at P point ≡ Some s → option_and_then (edge_at' P) result ≡ option_map (λ q. record { function = s.function; from = s.point; exit = exit_tree exit.now }) ((flow_of P).succ s.function s.point (exit_tree exit.now)) }
         ensures within { IfSome result (λ e. e < edge_count self.now) }
     {
-        let ways = self.points[point as usize].node.ways.as_slice();
-        match find_exit(ways, &self.cases, point, exit) {
-            Some(way) => Some(self.firsts[point as usize] + way as u32),
+        match self.way_out(point, exit) {
+            Some(way) => Some(way.edge),
             None => None,
         }
+    }
+
+    /// The numbers of the edges that leave a point, which follow one another; none where the point has no way out. It
+    /// looks at no edge.
+    pub fn edges_of(&self, point: u32) -> Range<u32>
+        requires { point < point_count self.now }
+        ensures edges { (P : ProgramTree) (s : Site) (e : ℕ) → IsGraphOf self.now P → site_at P point ≡ Some s → ((result.start ≤ e) × (e < result.end)) ↔ (source_at P e ≡ Some s) }
+        ensures count { result.end ≡ result.start + way_count_at self.now point }
+        ensures within { (result.start ≤ result.end) × (result.end ≤ edge_count self.now) }
+    {
+        let start = self.firsts[point as usize];
+        let count = self.points[point as usize].node.ways.len() as u32;
+        start..start + count
     }
 
     /// The edge with a number.

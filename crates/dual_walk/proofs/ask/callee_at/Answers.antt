@@ -1,7 +1,8 @@
 use Rattle.std.proofs.Common.{ap}
 use Rattle.csub_semantics.specs.Labels.{label_tree}
 use Rattle.csub_semantics.specs.Numbers.{site}
-use Rattle.dual_walk.proofs.Asked.{no_call, is_callee, old_defines, new_defines}
+use Rattle.csub_semantics.proofs.LawsLabels.{no_call}
+use Rattle.dual_walk.proofs.Asked.{is_callee, old_defines, new_defines}
 use Rattle.dual_walk.proofs.ask.callee_at.Goals as goal
 
 pub returns-in_default-clause-callee : goal.returns-in_default-clause-callee

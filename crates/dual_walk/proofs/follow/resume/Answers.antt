@@ -8,7 +8,7 @@ use Rattle.csub_semantics.specs.Numbers.{Site, site}
 use Rattle.flow_graph.specs.Graph.{IsGraphOf}
 use Rattle.dual_walk.specs.declared.fact.Fact.{Fact}
 use Rattle.dual_walk.specs.Books.{IsNamed}
-use Rattle.dual_walk.specs.Ways.{Lists}
+use Rattle.dual_walk.specs.Rows.{Lists}
 use Rattle.dual_walk.specs.Moments.{WaitsFor, PassesOver, HoldsNext}
 use Rattle.dual_walk.specs.Held.{Extends}
 use Rattle.dual_walk.proofs.LawsLists.{in_row}

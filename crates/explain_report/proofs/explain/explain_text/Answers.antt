@@ -3,7 +3,7 @@ use Rattle.std.specs.Prelude.{slice_get}
 use Rattle.edge_trace.specs.Rows.{has}
 use Rattle.flow_graph.specs.Graph.{edge_count}
 use Rattle.test_select.specs.declared.choice.Choice.TheVariants.{Selected}
-use Rattle.explain_report.proofs.Places.{read_at}
+use Rattle.dual_walk.proofs.LawsLists.{read_at}
 use Rattle.explain_report.proofs.FollowLemmas.{edge_there}
 use Rattle.explain_report.proofs.ExplainLemmas.{choice_read, selected_danger, selected_within, left_told, selected_told}
 use Rattle.explain_report.proofs.explain.explain_text.Goals as goal

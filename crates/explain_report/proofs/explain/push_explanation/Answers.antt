@@ -6,7 +6,7 @@ use Rattle.csub_semantics.specs.Numbers.{site, site_at}
 use Rattle.dual_walk.specs.declared.fact.Fact.{Fact}
 use Rattle.explain_report.specs.WalkTexts.{edge_line}
 use Rattle.explain_report.specs.Explanations.{fact_lines, parting_line}
-use Rattle.explain_report.proofs.Places.{read_at}
+use Rattle.dual_walk.proofs.LawsLists.{read_at}
 use Rattle.explain_report.proofs.ToldLemmas.{lines_told}
 use Rattle.explain_report.proofs.ExplainLemmas.{told_lines, explains}
 use Rattle.explain_report.proofs.explain.push_explanation.Goals as goal

@@ -1,13 +1,14 @@
-use Rattle.std.proofs.Common.{◌≡◌, ◌∙◌, ◌<◌, ◌+◌, ap, sym, subst, refl, None, length, rules, arith}
+use Rattle.std.proofs.Common.{◌≡◌, ◌∙◌, ◌<◌, ◌+◌, ap, sym, subst, refl, None, Some, get_or, length, rules, arith}
 use Rattle.std.specs.Vec.{vec_len}
 use Rattle.std.specs.List.{slice_get, find}
+use Rattle.std.proofs.lemmas.Option.{slice_get-get_or}
 use Rattle.csub_semantics.specs.Points.{exit_tree, exit_eq}
 use Rattle.csub_semantics.specs.Flows.{flow_of, Edge}
 use Rattle.csub_semantics.specs.Numbers.{site}
 use Rattle.flow_graph.specs.Graph.{point_count, edge_count, way_count}
 use Rattle.flow_graph.proofs.EdgePlaces.{firsts-length}
 use Rattle.flow_graph.proofs.Looked.{read_point, read_first, first_within, follow_looked, number_looked, some_at, none_made}
-use Rattle.flow_graph.proofs.graph.Graph.edge_number.Goals as goal
+use Rattle.flow_graph.proofs.graph.Graph.way_out.Goals as goal
 
 pub index-requires-in-Some : goal.index-requires-in-Some
 index-requires-in-Some c =
@@ -26,6 +27,13 @@ overflow_add-result c =
     let same = ap edge_count c.self.view_is in
     omega arith
 
+pub returns-in-Some-clause-leads : goal.returns-in-Some-clause-leads
+returns-in-Some-clause-leads c =
+    let read = read_point c.args.self.now c.self.inside.functions.items c.self.inside.points.items c.args.point c.index.result.now c.self.view_is c.requires c.index.ensures in
+    let there = sym (slice_get-get_or c.as_slice-ways.result.now c.in-Some.way c.index-ways-way.result c.in-Some.ensures.within) in
+    let found = there ∙ c.in-Some.ensures.found ∙ ap (find (λ w. exit_eq (exit_tree w.exit) (exit_tree c.args.exit.now))) c.as_slice-ways.ensures.value in
+    λ P s g h. follow_looked P c.args.self.now g c.args.point c.index.result.now s (Some (get_or c.as_slice-ways.result.now c.in-Some.way c.index-ways-way.result)) (exit_tree c.args.exit.now) read found h
+
 pub returns-in-Some-clause-number : goal.returns-in-Some-clause-number
 returns-in-Some-clause-number c =
     let read = read_point c.args.self.now c.self.inside.functions.items c.self.inside.points.items c.args.point c.index.result.now c.self.view_is c.requires c.index.ensures in
@@ -36,13 +44,19 @@ returns-in-Some-clause-number c =
     sym (ap (λ l. slice_get l c.in-Some.way) c.as_slice-ways.ensures.value) ∙ c.in-Some.ensures.found ∙ ap (find (λ w. exit_eq (exit_tree w.exit) (exit_tree c.args.exit.now))) c.as_slice-ways.ensures.value in
     λ P s g h. number_looked P c.args.self.now g c.args.point c.in-Some.way c.index-in-Some.result.now (c.index-in-Some.result.now + c.in-Some.way) c.index.result.now there.0 s (exit_tree c.args.exit.now) read first there.1 found refl h
 
-pub returns-in-Some-clause-within : goal.returns-in-Some-clause-within
-returns-in-Some-clause-within c =
+pub returns-in-Some-clause-edge_within : goal.returns-in-Some-clause-edge_within
+returns-in-Some-clause-edge_within c =
     let read = read_point c.args.self.now c.self.inside.functions.items c.self.inside.points.items c.args.point c.index.result.now c.self.view_is c.requires c.index.ensures in
     let first = read_first c.args.self.now c.self.inside.functions.items c.self.inside.points.items c.self.inside.firsts.items c.args.point c.index-in-Some.result.now c.self.view_is c.self.invariant.1 c.requires c.index-in-Some.ensures in
     let room = first_within c.args.self.now.1 0 c.args.point c.index-in-Some.result.now c.index.result.now first read in
     let within : c.in-Some.way < way_count c.index.result.now = subst (λ l. c.in-Some.way < length l) c.as_slice-ways.ensures.value c.in-Some.ensures.within in
     omega arith
+
+pub returns-in-None-clause-leads : goal.returns-in-None-clause-leads
+returns-in-None-clause-leads c =
+    let read = read_point c.args.self.now c.self.inside.functions.items c.self.inside.points.items c.args.point c.index.result.now c.self.view_is c.requires c.index.ensures in
+    let found = c.in-None.ensures.found ∙ ap (find (λ w. exit_eq (exit_tree w.exit) (exit_tree c.args.exit.now))) c.as_slice-ways.ensures.value in
+    λ P s g h. follow_looked P c.args.self.now g c.args.point c.index.result.now s None (exit_tree c.args.exit.now) read found h
 
 pub returns-in-None-clause-number : goal.returns-in-None-clause-number
 returns-in-None-clause-number c =
