@@ -1,4 +1,3 @@
 mod Called
 mod Fits
-pub mod LawsExits
 mod Places

@@ -4,8 +4,6 @@
 //! type that it stands for, and appends the calls of the source's functions that are made before it, in their order;
 //! [`lower_number`] gives the value of a number alone. Both take time in proportion to the expression, and fail for want of
 //! memory alone. [`Definitions`] has the functions that a source defines, by name.
-//!
-//! Proofs above cite `proofs/LawsExits`: what a whole statement is, as far as `exit` goes.
 #![tactic(auto)]
 
 mod argument;

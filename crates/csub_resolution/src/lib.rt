@@ -5,4 +5,6 @@
 //! functions, objects of file scope and programs (`Programs`). Each is a total function of a tree and of what is declared
 //! where it stands, so a source stands for one program; where a rule is broken they mean nothing. Which rules there are
 //! stands in `csub_rules` and `csub_units`.
+//!
+//! Proofs above cite `proofs/LawsExits`: what a whole statement is, as far as `exit` goes.
 #![tactic(auto)]

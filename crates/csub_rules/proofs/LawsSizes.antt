@@ -1,10 +1,11 @@
 -- The limits of types as truth values are those of the definition.
-use Rattle.std.proofs.Common.{◌↔◌, ℕ, ◌<◌, ◌≤◌, refl, IsTrue, ◌&&◌, nat_le, nat_lt, arith}
+use Rattle.std.proofs.Common.{◌≡◌, ◌↔◌, ℕ, ◌<◌, ◌≤◌, Bool, true, false, Option, Some, None, refl, subst, IsTrue, not, ◌&&◌, nat_le, nat_lt, arith}
 use Rattle.std.proofs.lemmas.Bool.Decides.{nat_tests}
 use Rattle.csub_objects.specs.Types.{TypeTree, number_type, array_type, struct_type, loose_type, MemberTrees, no_member, more_members}
 use Rattle.csub_objects.specs.Types.{cells, levels, dimensions, HasArrays, HaveArrays, IsSized}
 use Rattle.csub_rules.specs.Sizes.{has_arrays, have_arrays, is_sized}
-use Rattle.csub_rules.proofs.LawsServed.{both, both_parts}
+use Rattle.csub_rules.specs.Declarators.{is_too_large}
+use Rattle.csub_rules.proofs.LawsServed.{both, both_parts, no_not}
 
 at_most : (a b : ℕ) → IsTrue (nat_le a b) → a ≤ b
 at_most a b h = grind (arith, nat_tests)
@@ -62,3 +63,34 @@ unsized t h =
 -- `is_sized` decides `IsSized`
 pub is_sized-Decides : (t : TypeTree) → IsTrue (is_sized t) ↔ IsSized t
 is_sized-Decides t = (sized t, unsized t)
+
+-- ---- a declared type against the limits
+
+-- there is a type, and it is too large
+pub record Large (o : Option TypeTree) : Type 0 where
+  pub ctype : TypeTree
+  pub is : o ≡ Some ctype
+  pub unsized : IsSized ctype → ⊥
+
+pub contrary : (b : Bool) → IsTrue (not b) → IsTrue b → ⊥
+contrary true h k = cc
+contrary false h k = cc
+
+refuted : (b : Bool) → (IsTrue b → ⊥) → IsTrue (not b)
+refuted true h = absurd (h refl)
+refuted false h = refl
+
+-- the truth value tells one that is too large, and is told by one
+pub large : (o : Option TypeTree) → IsTrue (is_too_large o) → Large o
+large None h = absurd (cc)
+large (Some t) h = record { ctype = t; is = refl; unsized = λ s. contrary (is_sized t) h ((is_sized-Decides t).1 s) }
+
+pub is_large : (o : Option TypeTree) (t : TypeTree) → o ≡ Some t → (IsSized t → ⊥) → IsTrue (is_too_large o)
+is_large None t e h = absurd (cc)
+is_large (Some u) t e h =
+    let same : u ≡ t = cc in refuted (is_sized u) (λ p. h (subst (λ x. IsSized x) same ((is_sized-Decides u).0 p)))
+
+-- one that isn't too large is within the limits
+pub small : (o : Option TypeTree) (t : TypeTree) → o ≡ Some t → is_too_large o ≡ false → IsSized t
+small None t e h = absurd (cc)
+small (Some u) t e h = let same : u ≡ t = cc in subst (λ x. IsSized x) same ((is_sized-Decides u).0 (no_not (is_sized u) h))

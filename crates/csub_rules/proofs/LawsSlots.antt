@@ -1,25 +1,24 @@
 -- The laws of declared names.
 use Rattle.std.proofs.Common.{◌≡◌, ◌∙◌, ℤ, List, [], ◌∷◌, length, Bool, true, false, Option, Some}
-use Rattle.std.proofs.Common.{None, refl, ap, subst, IsTrue, is_some, not, ◌||◌, nat_lt, ◌⊎◌, inl, inr}
+use Rattle.std.proofs.Common.{None, refl, ap, IsTrue, is_some, not, ◌||◌, nat_lt, ◌⊎◌, inl, inr}
 use Rattle.std.specs.List.{list_any}
 use Rattle.csub_text.specs.declared.span.Span.{Span}
 use Rattle.csub_tree.specs.declared.name.TypeName.{TypeName}
 use Rattle.csub_tree.specs.declared.name.TypeName.TheVariants as names
 use Rattle.csub_tree.specs.Expressions.{Expr}
-use Rattle.csub_objects.specs.Types.{TypeTree, array_type, IsSized}
+use Rattle.csub_objects.specs.Types.{TypeTree, array_type}
 use Rattle.csub_scopes.specs.Scopes.{Scope}
 use Rattle.csub_rules.specs.declared.fault.Fault.{Fault}
 use Rattle.csub_rules.specs.Faults.{fault_if, Covers, IsFirst}
 use Rattle.csub_rules.specs.Constants.{constant}
 use Rattle.csub_rules.specs.Uses.{as_constant, use_fault}
 use Rattle.csub_rules.specs.BrokenUse.{BrokenUse}
-use Rattle.csub_rules.specs.Sizes.{is_sized}
 use Rattle.csub_rules.specs.Declarators.{base_type, lacks_struct, base_fault, as_length, length_of, array_of, declared_type}
 use Rattle.csub_rules.specs.Declarators.{is_bad_length, is_too_large, breaks_limits, dims_fault, slot_fault}
 use Rattle.csub_rules.specs.BrokenSlot.{BrokenBase, m4, IsDim, this_dim, next_dim, BrokenSlot, in_length, m10_length, m10_dimensions, m10_type, FineSlot}
 use Rattle.csub_rules.proofs.LawsEarlier.{on_left, on_right, tested, neither, no_test}
 use Rattle.csub_rules.proofs.LawsServed.{neither_holds, no_not}
-use Rattle.csub_rules.proofs.LawsSizes.{is_sized-Decides, less, is_less}
+use Rattle.csub_rules.proofs.LawsSizes.{less, is_less, large, is_large, small}
 use Rattle.csub_rules.proofs.LawsSound.{Gives, nothing, join, tells}
 use Rattle.csub_rules.proofs.LawsUses.{sound_use, covered_use, is_constant_use}
 
@@ -52,33 +51,6 @@ in_first false b h = absurd (cc)
 pub in_second : (a b : Bool) → IsTrue b → IsTrue (a || b)
 in_second true b h = refl
 in_second false b h = h
-
--- a type that is too large
-record Large (o : Option TypeTree) : Type 0 where
-  ctype : TypeTree
-  is : o ≡ Some ctype
-  unsized : IsSized ctype → ⊥
-
-contrary : (b : Bool) → IsTrue (not b) → IsTrue b → ⊥
-contrary true h k = cc
-contrary false h k = cc
-
-large : (o : Option TypeTree) → IsTrue (is_too_large o) → Large o
-large None h = absurd (cc)
-large (Some t) h = record { ctype = t; is = refl; unsized = λ s. contrary (is_sized t) h ((is_sized-Decides t).1 s) }
-
-refuted : (b : Bool) → (IsTrue b → ⊥) → IsTrue (not b)
-refuted true h = absurd (h refl)
-refuted false h = refl
-
-is_large : (o : Option TypeTree) (t : TypeTree) → o ≡ Some t → (IsSized t → ⊥) → IsTrue (is_too_large o)
-is_large None t e h = absurd (cc)
-is_large (Some u) t e h =
-    let same : u ≡ t = cc in refuted (is_sized u) (λ p. h (subst (λ x. IsSized x) same ((is_sized-Decides u).0 p)))
-
-small : (o : Option TypeTree) (t : TypeTree) → o ≡ Some t → is_too_large o ≡ false → IsSized t
-small None t e h = absurd (cc)
-small (Some u) t e h = let same : u ≡ t = cc in subst (λ x. IsSized x) same ((is_sized-Decides u).0 (no_not (is_sized u) h))
 
 -- the length of a constant that isn't bad
 of_length : (o : Option ℤ) → IsTrue (not (not (is_some o))) → is_bad_length o ≡ false → Known (length_of o)

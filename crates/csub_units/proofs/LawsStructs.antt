@@ -1,16 +1,15 @@
 -- The laws of structs.
-use Rattle.std.proofs.Common.{◌≡◌, Bool, true, false, List, [], ◌∷◌, Option, Some, None, refl, subst, IsTrue, not}
+use Rattle.std.proofs.Common.{List, [], ◌∷◌, Option, IsTrue}
 use Rattle.csub_tree.specs.declared.name.Name.{Name as NameAt}
 use Rattle.csub_tree.specs.Declarations.{Declarator, Declare}
-use Rattle.csub_objects.specs.Types.{TypeTree, IsSized}
+use Rattle.csub_objects.specs.Types.{TypeTree}
 use Rattle.csub_scopes.specs.Scopes.{Scope}
 use Rattle.csub_rules.specs.declared.fault.Fault.{Fault}
 use Rattle.csub_rules.specs.Faults.{◌or_earlier◌, Covers}
-use Rattle.csub_rules.specs.Sizes.{is_sized}
 use Rattle.csub_rules.specs.Declarators.{base_type, base_fault, is_too_large}
 use Rattle.csub_rules.specs.Here.{is_reserved}
 use Rattle.csub_rules.proofs.LawsEarlier.{on_left, on_right, tested}
-use Rattle.csub_rules.proofs.LawsSizes.{is_sized-Decides}
+use Rattle.csub_rules.proofs.LawsSizes.{large, is_large}
 use Rattle.csub_rules.proofs.LawsSound.{Gives, nothing, join, tells}
 use Rattle.csub_rules.proofs.LawsSlots.{sound_base, covered_base, sound_slot, covered_slot}
 use Rattle.csub_rules.proofs.LawsBodies.{sound_twice, covered_twice}
@@ -18,29 +17,6 @@ use Rattle.csub_units.specs.Structs.{field_names, field_fault, line_fault, field
 use Rattle.csub_units.specs.BrokenObject.{IsIn, this_one, next_one, BrokenStruct, by_struct_tag, m10_struct, by_field_base}
 use Rattle.csub_units.specs.BrokenObject.{m3_field, by_field_slot, m2_field}
 use Rattle.csub_units.proofs.LawsNames.{sound_tag, covered_tag}
-
--- a type that is too large
-record Large (o : Option TypeTree) : Type 0 where
-  ctype : TypeTree
-  is : o ≡ Some ctype
-  unsized : IsSized ctype → ⊥
-
-contrary : (b : Bool) → IsTrue (not b) → IsTrue b → ⊥
-contrary true h k = cc
-contrary false h k = cc
-
-large : (o : Option TypeTree) → IsTrue (is_too_large o) → Large o
-large None h = absurd (cc)
-large (Some t) h = record { ctype = t; is = refl; unsized = λ s. contrary (is_sized t) h ((is_sized-Decides t).1 s) }
-
-refuted : (b : Bool) → (IsTrue b → ⊥) → IsTrue (not b)
-refuted true h = absurd (h refl)
-refuted false h = refl
-
-is_large : (o : Option TypeTree) (t : TypeTree) → o ≡ Some t → (IsSized t → ⊥) → IsTrue (is_too_large o)
-is_large None t e h = absurd (cc)
-is_large (Some u) t e h =
-    let same : u ≡ t = cc in refuted (is_sized u) (λ p. h (subst (λ x. IsSized x) same ((is_sized-Decides u).0 p)))
 
 module _ (scope : Scope) where
   -- ---- least

@@ -18,6 +18,7 @@ use Rattle.csub_rules.proofs.LawsEarlier.{neither}
 use Rattle.csub_rules.proofs.LawsServed.{both, both_parts}
 use Rattle.csub_rules.proofs.LawsSlots.{in_first, in_second}
 use Rattle.csub_rules.proofs.LawsBodies.{names_differ}
+use Rattle.csub_rules.proofs.LawsSizes.{contrary}
 use Rattle.csub_units.specs.Files.{tag_fault}
 use Rattle.csub_units.specs.Gathered.{AreSized, Differ}
 use Rattle.csub_units.specs.Structs.{with_member, fields_before, members, field_names, fields_fault, defined_struct, struct_fault}
@@ -69,10 +70,6 @@ line_named scope base (v ∷ vs) ms xs h =
 all_named : (scope : Scope) (ds : List Declare) → Named (members scope ds) (field_names ds)
 all_named scope [] = refl
 all_named scope (d ∷ ds) = line_named scope (base_type scope d.base) d.vars (members scope ds) (field_names ds) (all_named scope ds)
-
-contrary : (b : Bool) → IsTrue (not b) → IsTrue b → ⊥
-contrary true h k = cc
-contrary false h k = cc
 
 equal_bytes : (a b : Name) → a ≡ b → IsTrue (bytes_eq a b)
 equal_bytes a b e = (bytes_eq-Decides a b).1 e

@@ -1,18 +1,16 @@
 -- Expressions that are evaluated for their effects.
-use Rattle.std.proofs.Common.{◌≡◌, ◌∙◌, refl, sym, ap, subst, arith, ℕ, ◌+◌, ◌≤◌, ◌<◌, List, [], ◌∷◌, ◌++◌, length, Option, Some, None, Bool, true, false, IsTrue, ◌&&◌, if◌then◌else◌}
+use Rattle.std.proofs.Common.{◌≡◌, refl, sym, subst, arith, ℕ, ◌+◌, ◌≤◌, ◌<◌, List, [], ◌∷◌, ◌++◌, Option, Some, None, Bool, true, false, IsTrue, ◌&&◌, if◌then◌else◌}
 use Rattle.std.proofs.lemmas.List.{append-nil}
-use Rattle.csub_text.specs.declared.span.Span.{Span}
 use Rattle.csub_types.specs.declared.kind.IntKind.{IntKind}
-use Rattle.csub_tree.specs.declared.name.Name.{Name as NameAt}
-use Rattle.csub_tree.specs.Expressions.{Expr, Kind, Exprs, Node, Number, Char, Text, Named, Paren, Unary, Cast, Step, Binary, And, Or}
+use Rattle.csub_tree.specs.Expressions.{Expr, Exprs, Node, Number, Char, Text, Named, Paren, Unary, Cast, Step, Binary, And, Or}
 use Rattle.csub_tree.specs.Expressions.{Choose, Assign, Call, Index, Member, NoExprs, MoreExprs}
 use Rattle.csub_objects.specs.Types.{Name, TypeTree, element_type, member_type}
 use Rattle.csub_semantics.specs.Trees.{NamedExpr}
 use Rattle.csub_semantics.specs.Labels.{evaluates, halts}
-use Rattle.csub_semantics.specs.Syntax.{Stage, PartTree, FunctionTree, ProgramTree}
+use Rattle.csub_semantics.specs.Syntax.{FunctionTree, ProgramTree}
 use Rattle.csub_scopes.specs.Scopes.{Scope, Declared, Meaning, global_object, local_object, enum_constant, a_function, untyped, find}
 use Rattle.csub_rules.specs.Library.{LibraryName, getchar, putchar, printf, exit, eof, library_name}
-use Rattle.csub_rules.specs.Sorts.{Sort, a_place, a_value, a_void, no_sort, is_sorted, is_number, is_number_place, is_array, has_member, sort_if, value_if, place_of, element_of, member_of}
+use Rattle.csub_rules.specs.Sorts.{Sort, a_place, a_value, a_void, no_sort, is_sorted, is_number, is_number_place, sort_if, value_if, place_of, element_of, member_of}
 use Rattle.csub_rules.specs.Callees.{Callee, no_function, user_function, getchar_function, putchar_function, printf_function, exit_function}
 use Rattle.csub_rules.specs.Callees.{callee_of, fixed_params, takes, take_all, are_numbers}
 use Rattle.csub_rules.specs.Formats.{literal_of, is_format}
@@ -23,7 +21,8 @@ use Rattle.csub_rules.proofs.LawsServed.{both}
 use Rattle.csub_resolution.specs.Values.{Defined, count, count_all, own_count, calls_in, value}
 use Rattle.csub_resolution.specs.Programs.{part_temps}
 use Rattle.csub_resolution.specs.Positions.{first_token}
-use Rattle.csub_resolution.specs.Lines.{own, is_own, is_call, exit_argument, exits_with, effect_part, exit_part, eval_part}
+use Rattle.csub_resolution.specs.Lines.{own, is_own, is_call, exit_argument, exits_with, effect_part, eval_part}
+use Rattle.csub_resolution.proofs.LawsExits.{fine_operand}
 use Rattle.csub_limits.specs.Prints.{prints, prints_all, printed}
 use Rattle.csub_validity.specs.declared.role.Role.{Role}
 use Rattle.csub_validity.specs.declared.role.Role.TheVariants.{Whole, Test, Switch, Effect}
@@ -32,7 +31,7 @@ use Rattle.csub_validity.specs.Valid.{IsExpr, IsLast, IsPart, scope_of}
 use Rattle.program_validity.specs.Written.{WrittenExpr, WrittenExprs}
 use Rattle.program_validity.proofs.Counted.{is_given, calls_length}
 use Rattle.program_validity.proofs.Printing.{Few, few_left, few_right}
-use Rattle.program_validity.proofs.Calls.{AreCallsFrom, calls_made}
+use Rattle.program_validity.proofs.Calls.{calls_made}
 use Rattle.program_validity.proofs.Parts.{MayCall, Stands, call_part, expr_part}
 
 -- ---- sorts of what is no call of a function without a result
@@ -161,33 +160,6 @@ module _ (scope : Scope) where
   abbrev FineBy : Bool → Exprs → Callee → Type 0
   FineBy whole es c = FineCall whole c (FineArgs scope (fixed_params c) es) (FinePrint scope es)
 
-  call_operand : (c : Callee) (es : Exprs) → FineBy true es c → exit_argument c es ≡ None → FineBy false es c
-  call_operand no_function es h e = h
-  call_operand (user_function ps r) es h e = h
-  call_operand getchar_function es h e = h
-  call_operand putchar_function es h e = h
-  call_operand printf_function es h e = h
-  call_operand exit_function NoExprs h e = absurd h.1
-  call_operand exit_function (MoreExprs a rest) h e = absurd (cc)
-
-  fine_operand : (e : Expr) → Fine scope true e → exits_with scope e ≡ None → Fine scope false e
-  fine_operand (Node (Paren a) s) h e = fine_operand a h e
-  fine_operand (Node (Call f args) s) h e = call_operand (callee_of scope f.text) args h e
-  fine_operand (Node (Number n u) s) h e = h
-  fine_operand (Node (Char b) s) h e = h
-  fine_operand (Node (Text t) s) h e = h
-  fine_operand (Node (Named x) s) h e = h
-  fine_operand (Node (Unary o a) s) h e = h
-  fine_operand (Node (Cast t a) s) h e = h
-  fine_operand (Node (Step o a) s) h e = h
-  fine_operand (Node (Binary o a b) s) h e = h
-  fine_operand (Node (And a b) s) h e = h
-  fine_operand (Node (Or a b) s) h e = h
-  fine_operand (Node (Choose c a b) s) h e = h
-  fine_operand (Node (Assign o a b) s) h e = h
-  fine_operand (Node (Index a i) s) h e = h
-  fine_operand (Node (Member a m) s) h e = h
-
   -- an operand is no `exit`
   no_status : (c : Callee) (es : Exprs) → FineBy false es c → exit_argument c es ≡ None
   no_status no_function es h = refl
@@ -289,7 +261,7 @@ module _ (scope : Scope) where
       where
         by : (o : Option Expr) → exits_with scope e ≡ o → part_temps (eval_part defined scope e o) ≤ f.temps
             → IsPart P f Whole (eval_part defined scope e o)
-        by None x room = effect_made Whole e tt (fine_operand e fine x) effect written few room
+        by None x room = effect_made Whole e tt (fine_operand scope e fine x) effect written few room
         by (Some status) x room =
             let s = status_made e status fine x written few in
             expr_part P f defined scope stands Whole status (halts (value scope 0 status)) (first_token e) (λ sc n h. h) s.fine s.number s.written

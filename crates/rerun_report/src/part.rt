@@ -1,13 +1,12 @@
 //! The parts of a run's behaviour: its output, its status and its number of turns.
 ghost use Rattle.std.specs.Prelude.{◌≡◌, ◌++◌, ◌∷◌, OnOk};
-ghost use Rattle.line_text.specs.Words.{line_of_words};
-ghost use Rattle.test_history.specs.HistoryTexts.{status_words, trap_name};
 ghost use Rattle.rerun_report.specs.Reruns.{status_eq};
 ghost use Rattle.rerun_report.specs.RerunTexts.{output_text, status_text, turns_text};
 
-use csub_semantics::{Status, Trap};
+use csub_semantics::Status;
 use line_text::{push_bytes_or_dash, push_decimal};
 use std::alloc::AllocError;
+use test_history::push_status_words;
 
 /// Whether two statuses are equal.
 pub fn same_status(before: Status, after: Status) -> bool
@@ -53,37 +52,4 @@ pub fn push_turns(text: &mut Vec<u8>, before: u32, after: u32) -> Result<(), All
     push_decimal(text, u64::from(before))?;
     text.extend_from_slice(b" to ")?;
     push_decimal(text, u64::from(after))
-}
-
-/// Appends `exit N`, `trap NAME` or `turns`.
-fn push_status_words(text: &mut Vec<u8>, status: Status) -> Result<(), AllocError>
-    ensures { OnOk result (text.new.items ≡ text.old.items ++ line_of_words (status_words status)) }
-{
-    match status {
-        Status::Exit(number) => {
-            text.extend_from_slice(b"exit ")?;
-            push_decimal(text, u64::from(number))
-        }
-        Status::Trap(trap) => {
-            text.extend_from_slice(b"trap ")?;
-            text.extend_from_slice(name_of_trap(trap))
-        }
-        Status::Turns => text.extend_from_slice(b"turns"),
-    }
-}
-
-/// The word for a trap.
-fn name_of_trap(trap: Trap) -> &'static [u8]
-    ensures { result.now ≡ trap_name trap }
-{
-    match trap {
-        Trap::Overflow => b"overflow",
-        Trap::Divide => b"divide",
-        Trap::Shift => b"shift",
-        Trap::Bounds => b"bounds",
-        Trap::Unset => b"unset",
-        Trap::Flood => b"flood",
-        Trap::Depth => b"depth",
-        Trap::Missing => b"missing",
-    }
 }

@@ -38,5 +38,6 @@ pub use digest::digest_of;
 pub use entry::Entry;
 pub use error::{HistoryError, HistoryTextError};
 pub use history::History;
+pub use lines::push_status_words;
 pub use reader::{read_history, read_history_2};
 pub use writer::write_history;

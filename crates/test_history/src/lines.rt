@@ -76,6 +76,23 @@ pub fn push_digest_line(
     Ok(())
 }
 
+/// Appends `exit N`, `trap NAME` or `turns`, the words of a status without a newline. An `Err` is want of memory.
+pub fn push_status_words(text: &mut Vec<u8>, status: Status) -> Result<(), AllocError>
+    ensures { OnOk result (text.new.items ≡ text.old.items ++ line_of_words (status_words status)) }
+{
+    match status {
+        Status::Exit(number) => {
+            text.extend_from_slice(b"exit ")?;
+            push_decimal(text, u64::from(number))
+        }
+        Status::Trap(trap) => {
+            text.extend_from_slice(b"trap ")?;
+            text.extend_from_slice(name_of_trap(trap))
+        }
+        Status::Turns => text.extend_from_slice(b"turns"),
+    }
+}
+
 /// Appends the line `status exit N`, `status trap NAME` or `status turns`.
 pub fn push_status_line(text: &mut Vec<u8>, status: Status) -> Result<(), AllocError>
     ensures { OnOk result

@@ -1,7 +1,7 @@
 use Rattle.std.proofs.Common.{sym}
 use Rattle.csub_scopes.specs.Meanings.{scope_of}
 use Rattle.csub_tree.specs.Expressions.{expr_tree}
-use Rattle.csub_lower.proofs.LawsExits.{fine_operand, fine_status}
+use Rattle.csub_resolution.proofs.LawsExits.{fine_operand, fine_status}
 use Rattle.csub_lines.proofs.part.eval_part.Goals as goal
 
 pub effect_part-requires-clause-fine : goal.effect_part-requires-clause-fine

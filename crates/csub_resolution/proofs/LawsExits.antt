@@ -1,4 +1,4 @@
--- Whole statements, as far as `exit` goes, for crates above.
+-- Whole statements, as far as `exit` goes.
 use Rattle.std.proofs.Common.{◌≡◌, subst, Some, None, Bool, true, false, IsTrue}
 use Rattle.csub_tree.specs.Expressions.{Expr, Exprs, Node, Number, Char, Text, Named, Paren, Unary, Cast, Step, Binary, And, Or}
 use Rattle.csub_tree.specs.Expressions.{Choose, Assign, Call, Index, Member, NoExprs, MoreExprs}
