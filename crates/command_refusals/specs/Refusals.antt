@@ -19,6 +19,7 @@ told refusal.Usage = codes "usage"
 told (refusal.Source which cause) = role_word which ++ source_text cause
 told (refusal.Suite cause) = codes "suite" ++ suite_text cause
 told (refusal.History cause) = codes "history" ++ history_text cause
+told (refusal.NoTest name) = codes "history no test " ++ name
 told refusal.ReadFault = codes "read fault"
 told refusal.Memory = codes "memory"
 told (refusal.TooMuch bytes) = codes "history too much " ++ decimal bytes

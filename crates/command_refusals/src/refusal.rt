@@ -5,6 +5,7 @@ ghost use Rattle.command_refusals.specs.Refusals.{refusal_line, role_word, told}
 use crate::history::{HistoryCause, push_history};
 use crate::source::{SourceCause, push_source};
 use crate::suite::{SuiteCause, push_suite};
+use csub_text::Text;
 use line_text::push_decimal;
 use std::alloc::{AllocError, Global};
 
@@ -20,7 +21,7 @@ pub enum Role {
 }
 
 /// Why a command isn't done.
-#[derive(Clone, Copy, Debug, PartialEq, Eq)]
+#[derive(Drop)]
 pub enum Refusal {
     /// The words are no command.
     Usage,
@@ -30,6 +31,8 @@ pub enum Refusal {
     Suite(SuiteCause),
     /// The history's text is none of the source.
     History(HistoryCause),
+    /// The history has no test of this name.
+    NoTest(Text),
     /// A file could not be read.
     ReadFault,
     /// Want of memory.
@@ -52,35 +55,39 @@ fn role_word(role: Role) -> &'static [u8]
 }
 
 /// Appends what stands between `refused: ` and the end of the line.
-fn push_told(line: &mut Vec<u8>, refusal: Refusal) -> Result<(), AllocError>
-    ensures { OnOk result (line.new.items ≡ line.old.items ++ told refusal) }
+fn push_told(line: &mut Vec<u8>, refusal: &Refusal) -> Result<(), AllocError>
+    ensures { OnOk result (line.new.items ≡ line.old.items ++ told refusal.now) }
 {
     match refusal {
         Refusal::Usage => line.extend_from_slice(b"usage"),
         Refusal::Source(role, cause) => {
-            line.extend_from_slice(role_word(role))?;
-            push_source(line, cause)
+            line.extend_from_slice(role_word(*role))?;
+            push_source(line, *cause)
         }
         Refusal::Suite(cause) => {
             line.extend_from_slice(b"suite")?;
-            push_suite(line, cause)
+            push_suite(line, *cause)
         }
         Refusal::History(cause) => {
             line.extend_from_slice(b"history")?;
-            push_history(line, cause)
+            push_history(line, *cause)
+        }
+        Refusal::NoTest(name) => {
+            line.extend_from_slice(b"history no test ")?;
+            line.extend_from_slice(name.bytes())
         }
         Refusal::ReadFault => line.extend_from_slice(b"read fault"),
         Refusal::Memory => line.extend_from_slice(b"memory"),
         Refusal::TooMuch(bytes) => {
             line.extend_from_slice(b"history too much ")?;
-            push_decimal(line, bytes)
+            push_decimal(line, *bytes)
         }
     }
 }
 
 /// The line of a refusal, ended by its newline. An `Err` is want of memory; the line for that is [`MEMORY_LINE`].
-pub fn refusal_text(alloc: Global, refusal: Refusal) -> Result<Vec<u8>, AllocError>
-    ensures { IfOk result (λ line. line.items ≡ refusal_line refusal) }
+pub fn refusal_text(alloc: Global, refusal: &Refusal) -> Result<Vec<u8>, AllocError>
+    ensures { IfOk result (λ line. line.items ≡ refusal_line refusal.now) }
 {
     let mut line = b"refused: ".to_vec(alloc)?;
     push_told(&mut line, refusal)?;

@@ -1,5 +1,5 @@
 //! What `record` writes between the source's digest and the sum.
-use crate::files::answer_about;
+use crate::files::{ASSIGNED, answer_about};
 use dejavu_cli::Status8;
 use std::alloc::Global;
 use std::process::Abort;
@@ -53,9 +53,6 @@ fn records_agree<R: Threads + Abort + Sync>(
     }
     Ok(())
 }
-
-const ASSIGNED: &str =
-    "int main(void) { int c; c = getchar(); if (c == 65) { putchar(66); } else { putchar(67); } return 0; }";
 
 const DEEP: &str = "int f(int n) { return f(n + 1); } int main(void) { return f(0); }";
 

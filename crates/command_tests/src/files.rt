@@ -123,6 +123,17 @@ pub fn recorded<R: Threads + Sync>(
     }
 }
 
+/// A source of 9 edges, of which 5 is crossed by every test whose first byte isn't 65.
+pub const ASSIGNED: &str =
+    "int main(void) { int c; c = getchar(); if (c == 65) { putchar(66); } else { putchar(67); } return 0; }";
+
+/// The same, but for what is written for another byte than 65.
+pub const OTHER_BYTE: &str =
+    "int main(void) { int c; c = getchar(); if (c == 65) { putchar(66); } else { putchar(68); } return 0; }";
+
+/// A suite of a test that reads 65 and one that reads 66.
+pub const TWO: &str = "dejavu suite 1\ntest A 100 41\ntest B 100 42\n";
+
 /// A suite of the word counter.
 pub const COUNTED: &str =
     "dejavu suite 1\ntest t01 10000 -\ntest t02 10000 61\ntest t03 10000 0a\ntest t04 10000 6120620a\ntest t05 10000 37\ntest t06 10000 6162206364\ntest t07 10000 31620a\ntest t08 10000 09\ntest t09 10000 68656c6c6f0a\ntest t10 10000 2020\ntest t11 10000 782034320a\ntest t12 10000 610a620a\n";

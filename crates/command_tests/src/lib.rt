@@ -5,9 +5,13 @@
 #[cfg(test)]
 mod entries;
 #[cfg(test)]
+mod explanations;
+#[cfg(test)]
 mod faults;
 #[cfg(test)]
 mod files;
+#[cfg(test)]
+mod generated;
 #[cfg(test)]
 mod histories;
 #[cfg(test)]

@@ -1,5 +1,5 @@
 //! What is told of the selected tests after they ran again.
-use crate::files::{COUNTED, changed_counter, owned_words, recorded, shelf_of};
+use crate::files::{ASSIGNED, COUNTED, TWO, changed_counter, owned_words, recorded, shelf_of};
 use dejavu_cli::{Status8, dejavu};
 use dv_outside::{Gate, MemorySink};
 use sample_sources::WORD_COUNTER;
@@ -71,11 +71,6 @@ fn reruns_agree<R: Threads + Abort + Sync>(
     }
     Ok(())
 }
-
-const ASSIGNED: &str =
-    "int main(void) { int c; c = getchar(); if (c == 65) { putchar(66); } else { putchar(67); } return 0; }";
-
-const TWO: &str = "dejavu suite 1\ntest A 100 41\ntest B 100 42\n";
 
 #[test]
 fn a_selected_test_differs_by_its_turns_alone_or_by_its_output(

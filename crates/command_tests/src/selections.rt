@@ -1,5 +1,5 @@
 //! Which tests of recorded suites run again on a changed source.
-use crate::files::{answer_about, recorded};
+use crate::files::{ASSIGNED, OTHER_BYTE, answer_about, recorded};
 use dejavu_cli::Status8;
 use std::alloc::Global;
 use std::process::Abort;
@@ -49,16 +49,10 @@ fn selections_agree<R: Threads + Abort + Sync>(
     Ok(())
 }
 
-const ASSIGNED: &str =
-    "int main(void) { int c; c = getchar(); if (c == 65) { putchar(66); } else { putchar(67); } return 0; }";
-
-const OTHER_BYTE: &str =
-    "int main(void) { int c; c = getchar(); if (c == 65) { putchar(66); } else { putchar(68); } return 0; }";
-
 const OTHER_SPELLING: &str =
     "int main(void) /* a */ {int c; (c) = (getchar()); if ((c == 65)) putchar(66); else { { putchar((67)); } } return (0); }";
 
-const TWO: &str = "test A 100 41\ntest B 100 42\n";
+const TESTS: &str = "test A 100 41\ntest B 100 42\n";
 
 #[test]
 fn a_test_that_crosses_the_way_to_a_changed_line_runs_again(rt: HostRuntime) -> Result<(), Fail> {
@@ -69,14 +63,19 @@ fn a_test_that_crosses_the_way_to_a_changed_line_runs_again(rt: HostRuntime) -> 
             (
                 ASSIGNED,
                 OTHER_BYTE,
-                TWO,
+                TESTS,
                 "left A\nrun B edge 5\nselected 1 of 2\n",
             ),
-            (ASSIGNED, ASSIGNED, TWO, "left A\nleft B\nselected 0 of 2\n"),
+            (
+                ASSIGNED,
+                ASSIGNED,
+                TESTS,
+                "left A\nleft B\nselected 0 of 2\n",
+            ),
             (
                 ASSIGNED,
                 OTHER_SPELLING,
-                TWO,
+                TESTS,
                 "left A\nleft B\nselected 0 of 2\n",
             ),
             (ASSIGNED, OTHER_BYTE, "", "selected 0 of 0\n"),
@@ -119,7 +118,7 @@ fn a_changed_switch_type_or_call_selects_who_reaches_it(rt: HostRuntime) -> Resu
             (
                 "int g; int main(void) { putchar(65); if (getchar() == 66) { g = 300; } return 0; }",
                 "char g; int main(void) { putchar(65); if (getchar() == 66) { g = 300; } return 0; }",
-                TWO,
+                TESTS,
                 "left A\nrun B edge 4\nselected 1 of 2\n",
             ),
             (
@@ -137,7 +136,7 @@ fn a_changed_switch_type_or_call_selects_who_reaches_it(rt: HostRuntime) -> Resu
             (
                 "int f(int n) { if (n == 0) { return 1; } return f(n - 1); } int main(void) { if (getchar() == 65) { return f(3); } return 0; }",
                 "int f(int n) { if (n == 0) { return 2; } return f(n - 1); } int main(void) { if (getchar() == 65) { return f(3); } return 0; }",
-                TWO,
+                TESTS,
                 "run A edge 3\nleft B\nselected 1 of 2\n",
             ),
         ],

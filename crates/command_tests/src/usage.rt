@@ -5,7 +5,7 @@ use std::test::Fail;
 
 #[test]
 fn words_that_are_no_command_are_a_fault_of_usage(rt: HostRuntime) -> Result<(), Fail> {
-    let rows: [&[&str]; 17] = [
+    let rows: [&[&str]; 28] = [
         &[],
         &["record", "branching"],
         &["record", "a", "b", "--workers", "0"],
@@ -23,6 +23,17 @@ fn words_that_are_no_command_are_a_fault_of_usage(rt: HostRuntime) -> Result<(),
         &["walk", "a", "b", "--workers", "2"],
         &["rerun", "a", "b"],
         &["rerun", "a", "b", "c", "--workers", "0"],
+        &["explain", "o", "n", "h"],
+        &["explain", "o", "n", "h", "x/y"],
+        &["explain", "o", "n", "h", ""],
+        &["explain", "o", "n", "h", "-"],
+        &["explain", "o", "n", "h", "A", "--workers", "2"],
+        &["gen", "1"],
+        &["gen", "65536", "1"],
+        &["gen", "1", "0"],
+        &["gen", "1", "401"],
+        &["gen", "01", "1"],
+        &["gen", "1", "1", "--workers=2"],
     ];
     for words in rows {
         let (status, text) = answer(&rt, rt.alloc(), words)?;

@@ -1,5 +1,5 @@
 //! What is told of the walk of two versions.
-use crate::files::{answer_about, changed_counter};
+use crate::files::{ASSIGNED, answer_about, changed_counter};
 use dejavu_cli::Status8;
 use sample_sources::WORD_COUNTER;
 use std::alloc::Global;
@@ -34,9 +34,6 @@ fn walks_agree<R: Threads + Abort + Sync>(
     }
     Ok(())
 }
-
-const ASSIGNED: &str =
-    "int main(void) { int c; c = getchar(); if (c == 65) { putchar(66); } else { putchar(67); } return 0; }";
 
 #[test]
 fn each_way_out_of_a_dangerous_edge_is_told_with_its_place(rt: HostRuntime) -> Result<(), Fail> {

@@ -1,6 +1,7 @@
-mod WorkerLemmas
+mod NumberLemmas
 mod Steps
 mod Cuts
 mod Classes
 mod Walks
 mod RestLemmas
+mod NameLemmas

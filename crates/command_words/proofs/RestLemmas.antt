@@ -14,7 +14,7 @@ use Rattle.clap.specs.declared.error.Error.{Error}
 use Rattle.clap.specs.declared.error.kind.ErrorKind.TheVariants.{OutOfMemory}
 use Rattle.clap.specs.declared.parser.matches.ArgMatches.{ArgMatches}
 use Rattle.clap.proofs.WalkLemmas.{first_value-rows, raw_values-rows}
-use Rattle.command_words.specs.Words.{Command, Rest, rest_of, texts_of, workers_of, record_with, record_of, walk_with, walk_of, select_with, select_of, rerun_with, rerun_of, command_of}
+use Rattle.command_words.specs.Words.{Command, Rest, rest_of, texts_of, workers_of, record_with, record_of, walk_with, walk_of, select_with, select_of, rerun_with, rerun_of, explain_with, explain_of, gen_with, gen_of, command_of}
 use Rattle.command_words.specs.Matches.{rest_app, rest_shown, HasNoNumber}
 use Rattle.command_words.proofs.Cuts.{rest_in}
 use Rattle.command_words.proofs.Walks.{clap_reads}
@@ -58,19 +58,42 @@ select_takes_none (a ∷ b ∷ []) (word ∷ more) given = refl
 select_takes_none (a ∷ b ∷ c ∷ []) (word ∷ more) given = refl
 select_takes_none (a ∷ b ∷ c ∷ d ∷ rest) (word ∷ more) given = refl
 
+explain_takes_none : (plain workers : List (List ℕ)) → workers ≢ [] → explain_with plain workers ≡ None
+explain_takes_none plain [] given = absurd (given refl)
+explain_takes_none [] (word ∷ more) given = refl
+explain_takes_none (a ∷ []) (word ∷ more) given = refl
+explain_takes_none (a ∷ b ∷ []) (word ∷ more) given = refl
+explain_takes_none (a ∷ b ∷ c ∷ []) (word ∷ more) given = refl
+explain_takes_none (a ∷ b ∷ c ∷ d ∷ []) (word ∷ more) given = refl
+explain_takes_none (a ∷ b ∷ c ∷ d ∷ e ∷ rest) (word ∷ more) given = refl
+
+gen_takes_none : (plain workers : List (List ℕ)) → workers ≢ [] → gen_with plain workers ≡ None
+gen_takes_none plain [] given = absurd (given refl)
+gen_takes_none [] (word ∷ more) given = refl
+gen_takes_none (a ∷ []) (word ∷ more) given = refl
+gen_takes_none (a ∷ b ∷ []) (word ∷ more) given = refl
+gen_takes_none (a ∷ b ∷ c ∷ rest) (word ∷ more) given = refl
+
 -- whatever the name
 pub no_command : (name : List ℕ) (more : List (List ℕ)) → HasNoNumber (rest_of more) → command_of (name ∷ more) ≡ None
-no_command name more bad = go (rest_of more) (bytes_eq name (codes "record")) (bytes_eq name (codes "select")) (bytes_eq name (codes "walk")) (bytes_eq name (codes "rerun")) bad
+no_command name more bad =
+    go (rest_of more) (bytes_eq name (codes "record")) (bytes_eq name (codes "select")) (bytes_eq name (codes "walk")) (bytes_eq name (codes "rerun"))
+    (bytes_eq name (codes "explain")) (bytes_eq name (codes "gen")) bad
   where
-    go : (o : Option Rest) (a b c d : Bool) → HasNoNumber o → cond a (option_and_then record_of o)
-        (cond b (option_and_then select_of o) (cond c (option_and_then walk_of o) (cond d (option_and_then rerun_of o) None))) ≡ None
-    go None true b c d bad = refl
-    go None false true c d bad = refl
-    go None false false true d bad = refl
-    go None false false false true bad = refl
-    go None false false false false bad = refl
-    go (Some rest) true b c d bad = counted_none (record_with rest.plain) rest.workers bad
-    go (Some rest) false true c d bad = select_takes_none rest.plain rest.workers (is_given rest.workers bad)
-    go (Some rest) false false true d bad = walk_takes_none rest.plain rest.workers (is_given rest.workers bad)
-    go (Some rest) false false false true bad = counted_none (rerun_with rest.plain) rest.workers bad
-    go (Some rest) false false false false bad = refl
+    go : (o : Option Rest) (a b c d e f : Bool) → HasNoNumber o → cond a (option_and_then record_of o)
+        (cond b (option_and_then select_of o) (cond c (option_and_then walk_of o) (cond d (option_and_then rerun_of o)
+        (cond e (option_and_then explain_of o) (cond f (option_and_then gen_of o) None))))) ≡ None
+    go None true b c d e f bad = refl
+    go None false true c d e f bad = refl
+    go None false false true d e f bad = refl
+    go None false false false true e f bad = refl
+    go None false false false false true f bad = refl
+    go None false false false false false true bad = refl
+    go None false false false false false false bad = refl
+    go (Some rest) true b c d e f bad = counted_none (record_with rest.plain) rest.workers bad
+    go (Some rest) false true c d e f bad = select_takes_none rest.plain rest.workers (is_given rest.workers bad)
+    go (Some rest) false false true d e f bad = walk_takes_none rest.plain rest.workers (is_given rest.workers bad)
+    go (Some rest) false false false true e f bad = counted_none (rerun_with rest.plain) rest.workers bad
+    go (Some rest) false false false false true f bad = explain_takes_none rest.plain rest.workers (is_given rest.workers bad)
+    go (Some rest) false false false false false true bad = gen_takes_none rest.plain rest.workers (is_given rest.workers bad)
+    go (Some rest) false false false false false false bad = refl

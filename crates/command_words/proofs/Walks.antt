@@ -13,7 +13,7 @@ use Rattle.command_words.specs.Words.{Rest, rest_of, texts_of}
 use Rattle.command_words.specs.Matches.{rest_app, HasNoNumber}
 use Rattle.command_words.proofs.Cuts.{Class, dashes, option as option', number as number', flag, plain as plain', class_of, IsClass, all_plain, rest_by, rest_of-class, rest_in, behind, too, rest_at, behind-empty, behind-nothing, SettlesCut, settle_cut, bad_number}
 use Rattle.command_words.proofs.Classes.{class_is}
-use Rattle.command_words.proofs.WorkerLemmas.{no_digits}
+use Rattle.command_words.proofs.NumberLemmas.{no_digits}
 use Rattle.command_words.proofs.Steps.{top, rest_rules, IsPlain, Pending, none, plain, number, wants, pending_of, waiting_of, held, at, Rows, empty, numbered, plains, number_first, plain_first, rows_as, settle, settle_is, Settles, rest_fault, rest_step, plain_fault, plain_step, wants_fault, wants_step, dashes_fault, dashes_step, option_fault, option_step, number_fault, number_step}
 
 abbrev end_fault : Held → Kinds

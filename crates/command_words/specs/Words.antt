@@ -1,22 +1,25 @@
 -- Which words are which command.
-use Rattle.std.specs.Prelude.{ℕ, ◌==◌, nat_lt, nat_eq, ◌&&◌, Bool, false, if◌then◌else◌}
+use Rattle.std.specs.Prelude.{ℕ, ◌==◌, nat_lt, nat_le, nat_eq, slice_index, ◌&&◌, Bool, false, if◌then◌else◌}
 use Rattle.std.specs.Prelude.{List, [], ◌∷◌, map, length, drop, find, Option, Some, None, String, codes}
 use Rattle.std.specs.Option.{option_map, option_and_then}
-use Rattle.std.specs.List.{range_with_len, starts_with}
+use Rattle.std.specs.List.{list_all, range_with_len, starts_with}
 use Rattle.std.specs.Fmt.{decimal}
 use Rattle.std.specs.declared.alloc.Global.{Global}
 use Rattle.std.specs.String.{string_bytes}
 use Rattle.std.specs.Str.{bytes_eq}
+use Rattle.test_suite.specs.Tests.{starts_name, goes_in_name}
 
 abbrev pub texts_of : List (String Global) → List (List ℕ)
 texts_of words = map (λ word. string_bytes word) words
 
--- a command, with its plain words, and the number of its workers where it has any
+-- a command, with its plain words or its numbers, and the number of its workers where it has any
 pub data Command : Type 0 where
   record_files : (source suite : List ℕ) (workers : ℕ) → Command
   select_files : (old new history : List ℕ) → Command
   walk_files : (old new : List ℕ) → Command
   rerun_files : (old new history : List ℕ) (workers : ℕ) → Command
+  explain_files : (old new history test : List ℕ) → Command
+  gen_numbers : (seed size : ℕ) → Command
 
 -- a word that begins with `-` and has more bytes is an option; the word `-` is plain
 abbrev pub is_option : List ℕ → Bool
@@ -54,9 +57,13 @@ abbrev mutual
 abbrev pub most_workers : ℕ
 most_workers = 64
 
--- the number from 1 to 64 that a word spells, in decimal without a leading zero
+-- the one of so many numbers from `least` on that a word spells, in decimal without a leading zero
+unfoldable pub number_in : ℕ → ℕ → List ℕ → Option ℕ
+number_in least count word = find (λ n. bytes_eq word (decimal n)) (range_with_len least count)
+
+-- a number from 1 to 64
 abbrev pub workers_in : List ℕ → Option ℕ
-workers_in word = find (λ n. bytes_eq word (decimal n)) (range_with_len 1 most_workers)
+workers_in word = number_in 1 most_workers word
 
 -- the number of workers: 1 where none is given, and it is given once at most
 abbrev pub workers_of : List (List ℕ) → Option ℕ
@@ -96,6 +103,31 @@ rerun_with plain workers = None
 abbrev pub rerun_of : Rest → Option Command
 rerun_of rest = option_and_then (rerun_with rest.plain) (workers_of rest.workers)
 
+-- the name of a test (rule S4): 1 to 64 letters, digits, `_`, `-` or `.`, the first a letter, a digit or `_`
+abbrev pub is_test_name : List ℕ → Bool
+is_test_name name =
+    nat_le 1 (length name) && nat_le (length name) 64 && starts_name (slice_index name 0) && list_all goes_in_name name
+
+-- `explain OLD NEW HISTORY TEST`
+abbrev pub explain_with : List (List ℕ) → List (List ℕ) → Option Command
+explain_with (old ∷ new ∷ history ∷ test ∷ []) [] = if is_test_name test then Some (explain_files old new history test) else None
+explain_with plain workers = None
+
+abbrev pub explain_of : Rest → Option Command
+explain_of rest = explain_with rest.plain rest.workers
+
+-- `gen SEED SIZE`, with a seed from 0 to 65,535 and a size from 1 to 400
+abbrev pub gen_by : Option ℕ → Option ℕ → Option Command
+gen_by (Some seed) (Some size) = Some (gen_numbers seed size)
+gen_by seed size = None
+
+abbrev pub gen_with : List (List ℕ) → List (List ℕ) → Option Command
+gen_with (seed ∷ size ∷ []) [] = gen_by (number_in 0 65536 seed) (number_in 1 400 size)
+gen_with plain workers = None
+
+abbrev pub gen_of : Rest → Option Command
+gen_of rest = gen_with rest.plain rest.workers
+
 -- the first word names the command; words that are none are a fault of usage
 abbrev pub command_of : List (List ℕ) → Option Command
 command_of [] = None
@@ -104,4 +136,6 @@ command_of (name ∷ more) =
     else if bytes_eq name (codes "select") then option_and_then select_of (rest_of more)
     else if bytes_eq name (codes "walk") then option_and_then walk_of (rest_of more)
     else if bytes_eq name (codes "rerun") then option_and_then rerun_of (rest_of more)
+    else if bytes_eq name (codes "explain") then option_and_then explain_of (rest_of more)
+    else if bytes_eq name (codes "gen") then option_and_then gen_of (rest_of more)
     else None

@@ -39,4 +39,22 @@ pub enum Command<'a> {
         /// How many workers run the tests, from 1 to 64.
         workers: usize,
     },
+    /// `explain OLD NEW HISTORY TEST`
+    Explain {
+        /// The old source's file.
+        old: &'a str,
+        /// The new source's file.
+        new: &'a str,
+        /// The file of the history of the old source.
+        history: &'a str,
+        /// The name of the test.
+        test: &'a str,
+    },
+    /// `gen SEED SIZE`
+    Gen {
+        /// The generator's seed, from 0 to 65,535.
+        seed: u32,
+        /// How many functions it makes, from 1 to 400.
+        size: u32,
+    },
 }

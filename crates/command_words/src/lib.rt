@@ -5,9 +5,9 @@
 #![tactic(auto)]
 
 pub mod command;
+mod numbers;
 mod reading;
 mod rest;
-mod workers;
 
 pub use command::Command;
 pub use reading::read_words;

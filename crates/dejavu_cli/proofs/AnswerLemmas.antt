@@ -24,6 +24,7 @@ module _ (s t : List ℕ) (w : ℕ) (told : Option Files) (before now : List ℕ
       subst (λ (named : Role). HasBadSource (record_files s t w) named why told) (sym cause.0) (has_no_source told s source fetched why cause.1)
   bad_source (refusal.Suite why) cause = absurd cause
   bad_source (refusal.History why) cause = absurd cause
+  bad_source (refusal.NoTest name) cause = absurd cause
   bad_source refusal.ReadFault cause = absurd cause
   bad_source refusal.Memory cause = tt
   bad_source (refusal.TooMuch n) cause = absurd cause
@@ -34,6 +35,7 @@ module _ (s t : List ℕ) (w : ℕ) (told : Option Files) (before now : List ℕ
     no_suite (refusal.Source which why) since kept cause = absurd cause
     no_suite (refusal.Suite why) since kept cause = absurd cause
     no_suite (refusal.History why) since kept cause = absurd cause
+    no_suite (refusal.NoTest name) since kept cause = absurd cause
     no_suite refusal.ReadFault since kept cause = inr (has_good_source told s source fetched P accepted, rose_since (before t) since (now t) kept cause)
     no_suite refusal.Memory since kept cause = tt
     no_suite (refusal.TooMuch n) since kept cause = absurd cause
@@ -55,6 +57,7 @@ module _ (s t : List ℕ) (w : ℕ) (told : Option Files) (before now : List ℕ
           is = no_suite_in suite file.0 why file.2 cause;
         }
     bad_suite (refusal.History why) cause = absurd cause
+    bad_suite (refusal.NoTest name) cause = absurd cause
     bad_suite refusal.ReadFault cause = absurd cause
     bad_suite refusal.Memory cause = tt
     bad_suite (refusal.TooMuch n) cause = absurd cause
@@ -85,6 +88,7 @@ module _ (s t : List ℕ) (w : ℕ) (told : Option Files) (before now : List ℕ
       no_text (refusal.Source which why) cause = absurd cause
       no_text (refusal.Suite why) cause = absurd cause
       no_text (refusal.History why) cause = absurd cause
+      no_text (refusal.NoTest name) cause = absurd cause
       no_text refusal.ReadFault cause = absurd cause
       no_text refusal.Memory cause = tt
       no_text (refusal.TooMuch n) cause = λ files at. (

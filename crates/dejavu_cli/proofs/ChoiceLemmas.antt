@@ -14,6 +14,8 @@ use Rattle.test_select.specs.declared.choice.Choice.{Choice}
 use Rattle.test_select.specs.declared.choice.Choice.TheVariants.{Selected, Left}
 use Rattle.test_select.specs.Selection.{Chooses}
 use Rattle.dejavu_cli.specs.Select.{CrossesDanger, IsChoice}
+use Rattle.dejavu_cli.specs.Steps.{HasWalked}
+use Rattle.dejavu_cli.specs.declared.select.Chosen.{Chosen}
 
 has_within : (row : List Bool) (e : ℕ) → IsTrue (has row e) → e < length row
 has_within row e is = elim (cases_lt e (length row)) [
@@ -51,3 +53,8 @@ as_many_choices R [] [] each = refl
 as_many_choices R [] (c ∷ choices) each = absurd each
 as_many_choices R (e ∷ entries) [] each = absurd each
 as_many_choices R (e ∷ entries) (c ∷ choices) each = grind (arith, as_many_choices R entries choices each.1)
+
+-- a choice for each entry
+pub chosen_count : (P P' : ProgramTree) (entries : List EntryParts) (chosen : Chosen) → HasWalked P P' entries chosen → length chosen.choices.items ≡ length entries
+chosen_count P P' entries chosen has =
+    as_many_choices (λ (entry : EntryParts) (choice : Choice). Chooses entry.crossed chosen.walked.danger choice) entries chosen.choices.items has.chooses

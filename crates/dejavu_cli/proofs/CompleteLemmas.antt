@@ -5,10 +5,11 @@ use Rattle.csub_semantics.specs.Syntax.{ProgramTree}
 use Rattle.csub_accept.specs.Accepted.{Accepted}
 use Rattle.test_suite.specs.Tests.{TestParts}
 use Rattle.test_history.specs.Histories.{HistoryParts}
-use Rattle.command_words.specs.Words.{Command, record_files, walk_files, select_files, rerun_files, command_of}
+use Rattle.command_words.specs.Words.{Command, record_files, walk_files, select_files, rerun_files, explain_files, gen_numbers, command_of}
 use Rattle.dejavu_cli.specs.Record.{IsSuiteFile}
 use Rattle.dejavu_cli.specs.Select.{IsHistoryFile}
-use Rattle.dejavu_cli.specs.Answers.{HasSource, HasNoSource, HasNoSuite, HasNoHistory, HasReadFault, AreReady, IsDone, HasCause, HasCauseOf, HasTextOf, IsTextOf, Decides, Says, Refuses, IsComplete, status_of, done_as}
+use Rattle.dejavu_cli.specs.Explain.{HasTest}
+use Rattle.dejavu_cli.specs.Answers.{HasSource, HasNoSource, HasNoSuite, HasThree, HasNoHistory, LacksTest, HaveHistory, HasReadFault, AreReady, IsDone, HasCause, HasCauseOf, HasTextOf, IsTextOf, Decides, Says, Refuses, IsComplete, status_of, done_as}
 use Rattle.command_refusals.specs.Refusals.{refusal_line}
 use Rattle.command_refusals.specs.declared.suite.SuiteCause.{SuiteCause}
 use Rattle.command_refusals.specs.declared.history.HistoryCause.{HistoryCause}
@@ -32,14 +33,24 @@ good_suite : (files : Files) (s t suite : List ℕ) (tests : List TestParts) (ca
 good_suite files s t suite tests cause found reads bad =
     bad.is.none tests (subst (λ (bytes : List ℕ). IsSuiteFile bytes tests) (one_file files t suite bad.bytes found bad.found) reads)
 
+-- the history that is read is that of the files
+same_file : (files : Files) (o n h : List ℕ) (P : ProgramTree) (source : HasSource files o P) (bytes : List ℕ) (history : HistoryParts) → file_at files h ≡ Some bytes
+    → IsHistoryFile source.bytes bytes P history → (are : HasThree files o n h) → IsHistoryFile are.two.source are.bytes are.two.old history
+same_file files o n h P source bytes history found is are =
+    let first : source.bytes ≡ are.two.source = one_file files o source.bytes are.two.source source.found are.two.versions.found in
+    let second : bytes ≡ are.bytes = one_file files h bytes are.bytes found are.found in
+    let one : P ≡ are.two.old = are.two.versions.old_alone P (subst (λ (b : List ℕ). Accepted b P) first source.accepted) in
+    subst (λ (Q : ProgramTree). IsHistoryFile are.two.source are.bytes Q history) one
+    (subst (λ (b : List ℕ). IsHistoryFile are.two.source b P history) second (subst (λ (b : List ℕ). IsHistoryFile b bytes P history) first is))
+
 good_history : (files : Files) (o n h : List ℕ) (P : ProgramTree) (source : HasSource files o P) (bytes : List ℕ) (history : HistoryParts) (cause : HistoryCause)
     → file_at files h ≡ Some bytes → IsHistoryFile source.bytes bytes P history → HasNoHistory files o n h cause → ⊥
 good_history files o n h P source bytes history cause found is bad =
-    let first : source.bytes ≡ bad.source = one_file files o source.bytes bad.source source.found bad.versions.found in
-    let second : bytes ≡ bad.bytes = one_file files h bytes bad.bytes found bad.found in
-    let one : P ≡ bad.old = bad.versions.old_alone P (subst (λ (b : List ℕ). Accepted b P) first source.accepted) in
-    bad.is.none history (subst (λ (Q : ProgramTree). IsHistoryFile bad.source bad.bytes Q history) one
-    (subst (λ (b : List ℕ). IsHistoryFile bad.source b P history) second (subst (λ (b : List ℕ). IsHistoryFile b bytes P history) first is)))
+    bad.1.none history (same_file files o n h P source bytes history found is bad.0)
+
+good_test : (files : Files) (o n h t : List ℕ) (ready : HaveHistory files o n h) → HasTest ready.history.entries t → LacksTest files o n h t → ⊥
+good_test files o n h t ready has bad =
+    bad.1.none ready.history (same_file files o n h ready.old ready.source ready.bytes ready.history ready.found ready.is bad.0) has
 
 -- the statuses that are left
 abbrev IsLeft : Command → Status8 → Type 0
@@ -51,17 +62,30 @@ abbrev IsEnd : Command → Bool → Type 0
 IsEnd (rerun_files o n h w) differs = Unit {0}
 IsEnd c differs = differs ≡ false
 
+-- the text of a command, where its files are told
+pub told_text : (c : Command) (told : Option Files) (differs : Bool) (text : List ℕ) → HasTextOf (Some c) told differs text → (files : Files) → told ≡ Some files → IsTextOf c files differs text
+told_text (record_files s t w) told differs text has files at = has files at
+told_text (walk_files o m) told differs text has files at = has files at
+told_text (select_files o m h) told differs text has files at = has files at
+told_text (rerun_files o m h w) told differs text has files at = has files at
+told_text (explain_files o m h t) told differs text has files at = has files at
+told_text (gen_numbers seed count) told differs text has files at = has
+
 module _ (words : List (List ℕ)) (told : Option Files) (before now : List ℕ → ℕ) (b n : Option (List ℕ)) (fb fn : ℕ) (answer : Status8) where
   is_end : (c : Command) (differs : Bool) (text : List ℕ) (files : Files) → IsTextOf c files differs text → IsEnd c differs
   is_end (record_files s t w) differs text files has = has.0
   is_end (walk_files o m) differs text files has = has.0
   is_end (select_files o m h) differs text files has = has.0
   is_end (rerun_files o m h w) differs text files has = tt
+  is_end (explain_files o m h t) differs text files has = has.0
+  is_end (gen_numbers seed count) differs text files has = has.0
 
   is_done : (c : Command) (differs : Bool) → IsEnd c differs → answer ≡ done_as differs → IsDone c answer
   is_done (record_files s t w) differs end is = inl (is ∙ ap done_as end)
   is_done (walk_files o m) differs end is = inl (is ∙ ap done_as end)
   is_done (select_files o m h) differs end is = inl (is ∙ ap done_as end)
+  is_done (explain_files o m h t) differs end is = inl (is ∙ ap done_as end)
+  is_done (gen_numbers seed count) differs end is = inl (is ∙ ap done_as end)
   is_done (rerun_files o m h w) false end is = inl is
   is_done (rerun_files o m h w) true end is = inr (inl is)
 
@@ -82,7 +106,7 @@ module _ (words : List (List ℕ)) (told : Option Files) (before now : List ℕ 
       → IsComplete words told before now fb fn answer
   complete_done differs text has (inl h) files at c is ready read written =
       let here = subst (λ (d : Option Command). HasTextOf d told differs text) is has in
-      is_done c differs (is_end c differs text files (here files at)) h.0
+      is_done c differs (is_end c differs text files (told_text c told differs text here files at)) h.0
   complete_done differs text has (inr h) files at c is ready read written = absurd (written h.1)
 
   left_of_record : (files : Files) → told ≡ Some files → (s t : List ℕ) (w : ℕ) → AreReady (record_files s t w) files → ¬ HasReadFault (record_files s t w) told before now
@@ -93,6 +117,7 @@ module _ (words : List (List ℕ)) (told : Option Files) (before now : List ℕ 
   left_of_record files at s t w ready read (refusal.Source role.New why) cause = absurd cause
   left_of_record files at s t w ready read (refusal.Suite why) cause = absurd (good_suite files s t ready.1.0 ready.1.1 why ready.1.2 ready.1.3 (cause files at))
   left_of_record files at s t w ready read (refusal.History why) cause = absurd cause
+  left_of_record files at s t w ready read (refusal.NoTest name) cause = absurd cause
   left_of_record files at s t w ready read refusal.ReadFault cause = absurd (read cause)
   left_of_record files at s t w ready read refusal.Memory cause = inr refl
   left_of_record files at s t w ready read (refusal.TooMuch m) cause = inl refl
@@ -101,11 +126,12 @@ module _ (words : List (List ℕ)) (told : Option Files) (before now : List ℕ 
       → (r : Refusal) → HasCauseOf (select_files o m h) told before now r → IsLeft (select_files o m h) (status_of r)
   left_of_select files at o m h ready read refusal.Usage cause = absurd cause
   left_of_select files at o m h ready read (refusal.Source role.Source why) cause = absurd cause
-  left_of_select files at o m h ready read (refusal.Source role.Old why) cause = absurd (good_source files o ready.0 why ready.2 (cause files at))
-  left_of_select files at o m h ready read (refusal.Source role.New why) cause = absurd (good_source files m ready.1 why ready.3 (cause files at).1)
+  left_of_select files at o m h ready read (refusal.Source role.Old why) cause = absurd (good_source files o ready.old why ready.source (cause files at))
+  left_of_select files at o m h ready read (refusal.Source role.New why) cause = absurd (good_source files m ready.new why ready.new_source (cause files at).1)
   left_of_select files at o m h ready read (refusal.Suite why) cause = absurd cause
   left_of_select files at o m h ready read (refusal.History why) cause =
-      absurd (good_history files o m h ready.0 ready.2 ready.4 ready.5 why ready.6 ready.7 (cause files at))
+      absurd (good_history files o m h ready.old ready.source ready.bytes ready.history why ready.found ready.is (cause files at))
+  left_of_select files at o m h ready read (refusal.NoTest name) cause = absurd cause
   left_of_select files at o m h ready read refusal.ReadFault cause = absurd (read cause)
   left_of_select files at o m h ready read refusal.Memory cause = refl
   left_of_select files at o m h ready read (refusal.TooMuch k) cause = absurd cause
@@ -118,22 +144,45 @@ module _ (words : List (List ℕ)) (told : Option Files) (before now : List ℕ 
   left_of_walk files at o m ready read (refusal.Source role.New why) cause = absurd (good_source files m ready.1.0 why ready.1.1 (cause files at).1)
   left_of_walk files at o m ready read (refusal.Suite why) cause = absurd cause
   left_of_walk files at o m ready read (refusal.History why) cause = absurd cause
+  left_of_walk files at o m ready read (refusal.NoTest name) cause = absurd cause
   left_of_walk files at o m ready read refusal.ReadFault cause = absurd (read cause)
   left_of_walk files at o m ready read refusal.Memory cause = refl
   left_of_walk files at o m ready read (refusal.TooMuch k) cause = absurd cause
 
-  left_of_rerun : (files : Files) → told ≡ Some files → (o m h : List ℕ) (w : ℕ) → AreReady (rerun_files o m h w) files → ¬ HasReadFault (rerun_files o m h w) told before now
-      → (r : Refusal) → HasCauseOf (rerun_files o m h w) told before now r → IsLeft (rerun_files o m h w) (status_of r)
+  -- `rerun` and `explain` are ready, and are refused, where `select` is
+  left_of_rerun : (files : Files) → told ≡ Some files → (o m h : List ℕ) (w : ℕ) → HaveHistory files o m h → ¬ HasReadFault (rerun_files o m h w) told before now
+      → (r : Refusal) → HasCauseOf (rerun_files o m h w) told before now r → status_of r ≡ status.Memory
   left_of_rerun files at o m h w ready read refusal.Usage cause = absurd cause
-  left_of_rerun files at o m h w ready read (refusal.Source role.Source why) cause = absurd cause
-  left_of_rerun files at o m h w ready read (refusal.Source role.Old why) cause = absurd (good_source files o ready.0 why ready.2 (cause files at))
-  left_of_rerun files at o m h w ready read (refusal.Source role.New why) cause = absurd (good_source files m ready.1 why ready.3 (cause files at).1)
+  left_of_rerun files at o m h w ready read (refusal.Source which why) cause = left_of_select files at o m h ready read (refusal.Source which why) cause
   left_of_rerun files at o m h w ready read (refusal.Suite why) cause = absurd cause
-  left_of_rerun files at o m h w ready read (refusal.History why) cause =
-      absurd (good_history files o m h ready.0 ready.2 ready.4 ready.5 why ready.6 ready.7 (cause files at))
+  left_of_rerun files at o m h w ready read (refusal.History why) cause = left_of_select files at o m h ready read (refusal.History why) cause
+  left_of_rerun files at o m h w ready read (refusal.NoTest name) cause = absurd cause
   left_of_rerun files at o m h w ready read refusal.ReadFault cause = absurd (read cause)
   left_of_rerun files at o m h w ready read refusal.Memory cause = refl
   left_of_rerun files at o m h w ready read (refusal.TooMuch k) cause = absurd cause
+
+  left_of_explain : (files : Files) → told ≡ Some files → (o m h t : List ℕ) → AreReady (explain_files o m h t) files → ¬ HasReadFault (explain_files o m h t) told before now
+      → (r : Refusal) → HasCauseOf (explain_files o m h t) told before now r → status_of r ≡ status.Memory
+  left_of_explain files at o m h t ready read refusal.Usage cause = absurd cause
+  left_of_explain files at o m h t ready read (refusal.Source which why) cause = left_of_select files at o m h ready.0 read (refusal.Source which why) cause
+  left_of_explain files at o m h t ready read (refusal.Suite why) cause = absurd cause
+  left_of_explain files at o m h t ready read (refusal.History why) cause = left_of_select files at o m h ready.0 read (refusal.History why) cause
+  left_of_explain files at o m h t ready read (refusal.NoTest name) cause = absurd (good_test files o m h t ready.0 ready.1 (cause.1 files at))
+  left_of_explain files at o m h t ready read refusal.ReadFault cause = absurd (read cause)
+  left_of_explain files at o m h t ready read refusal.Memory cause = refl
+  left_of_explain files at o m h t ready read (refusal.TooMuch k) cause = absurd cause
+
+  left_of_gen : (files : Files) (seed count : ℕ) → AreReady (gen_numbers seed count) files → (r : Refusal) → HasCauseOf (gen_numbers seed count) told before now r → status_of r ≡ status.Memory
+  left_of_gen files seed count ready refusal.Usage cause = absurd cause
+  left_of_gen files seed count ready (refusal.Source role.Source why) cause = absurd cause
+  left_of_gen files seed count ready (refusal.Source role.Old why) cause = absurd (cause.none ready.0.0 ready.0.1)
+  left_of_gen files seed count ready (refusal.Source role.New why) cause = absurd (cause.1.none ready.1.0 ready.1.1)
+  left_of_gen files seed count ready (refusal.Suite why) cause = absurd cause
+  left_of_gen files seed count ready (refusal.History why) cause = absurd cause
+  left_of_gen files seed count ready (refusal.NoTest name) cause = absurd cause
+  left_of_gen files seed count ready refusal.ReadFault cause = absurd cause
+  left_of_gen files seed count ready refusal.Memory cause = refl
+  left_of_gen files seed count ready (refusal.TooMuch k) cause = absurd cause
 
   left_over : (files : Files) → told ≡ Some files → (c : Command) → AreReady c files → ¬ HasReadFault c told before now
       → (r : Refusal) → HasCauseOf c told before now r → IsLeft c (status_of r)
@@ -141,18 +190,24 @@ module _ (words : List (List ℕ)) (told : Option Files) (before now : List ℕ 
   left_over files at (walk_files o m) ready read r cause = left_of_walk files at o m ready read r cause
   left_over files at (select_files o m h) ready read r cause = left_of_select files at o m h ready read r cause
   left_over files at (rerun_files o m h w) ready read r cause = left_of_rerun files at o m h w ready read r cause
+  left_over files at (explain_files o m h t) ready read r cause = left_of_explain files at o m h t ready read r cause
+  left_over files at (gen_numbers seed count) ready read r cause = left_of_gen files seed count ready r cause
 
   left_done : (c : Command) (s : Status8) → IsLeft c s → answer ≡ s → IsDone c answer
   left_done (record_files s t w) which left is = elim left [ inl k ↦ inr (inl (is ∙ k)) | inr k ↦ inr (inr (is ∙ k)) ]
   left_done (walk_files o m) which left is = inr (is ∙ left)
   left_done (select_files o m h) which left is = inr (is ∙ left)
   left_done (rerun_files o m h w) which left is = inr (inr (is ∙ left))
+  left_done (explain_files o m h t) which left is = inr (is ∙ left)
+  left_done (gen_numbers seed count) which left is = inr (is ∙ left)
 
   memory_left : (c : Command) → IsLeft c status.Memory
   memory_left (record_files s t w) = inr refl
   memory_left (walk_files o m) = refl
   memory_left (select_files o m h) = refl
   memory_left (rerun_files o m h w) = refl
+  memory_left (explain_files o m h t) = refl
+  memory_left (gen_numbers seed count) = refl
 
   said : (c : Command) (r : Refusal) → IsLeft c (status_of r) → ¬ Rose fb fn → Refuses b n fb fn r answer → IsDone c answer
   said c r left written (inl (inl h)) = left_done c (status_of r) left h.0

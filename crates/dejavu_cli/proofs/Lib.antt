@@ -1,6 +1,7 @@
 mod AnswerLemmas
 mod ChoiceLemmas
 mod CompleteLemmas
+mod ExplainLemmas
 mod FileLemmas
 mod RerunLemmas
 mod RunLemmas

@@ -8,6 +8,7 @@ use Rattle.command_refusals.specs.declared.refusal.Refusal.TheVariants as refusa
 use Rattle.dejavu_cli.specs.Answers.{HasTextOf, HasCause, Says, Refuses, IsHeadline, status_of, done_as}
 use Rattle.dejavu_cli.specs.declared.status.Status8.{Status8}
 use Rattle.dejavu_cli.specs.declared.status.Status8.TheVariants as status
+use Rattle.dejavu_cli.proofs.CompleteLemmas.{told_text}
 
 -- what was added to what was written before
 added : (b n : Option (List ℕ)) (text written : List ℕ) → n ≡ option_map (λ held. held ++ text) b → b ≡ Some written → n ≡ Some (written ++ text)
@@ -17,7 +18,7 @@ module _ (words : List (List ℕ)) (told : Option Files) (b n : Option (List ℕ
   pub headline_is : (differs : Bool) (s : Status8) (text : List ℕ) (oc : Option Command) → command_of words ≡ oc → HasTextOf oc told differs text → Says b n fb fn s text answer
       → (status.WriteFault ≡ s → ⊥) → answer ≡ s → IsHeadline words told b n differs
   headline_is differs s text None is has says other done = absurd has
-  headline_is differs s text (Some c) is has (inl h) other done = λ files at written held. (c, is, text, has files at, added b n text written h.1 held)
+  headline_is differs s text (Some c) is has (inl h) other done = λ files at written held. (c, is, text, told_text c told differs text has files at, added b n text written h.1 held)
   headline_is differs s text (Some c) is has (inr h) other done = absurd (other (sym h.0 ∙ done))
 
   pub done_is : (differs : Bool) (text : List ℕ) (oc : Option Command) → command_of words ≡ oc → HasTextOf oc told differs text → Says b n fb fn (done_as differs) text answer
@@ -54,6 +55,7 @@ module _ (words : List (List ℕ)) (told : Option Files) (b n : Option (List ℕ
   no_other before now c (refusal.Source which why) cause is = cc
   no_other before now c (refusal.Suite why) cause is = cc
   no_other before now c (refusal.History why) cause is = cc
+  no_other before now c (refusal.NoTest name) cause is = cc
   no_other before now c refusal.ReadFault cause is = cc
   no_other before now c refusal.Memory cause is = cc
   no_other before now c (refusal.TooMuch bytes) cause is = cc

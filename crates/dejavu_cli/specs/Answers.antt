@@ -7,7 +7,7 @@ use Rattle.test_suite.specs.Tests.{TestParts}
 use Rattle.test_history.specs.Histories.{HistoryParts}
 use Rattle.test_history.specs.HistoryTexts.{history_text, most_history_bytes}
 use Rattle.explain_report.specs.Walks.{IsWalkText}
-use Rattle.command_words.specs.Words.{Command, record_files, walk_files, select_files, rerun_files, command_of}
+use Rattle.command_words.specs.Words.{Command, record_files, walk_files, select_files, rerun_files, explain_files, gen_numbers, command_of}
 use Rattle.command_refusals.specs.Refusals.{refusal_line}
 use Rattle.command_refusals.specs.declared.source.SourceCause.{SourceCause}
 use Rattle.command_refusals.specs.declared.suite.SuiteCause.{SuiteCause}
@@ -20,6 +20,9 @@ use Rattle.dejavu_cli.specs.Causes.{NotAccepted, NoSuite, NoHistory}
 use Rattle.dejavu_cli.specs.Record.{IsHistoryOf, IsSuiteFile}
 use Rattle.dejavu_cli.specs.Select.{IsHistoryFile, IsSelection}
 use Rattle.dejavu_cli.specs.Rerun.{IsRerun}
+use Rattle.dejavu_cli.specs.Explain.{HasTest, IsExplained, HasNoTest}
+use Rattle.dejavu_cli.specs.Generated.{IsGenText}
+use Rattle.dv_gen.specs.Pairs.{old_source, new_source}
 use Rattle.dejavu_cli.specs.declared.status.Status8.{Status8}
 use Rattle.dejavu_cli.specs.declared.status.Status8.TheVariants as status
 
@@ -68,51 +71,58 @@ pub record HasNoSuite (files : Files) (source_name suite_name : List ℕ) (cause
   pub found : file_at files suite_name ≡ Some bytes
   pub is : NoSuite bytes cause
 
--- both files are there, and are accepted sources, each of one program alone; the old one has these bytes
-pub record HasVersions (files : Files) (old_name new_name source : List ℕ) (P P' : ProgramTree) : Type 0 where
+-- both files are there, with these bytes, and are accepted sources, each of one program alone
+pub record HasVersions (files : Files) (old_name new_name source source' : List ℕ) (P P' : ProgramTree) : Type 0 where
   pub found : file_at files old_name ≡ Some source
   pub accepted : Accepted source P
-  pub new_source : HasSource files new_name P'
+  pub new_found : file_at files new_name ≡ Some source'
+  pub new_accepted : Accepted source' P'
   pub old_alone : (Q : ProgramTree) → Accepted source Q → Q ≡ P
-  pub new_alone : (Q : ProgramTree) → Accepted new_source.bytes Q → Q ≡ P'
+  pub new_alone : (Q : ProgramTree) → Accepted source' Q → Q ≡ P'
+
+-- two accepted sources
+pub record HasTwo (files : Files) (old_name new_name : List ℕ) : Type 0 where
+  pub source : List ℕ
+  pub new_source : List ℕ
+  pub old : ProgramTree
+  pub new : ProgramTree
+  pub versions : HasVersions files old_name new_name source new_source old new
+
+-- two accepted sources and a third file
+pub record HasThree (files : Files) (old_name new_name history_name : List ℕ) : Type 0 where
+  pub two : HasTwo files old_name new_name
+  pub bytes : List ℕ
+  pub found : file_at files history_name ≡ Some bytes
 
 -- two accepted sources, and the text of their walk
-pub record HasWalk (files : Files) (old_name new_name text : List ℕ) : Type 0 where
-  pub source : List ℕ
-  pub old : ProgramTree
-  pub new : ProgramTree
-  pub versions : HasVersions files old_name new_name source old new
-  pub is : IsWalkText source old new text
+abbrev pub HasWalk : Files → List ℕ → List ℕ → List ℕ → Type 0
+HasWalk files old_name new_name text = (are : HasTwo files old_name new_name) × IsWalkText are.source are.old are.new text
 
 -- two accepted sources and a history of the old one, and the text of their selection
-pub record HasSelection (files : Files) (old_name new_name history_name text : List ℕ) : Type 0 where
-  pub source : List ℕ
-  pub old : ProgramTree
-  pub new : ProgramTree
-  pub versions : HasVersions files old_name new_name source old new
-  pub bytes : List ℕ
-  pub found : file_at files history_name ≡ Some bytes
-  pub is : IsSelection source bytes old new text
+abbrev pub HasSelection : Files → List ℕ → List ℕ → List ℕ → List ℕ → Type 0
+HasSelection files old_name new_name history_name text =
+    (are : HasThree files old_name new_name history_name) × IsSelection are.two.source are.bytes are.two.old are.two.new text
 
 -- the same, and the text of the runs of the selected tests on the new program, with whether one differs
-pub record HasRerun (files : Files) (old_name new_name history_name : List ℕ) (differs : Bool) (text : List ℕ) : Type 0 where
-  pub source : List ℕ
-  pub old : ProgramTree
-  pub new : ProgramTree
-  pub versions : HasVersions files old_name new_name source old new
-  pub bytes : List ℕ
-  pub found : file_at files history_name ≡ Some bytes
-  pub is : IsRerun source bytes old new differs text
+abbrev pub HasRerun : Files → List ℕ → List ℕ → List ℕ → Bool → List ℕ → Type 0
+HasRerun files old_name new_name history_name differs text =
+    (are : HasThree files old_name new_name history_name) × IsRerun are.two.source are.bytes are.two.old are.two.new differs text
+
+-- the same, and the text that explains the choice for a test
+abbrev pub HasExplanation : Files → List ℕ → List ℕ → List ℕ → List ℕ → List ℕ → Type 0
+HasExplanation files old_name new_name history_name test text =
+    (are : HasThree files old_name new_name history_name)
+    × IsExplained are.two.source are.two.new_source are.bytes are.two.old are.two.new test text
 
 -- the first two files are accepted sources, and the third is there and no history of the first, of which this is told
-pub record HasNoHistory (files : Files) (old_name new_name history_name : List ℕ) (cause : HistoryCause) : Type 0 where
-  pub source : List ℕ
-  pub old : ProgramTree
-  pub new : ProgramTree
-  pub versions : HasVersions files old_name new_name source old new
-  pub bytes : List ℕ
-  pub found : file_at files history_name ≡ Some bytes
-  pub is : NoHistory source bytes old cause
+abbrev pub HasNoHistory : Files → List ℕ → List ℕ → List ℕ → HistoryCause → Type 0
+HasNoHistory files old_name new_name history_name cause =
+    (are : HasThree files old_name new_name history_name) × NoHistory are.two.source are.bytes are.two.old cause
+
+-- the third file is a history of the first, which has no test of this name
+abbrev pub LacksTest : Files → List ℕ → List ℕ → List ℕ → List ℕ → Type 0
+LacksTest files old_name new_name history_name test =
+    (are : HasThree files old_name new_name history_name) × HasNoTest are.two.source are.bytes are.two.old test
 
 -- ---- the text of a command
 
@@ -124,14 +134,17 @@ IsTextOf (record_files source suite workers) files differs text =
 IsTextOf (walk_files old new) files differs text = (differs ≡ false) × HasWalk files old new text
 IsTextOf (select_files old new history) files differs text = (differs ≡ false) × HasSelection files old new history text
 IsTextOf (rerun_files old new history workers) files differs text = HasRerun files old new history differs text
+IsTextOf (explain_files old new history test) files differs text = (differs ≡ false) × HasExplanation files old new history test text
+IsTextOf (gen_numbers seed size) files differs text = (differs ≡ false) × IsGenText seed size text
 
 -- what holds of the files, where they are told
 abbrev pub WhereTold : Option Files → (Files → Type 0) → Type 0
 WhereTold told Q = (files : Files) → told ≡ Some files → Q files
 
--- the text of a command, where the files are told; words that are no command have none
+-- the text of a command, where the files are told, which `gen` doesn't ask for; words that are no command have none
 abbrev pub HasTextOf : Option Command → Option Files → Bool → List ℕ → Type 0
 HasTextOf None told differs text = ⊥
+HasTextOf (Some (gen_numbers seed size)) told differs text = (differs ≡ false) × IsGenText seed size text
 HasTextOf (Some c) told differs text = WhereTold told (λ files. IsTextOf c files differs text)
 
 -- ---- why a command isn't done
@@ -147,11 +160,19 @@ HasBadOfTwo old new role.Source cause told = ⊥
 HasBadOfTwo old new role.Old cause told = WhereTold told (λ files. HasNoSource files old cause)
 HasBadOfTwo old new role.New cause told = WhereTold told (λ files. ((P : ProgramTree) × HasSource files old P) × HasNoSource files new cause)
 
+-- a made source isn't accepted, and the one before it is
+abbrev pub HasBadMade : ℕ → ℕ → Role → SourceCause → Type 0
+HasBadMade seed size role.Source cause = ⊥
+HasBadMade seed size role.Old cause = NotAccepted (old_source seed size) cause
+HasBadMade seed size role.New cause = ((P : ProgramTree) × Accepted (old_source seed size) P) × NotAccepted (new_source seed size) cause
+
 abbrev pub HasBadSource : Command → Role → SourceCause → Option Files → Type 0
 HasBadSource (record_files source suite workers) which cause told = HasBadOne source which cause told
 HasBadSource (walk_files old new) which cause told = HasBadOfTwo old new which cause told
 HasBadSource (select_files old new history) which cause told = HasBadOfTwo old new which cause told
 HasBadSource (rerun_files old new history workers) which cause told = HasBadOfTwo old new which cause told
+HasBadSource (explain_files old new history test) which cause told = HasBadOfTwo old new which cause told
+HasBadSource (gen_numbers seed size) which cause told = HasBadMade seed size which cause
 
 -- the source is accepted, and the suite isn't
 abbrev pub HasBadSuite : Command → SuiteCause → Option Files → Type 0
@@ -162,7 +183,13 @@ HasBadSuite c cause told = ⊥
 abbrev pub HasBadHistory : Command → HistoryCause → Option Files → Type 0
 HasBadHistory (select_files old new history) cause told = WhereTold told (λ files. HasNoHistory files old new history cause)
 HasBadHistory (rerun_files old new history workers) cause told = WhereTold told (λ files. HasNoHistory files old new history cause)
+HasBadHistory (explain_files old new history test) cause told = WhereTold told (λ files. HasNoHistory files old new history cause)
 HasBadHistory c cause told = ⊥
+
+-- the history is read, and has no test of the name that is asked for
+abbrev pub HasBadTest : Command → List ℕ → Option Files → Type 0
+HasBadTest (explain_files old new history test) name told = (name ≡ test) × WhereTold told (λ files. LacksTest files old new history test)
+HasBadTest c name told = ⊥
 
 -- the source of this name is accepted
 abbrev pub HasGoodSource : List ℕ → Option Files → Type 0
@@ -184,6 +211,8 @@ HasReadFault (record_files source suite workers) told before now = HasFaultOfTwo
 HasReadFault (walk_files old new) told before now = HasFaultOfTwo old new told before now
 HasReadFault (select_files old new history) told before now = HasFaultOfThree old new history told before now
 HasReadFault (rerun_files old new history workers) told before now = HasFaultOfThree old new history told before now
+HasReadFault (explain_files old new history test) told before now = HasFaultOfThree old new history told before now
+HasReadFault (gen_numbers seed size) told before now = ⊥
 
 -- the history would have more bytes than a history may have, so many
 abbrev pub HasTooMuch : Command → Option Files → ℕ → Type 0
@@ -197,6 +226,7 @@ HasCauseOf c told before now refusal.Usage = ⊥
 HasCauseOf c told before now (refusal.Source which cause) = HasBadSource c which cause told
 HasCauseOf c told before now (refusal.Suite cause) = HasBadSuite c cause told
 HasCauseOf c told before now (refusal.History cause) = HasBadHistory c cause told
+HasCauseOf c told before now (refusal.NoTest name) = HasBadTest c name told
 HasCauseOf c told before now refusal.ReadFault = HasReadFault c told before now
 HasCauseOf c told before now refusal.Memory = Unit {0}
 HasCauseOf c told before now (refusal.TooMuch bytes) = HasTooMuch c told bytes
@@ -214,6 +244,7 @@ status_of refusal.Usage = status.Usage
 status_of (refusal.Source which cause) = status.Source
 status_of (refusal.Suite cause) = status.Suite
 status_of (refusal.History cause) = status.History
+status_of (refusal.NoTest name) = status.History
 status_of refusal.ReadFault = status.ReadFault
 status_of refusal.Memory = status.Memory
 status_of (refusal.TooMuch bytes) = status.TooMuch
@@ -258,18 +289,27 @@ Refuses before now faults_before faults_now r answer =
 abbrev pub HasSuite : Files → List ℕ → Type 0
 HasSuite files name = (suite : List ℕ) × (tests : List TestParts) × (file_at files name ≡ Some suite) × IsSuiteFile suite tests
 
-abbrev pub HaveHistory : Files → List ℕ → List ℕ → List ℕ → Type 0
-HaveHistory files old_name new_name history_name =
-    (old new : ProgramTree) × (source : HasSource files old_name old) × HasSource files new_name new
-    × (bytes : List ℕ) × (history : HistoryParts) × (file_at files history_name ≡ Some bytes) × IsHistoryFile source.bytes bytes old history
+pub record HaveHistory (files : Files) (old_name new_name history_name : List ℕ) : Type 0 where
+  pub old : ProgramTree
+  pub new : ProgramTree
+  pub source : HasSource files old_name old
+  pub new_source : HasSource files new_name new
+  pub bytes : List ℕ
+  pub history : HistoryParts
+  pub found : file_at files history_name ≡ Some bytes
+  pub is : IsHistoryFile source.bytes bytes old history
 
--- the files of a command are there and are what it asks for: for `record` an accepted source and a suite, for the others
--- two accepted sources, and for `select` and `rerun` a history of the old one
+-- The files of a command are there and are what it asks for: for `record` an accepted source and a suite, for the others
+-- two accepted sources, and for all but `walk` a history of the old one, for `explain` one that has the test. The sources
+-- that `gen` makes are accepted.
 abbrev pub AreReady : Command → Files → Type 0
 AreReady (record_files source suite workers) files = ((P : ProgramTree) × HasSource files source P) × HasSuite files suite
 AreReady (walk_files old new) files = ((P : ProgramTree) × HasSource files old P) × ((P : ProgramTree) × HasSource files new P)
 AreReady (select_files old new history) files = HaveHistory files old new history
 AreReady (rerun_files old new history workers) files = HaveHistory files old new history
+AreReady (explain_files old new history test) files = (have : HaveHistory files old new history) × HasTest have.history.entries test
+AreReady (gen_numbers seed size) files =
+    ((P : ProgramTree) × Accepted (old_source seed size) P) × ((P : ProgramTree) × Accepted (new_source seed size) P)
 
 -- the answer of a command that nothing stands in the way of: it is done, or for `record` the history would be too long, for
 -- `rerun` a test differs, or memory was wanted
@@ -277,6 +317,8 @@ abbrev pub IsDone : Command → Status8 → Type 0
 IsDone (record_files source suite workers) answer = (answer ≡ status.Done) ⊎ ((answer ≡ status.TooMuch) ⊎ (answer ≡ status.Memory))
 IsDone (walk_files old new) answer = (answer ≡ status.Done) ⊎ (answer ≡ status.Memory)
 IsDone (select_files old new history) answer = (answer ≡ status.Done) ⊎ (answer ≡ status.Memory)
+IsDone (explain_files old new history test) answer = (answer ≡ status.Done) ⊎ (answer ≡ status.Memory)
+IsDone (gen_numbers seed size) answer = (answer ≡ status.Done) ⊎ (answer ≡ status.Memory)
 IsDone (rerun_files old new history workers) answer = (answer ≡ status.Done) ⊎ ((answer ≡ status.Differs) ⊎ (answer ≡ status.Memory))
 
 -- Completeness: where the words are a command whose files are told and ready, and none had a fault, nor the output, it is

@@ -4,3 +4,5 @@ pub mod Rerun
 pub mod Causes
 pub mod Answers
 pub mod Steps
+pub mod Explain
+pub mod Generated

@@ -2,24 +2,32 @@
 use Rattle.std.specs.Prelude.{ℕ, ◌≡◌, ◌<◌, ◌≤◌, List, length, Option}
 use Rattle.std.specs.List.{AllZip}
 use Rattle.dv_outside.specs.Outside.{Files, Rose}
-use Rattle.csub_semantics.specs.Syntax.{ProgramTree}
+use Rattle.csub_semantics.specs.Syntax.{ProgramTree, program_tree}
 use Rattle.csub_accept.specs.Accepted.{Accepted}
+use Rattle.flow_graph.specs.Graph.{IsGraphOf}
+use Rattle.call_walk.specs.Walks.{IsWalk}
 use Rattle.test_suite.specs.Tests.{TestParts}
 use Rattle.test_history.specs.Histories.{EntryParts, HistoryParts}
 use Rattle.test_history.specs.HistoryTexts.{history_text, most_history_bytes}
 use Rattle.test_select.specs.declared.choice.Choice.{Choice}
+use Rattle.test_select.specs.Selection.{Chooses}
 use Rattle.rerun_report.specs.Reruns.{differ_count}
 use Rattle.rerun_report.specs.RerunTexts.{rerun_text}
 use Rattle.rerun_report.specs.declared.text.RerunText.{RerunText}
 use Rattle.suite_run.specs.Entries.{IsEntry}
 use Rattle.command_refusals.specs.declared.refusal.Role.{Role}
+use Rattle.command_refusals.specs.declared.refusal.Role.TheVariants as role
 use Rattle.command_refusals.specs.declared.refusal.Refusal.{Refusal}
 use Rattle.command_refusals.specs.declared.refusal.Refusal.TheVariants as refusal
 use Rattle.dejavu_cli.specs.Causes.{NotAccepted, NoSuite, NoHistory}
 use Rattle.dejavu_cli.specs.Record.{IsHistory, IsHistoryOf, IsSuiteFile}
 use Rattle.dejavu_cli.specs.Select.{IsHistoryFile, IsChosen}
 use Rattle.dejavu_cli.specs.Rerun.{selected_tests}
-use Rattle.dejavu_cli.specs.Answers.{HasVersions, HasBadOfTwo, HasFaultOfTwo, WhereTold}
+use Rattle.dejavu_cli.specs.Explain.{HasNoTest}
+use Rattle.dejavu_cli.specs.Answers.{HasVersions, HasBadOfTwo, HasBadMade, HasFaultOfTwo, WhereTold}
+use Rattle.dejavu_cli.specs.declared.versions.Graphs.{Graphs}
+use Rattle.dejavu_cli.specs.declared.versions.Versions.{Versions}
+use Rattle.dejavu_cli.specs.declared.select.Chosen.{Chosen}
 
 -- a file isn't fetched for want of memory, or where the count of its faults rose
 abbrev pub IsFetchCause : ℕ → ℕ → Refusal → Type 0
@@ -33,11 +41,12 @@ IsSourceCause which bytes refusal.Memory = Unit {0}
 IsSourceCause which bytes (refusal.Source named cause) = (named ≡ which) × NotAccepted bytes cause
 IsSourceCause which bytes r = ⊥
 
--- the two versions that a command names are read: the old source, and both programs
-pub record AreVersions (told : Option Files) (old_name new_name source : List ℕ) (P P' : ProgramTree) : Type 0 where
+-- the two versions that a command names are read: both sources and their programs
+pub record AreVersions (told : Option Files) (old_name new_name source source' : List ℕ) (P P' : ProgramTree) : Type 0 where
   pub short : length source ≤ 1048576
+  pub new_short : length source' ≤ 1048576
   pub alone : (Q : ProgramTree) → Accepted source Q → Q ≡ P
-  pub versions : WhereTold told (λ files. HasVersions files old_name new_name source P P')
+  pub versions : WhereTold told (λ files. HasVersions files old_name new_name source source' P P')
 
 -- they aren't read for want of memory, where one isn't accepted, or where the count of faults of one rose
 abbrev pub IsVersionsCause : List ℕ → List ℕ → Option Files → (List ℕ → ℕ) → (List ℕ → ℕ) → Refusal → Type 0
@@ -82,6 +91,50 @@ abbrev pub IsHistoryCause : List ℕ → List ℕ → ProgramTree → Refusal �
 IsHistoryCause source bytes P refusal.Memory = Unit {0}
 IsHistoryCause source bytes P (refusal.History cause) = NoHistory source bytes P cause
 IsHistoryCause source bytes P r = ⊥
+
+-- the graphs are those of two programs
+pub record AreGraphs (P P' : ProgramTree) (graphs : Graphs) : Type 0 where
+  pub old : IsGraphOf graphs.old P
+  pub new : IsGraphOf graphs.new P'
+
+-- the walk of two programs, and a choice for each entry by its dangerous edges
+pub record HasWalked (P P' : ProgramTree) (entries : List EntryParts) (chosen : Chosen) : Type 0 where
+  pub walk : IsWalk P P' chosen.walked
+  pub chooses : AllZip (λ entry choice. Chooses entry.crossed chosen.walked.danger choice) entries chosen.choices.items
+
+-- that a test of this name lacks is told, or memory was wanted
+abbrev pub IsNoTestOf : List ℕ → Refusal → Type 0
+IsNoTestOf test refusal.Memory = Unit {0}
+IsNoTestOf test (refusal.NoTest name) = name ≡ test
+IsNoTestOf test r = ⊥
+
+-- a test isn't explained for want of memory, where the bytes are no history of the source, or where the history lacks it
+abbrev pub IsTestCause : List ℕ → List ℕ → ProgramTree → List ℕ → Refusal → Type 0
+IsTestCause source bytes P test refusal.Memory = Unit {0}
+IsTestCause source bytes P test (refusal.History cause) = NoHistory source bytes P cause
+IsTestCause source bytes P test (refusal.NoTest name) = (name ≡ test) × HasNoTest source bytes P test
+IsTestCause source bytes P test r = ⊥
+
+-- the versions of two sources, each of one program alone
+pub record AreMade (source source' : List ℕ) (versions : Versions) : Type 0 where
+  pub old_is : versions.source.items ≡ source
+  pub new_is : versions.new_source.items ≡ source'
+  pub accepted : Accepted source (program_tree versions.old)
+  pub new_accepted : Accepted source' (program_tree versions.new)
+  pub alone : (Q : ProgramTree) → Accepted source Q → Q ≡ program_tree versions.old
+
+-- they aren't read for want of memory, or where one isn't accepted
+abbrev pub IsMadeRefusal : List ℕ → List ℕ → Refusal → Type 0
+IsMadeRefusal source source' refusal.Memory = Unit {0}
+IsMadeRefusal source source' (refusal.Source role.Old cause) = NotAccepted source cause
+IsMadeRefusal source source' (refusal.Source role.New cause) = ((P : ProgramTree) × Accepted source P) × NotAccepted source' cause
+IsMadeRefusal source source' r = ⊥
+
+-- what is made isn't told for want of memory, or where a made source isn't accepted
+abbrev pub IsMadeCause : ℕ → ℕ → Refusal → Type 0
+IsMadeCause seed count refusal.Memory = Unit {0}
+IsMadeCause seed count (refusal.Source which cause) = HasBadMade seed count which cause
+IsMadeCause seed count r = ⊥
 
 -- these are the choices for the history in a file of the old source; where the bytes are what `record` writes for that source
 -- and a suite, the entries are those of its tests

@@ -5,7 +5,8 @@
 //! is given (`specs/Record`), each entry with what the test's run on the source's program gives; `walk` shows at which edges
 //! two versions part; `select` names the tests of such a history that a changed source may make behave otherwise, and each
 //! test that it leaves behaves the same on it (`specs/Select`); `rerun` runs these, and finds a difference exactly where
-//! running all tests would (`specs/Rerun`).
+//! running all tests would (`specs/Rerun`); `explain` shows for one test how a walk reaches the edge for which it has to run
+//! again (`specs/Explain`); `gen` tries the method on a generated pair of sources (`specs/Generated`).
 #![tactic(auto)]
 
 ghost use Rattle.std.specs.Prelude.{◌≡◌, ℕ, List, None, false, true};
@@ -14,7 +15,9 @@ ghost use Rattle.command_words.specs.Words.{texts_of, command_of};
 ghost use Rattle.dejavu_cli.specs.Answers.{Decides, Says, Refuses, IsHeadline, IsComplete};
 
 mod answer;
+mod explain;
 mod files;
+mod generate;
 mod record;
 mod rerun;
 mod select;
@@ -45,6 +48,10 @@ use std::thread::Threads;
 /// - `rerun OLD NEW HISTORY`, with or without `--workers N`, runs the selected tests on NEW, and writes a line for each test in
 ///   order, `left NAME`, `same NAME`, or `differs NAME` and what differs from its entry; then `differ K of N`. The answer is
 ///   Differs where a test differs.
+/// - `explain OLD NEW HISTORY TEST` writes the line that `select` writes for the test, and where it is selected how a walk
+///   reaches the edge in both versions and that they part there.
+/// - `gen SEED SIZE` makes a pair of sources and a suite (crate `dv_gen`), and writes how many points, edges and tests they
+///   have, how many edges are dangerous, how many tests are selected, and how many of these differ.
 ///
 /// Before a worker makes the machine of a test it calls the gate with the test's place in the list of tests that run.
 ///
@@ -76,13 +83,13 @@ pub fn dejavu<R: Threads + Sync, S: Shelf, K: Sink, G: Gate>(
 {
     match work(rt, alloc, words, shelf, gate) {
         Ok(Answer { text, differs }) => say(out, done_as(differs), &text),
-        Err(refusal) => refuse(alloc, out, refusal),
+        Err(refusal) => refuse(alloc, out, &refusal),
     }
 }
 
 /// Writes the line of a refusal; where there is no memory for it, the line for want of memory.
-fn refuse<K: Sink>(alloc: Global, out: &mut K, refusal: Refusal) -> Status8
-    ensures { Refuses (K.written out.old) (K.written out.new) (K.faults out.old) (K.faults out.new) refusal result }
+fn refuse<K: Sink>(alloc: Global, out: &mut K, refusal: &Refusal) -> Status8
+    ensures { Refuses (K.written out.old) (K.written out.new) (K.faults out.old) (K.faults out.new) refusal.now result }
 {
     match refusal_text(alloc, refusal) {
         Ok(line) => say(out, refusal_status(refusal), &line),

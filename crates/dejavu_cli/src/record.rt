@@ -1,5 +1,5 @@
 //! The history of a source and a suite.
-ghost use Rattle.std.specs.Prelude.{◌<◌, ◌≤◌, IfOk, IfErr, All, map, length};
+ghost use Rattle.std.specs.Prelude.{◌≡◌, ◌<◌, ◌≤◌, IfOk, IfErr, All, map, length};
 ghost use Rattle.csub_semantics.specs.Syntax.{program_tree};
 ghost use Rattle.test_suite.specs.Suites.{most_tests};
 ghost use Rattle.test_suite.specs.Tests.{IsWithin};
@@ -29,8 +29,21 @@ pub(crate) struct Runner<'a, R, G> {
     pub gate: &'a G,
 }
 
+impl<'a, R, G> Runner<'a, R, G> {
+    /// The same for other tests. (A derived copy would ask for a runtime that can be copied.)
+    pub(crate) fn again(&self) -> Runner<'a, R, G>
+        ensures { result.workers ≡ self.now.workers }
+    {
+        Runner {
+            rt: self.rt,
+            workers: self.workers,
+            gate: self.gate,
+        }
+    }
+}
+
 /// The history of a source's program and the tests. An `Err` is want of memory.
-fn make_history<R: Threads + Sync, G: Gate>(
+pub(crate) fn make_history<R: Threads + Sync, G: Gate>(
     alloc: Global,
     source: &[u8],
     program: &Program,

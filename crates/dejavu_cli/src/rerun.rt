@@ -8,9 +8,10 @@ ghost use Rattle.dejavu_cli.specs.Rerun.{IsRerun, selected_tests};
 ghost use Rattle.dejavu_cli.specs.Steps.{IsHistoryCause, HasReran};
 
 use crate::answer::Answer;
+use crate::files::read_entries;
 use crate::record::Runner;
-use crate::select::{Chosen, choose};
-use crate::versions::Versions;
+use crate::select::choose;
+use crate::versions::{Versions, build_graphs};
 use command_refusals::Refusal;
 use csub_core::Program;
 use dv_outside::Gate;
@@ -19,7 +20,7 @@ use rerun_report::{RerunText, rerun_text};
 use std::alloc::{AllocError, Global};
 use std::thread::Threads;
 use suite_run::run_all;
-use test_history::Entry;
+use test_history::{Entry, History};
 use test_select::Choice;
 use test_suite::{Test, copy_test};
 
@@ -37,14 +38,24 @@ pub(crate) fn rerun_answer<R: Threads + Sync, G: Gate>(
         (λ answer. IsRerun versions.now.source.items bytes.now (program_tree versions.now.old) (program_tree versions.now.new) answer.differs answer.text.items)
         (IsHistoryCause versions.now.source.items bytes.now (program_tree versions.now.old)) }
 {
-    let Ok(graph) = Graph::build(alloc, &versions.new) else {
+    let Ok(graphs) = build_graphs(alloc, versions) else {
         return Err(Refusal::Memory);
     };
-    let chosen = match choose(alloc, versions, bytes, &graph) {
-        Ok(chosen) => chosen,
+    let history = match read_entries(alloc, bytes, &versions.source, graphs.old.edges()) {
+        Ok(history) => history,
         Err(refusal) => return Err(refusal),
     };
-    match rerun_selected(alloc, &chosen, &versions.new, &graph, runner) {
+    let Ok(chosen) = choose(alloc, versions, &graphs, &history) else {
+        return Err(Refusal::Memory);
+    };
+    match rerun_selected(
+        alloc,
+        &history,
+        &chosen.choices,
+        &versions.new,
+        &graphs.new,
+        runner,
+    ) {
         Ok(told) => Ok(Answer {
             differs: told.differs > 0,
             text: told.bytes,
@@ -54,9 +65,10 @@ pub(crate) fn rerun_answer<R: Threads + Sync, G: Gate>(
 }
 
 /// What is told of the runs of the selected tests on a program. An `Err` is want of memory.
-fn rerun_selected<R: Threads + Sync, G: Gate>(
+pub(crate) fn rerun_selected<R: Threads + Sync, G: Gate>(
     alloc: Global,
-    chosen: &Chosen,
+    history: &History,
+    choices: &[Choice],
     program: &Program,
     graph: &Graph,
     runner: Runner<'_, R, G>,
@@ -64,11 +76,11 @@ fn rerun_selected<R: Threads + Sync, G: Gate>(
     requires graph { IsGraphOf graph.now (program_tree program.now) }
     requires some { 0 < runner.workers }
     requires few { runner.workers ≤ 64 }
-    requires choices { length chosen.now.choices.items ≡ length chosen.now.history.entries }
-    requires within { All IsEntryWithin chosen.now.history.entries }
-    ensures { IfOk result (HasReran (program_tree program.now) chosen.now.history.entries chosen.now.choices.items) }
+    requires choices { length choices.now ≡ length history.now.entries }
+    requires within { All IsEntryWithin history.now.entries }
+    ensures { IfOk result (HasReran (program_tree program.now) history.now.entries choices.now) }
 {
-    let tests = selected_tests(alloc, chosen.history.entries(), &chosen.choices)?;
+    let tests = selected_tests(alloc, history.entries(), choices)?;
     let results = run_all(
         runner.rt,
         alloc,
@@ -78,7 +90,7 @@ fn rerun_selected<R: Threads + Sync, G: Gate>(
         runner.workers,
         runner.gate,
     )?;
-    rerun_text(alloc, &chosen.history, &chosen.choices, &results)
+    rerun_text(alloc, history, choices, &results)
 }
 
 /// The selected tests, in order. An `Err` is want of memory.

@@ -1,61 +1,51 @@
 //! What has to run again.
-ghost use Rattle.std.specs.Prelude.{◌≡◌, MatchResult, map};
+ghost use Rattle.std.specs.Prelude.{◌≡◌, ℕ, List, IfOk, MatchResult, map, length};
 ghost use Rattle.csub_semantics.specs.Syntax.{ProgramTree, program_tree};
+ghost use Rattle.csub_semantics.specs.Flows.{edge_list};
 ghost use Rattle.csub_accept.specs.Accepted.{Accepted};
-ghost use Rattle.flow_graph.specs.Graph.{IsGraphOf};
 ghost use Rattle.dejavu_cli.specs.Select.{IsSelection};
-ghost use Rattle.dejavu_cli.specs.Steps.{HasChosen, IsHistoryCause};
+ghost use Rattle.dejavu_cli.specs.Steps.{AreGraphs, HasChosen, HasWalked, IsHistoryCause, IsOnlyHistory};
 
 use crate::files::read_entries;
-use crate::versions::Versions;
+use crate::versions::{Graphs, Versions, build_graphs};
 use crate::walked::walk_of;
+use call_walk::WalkResult;
 use call_walk::laws::lockstep;
 use command_refusals::Refusal;
-use flow_graph::Graph;
 use program_laws::{bounds, edges};
-use std::alloc::Global;
+use std::alloc::{AllocError, Global};
 use test_history::History;
 use test_select::{Choice, select, select_text};
 
-/// A history, and the choices for its entries.
+/// The walk of two versions, and a choice for each entry of a history of the old one.
 #[derive(Drop)]
 pub(crate) struct Chosen {
-    pub history: History,
+    pub walked: WalkResult,
     pub choices: Vec<Choice>,
 }
 
-/// The choices for the history in a file of the old version, whose new one is given with its graph.
+/// The walk of two versions, and the choices for a history of the old one. An `Err` is want of memory.
 pub(crate) fn choose(
     alloc: Global,
     versions: &Versions,
-    bytes: &[u8],
-    graph: &Graph,
-) -> Result<Chosen, Refusal>
+    graphs: &Graphs,
+    history: &History,
+) -> Result<Chosen, AllocError>
     requires alone { (P : ProgramTree) → Accepted versions.now.source.items P → P ≡ program_tree versions.now.old }
-    requires graph { IsGraphOf graph.now (program_tree versions.now.new) }
-    ensures { MatchResult result
-        (λ chosen. HasChosen versions.now.source.items bytes.now (program_tree versions.now.old) (program_tree versions.now.new) chosen.history chosen.choices.items)
-        (IsHistoryCause versions.now.source.items bytes.now (program_tree versions.now.old)) }
+    requires graphs { AreGraphs (program_tree versions.now.old) (program_tree versions.now.new) graphs.now }
+    requires edges { history.now.edges ≡ length (edge_list (program_tree versions.now.old)) }
+    ensures walked { IfOk result (HasWalked (program_tree versions.now.old) (program_tree versions.now.new) history.now.entries) }
+    ensures chosen { (bytes : List ℕ) → IsOnlyHistory versions.now.source.items bytes (program_tree versions.now.old) history.now → IfOk result (λ chosen.
+        HasChosen versions.now.source.items bytes (program_tree versions.now.old) (program_tree versions.now.new) history.now chosen.choices.items) }
 {
-    let Ok(old_graph) = Graph::build(alloc, &versions.old) else {
-        return Err(Refusal::Memory);
-    };
-    let history = match read_entries(alloc, bytes, &versions.source, old_graph.edges()) {
-        Ok(history) => history,
-        Err(refusal) => return Err(refusal),
-    };
     // Why a test that is left may be left: the laws of valid programs.
     let _valid = versions.new.functions();
     lockstep();
     bounds();
     edges();
-    let Ok(walked) = walk_of(alloc, &old_graph, graph) else {
-        return Err(Refusal::Memory);
-    };
-    match select(alloc, &history, &walked.danger) {
-        Ok(choices) => Ok(Chosen { history, choices }),
-        Err(_) => Err(Refusal::Memory),
-    }
+    let walked = walk_of(alloc, &graphs.old, &graphs.new)?;
+    let choices = select(alloc, history, &walked.danger)?;
+    Ok(Chosen { walked, choices })
 }
 
 /// The text of the selection for two versions and the bytes of a history of the old one.
@@ -69,14 +59,17 @@ pub(crate) fn selection_text(
         (λ text. IsSelection versions.now.source.items bytes.now (program_tree versions.now.old) (program_tree versions.now.new) text.items)
         (IsHistoryCause versions.now.source.items bytes.now (program_tree versions.now.old)) }
 {
-    let Ok(graph) = Graph::build(alloc, &versions.new) else {
+    let Ok(graphs) = build_graphs(alloc, versions) else {
         return Err(Refusal::Memory);
     };
-    let chosen = match choose(alloc, versions, bytes, &graph) {
-        Ok(chosen) => chosen,
+    let history = match read_entries(alloc, bytes, &versions.source, graphs.old.edges()) {
+        Ok(history) => history,
         Err(refusal) => return Err(refusal),
     };
-    match select_text(alloc, &chosen.history, &chosen.choices) {
+    let Ok(chosen) = choose(alloc, versions, &graphs, &history) else {
+        return Err(Refusal::Memory);
+    };
+    match select_text(alloc, &history, &chosen.choices) {
         Ok(text) => Ok(text),
         Err(_) => Err(Refusal::Memory),
     }

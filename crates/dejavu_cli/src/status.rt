@@ -61,14 +61,14 @@ pub(crate) fn done_as(differs: bool) -> Status8
 }
 
 /// The status of a refusal.
-pub(crate) fn refusal_status(refusal: Refusal) -> Status8
-    ensures { result ≡ status_of refusal }
+pub(crate) fn refusal_status(refusal: &Refusal) -> Status8
+    ensures { result ≡ status_of refusal.now }
 {
     match refusal {
         Refusal::Usage => Status8::Usage,
         Refusal::Source(_, _) => Status8::Source,
         Refusal::Suite(_) => Status8::Suite,
-        Refusal::History(_) => Status8::History,
+        Refusal::History(_) | Refusal::NoTest(_) => Status8::History,
         Refusal::ReadFault => Status8::ReadFault,
         Refusal::Memory => Status8::Memory,
         Refusal::TooMuch(_) => Status8::TooMuch,

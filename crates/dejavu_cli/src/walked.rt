@@ -5,7 +5,7 @@ ghost use Rattle.flow_graph.specs.Graph.{IsGraphOf};
 ghost use Rattle.call_walk.specs.Walks.{IsWalk};
 ghost use Rattle.explain_report.specs.Walks.{IsWalkText};
 
-use crate::versions::Versions;
+use crate::versions::{Versions, build_graphs};
 use call_walk::{WalkResult, walk};
 use edge_label::Steps;
 use explain_report::walk_text;
@@ -42,8 +42,7 @@ pub(crate) fn report(alloc: Global, versions: &Versions) -> Result<Vec<u8>, Allo
     requires { length versions.now.source.items ≤ 1048576 }
     ensures { IfOk result (λ text. IsWalkText versions.now.source.items (program_tree versions.now.old) (program_tree versions.now.new) text.items) }
 {
-    let old = Graph::build(alloc, &versions.old)?;
-    let new = Graph::build(alloc, &versions.new)?;
-    let walked = walk_of(alloc, &old, &new)?;
-    walk_text(alloc, &walked, &old, &versions.source)
+    let graphs = build_graphs(alloc, versions)?;
+    let walked = walk_of(alloc, &graphs.old, &graphs.new)?;
+    walk_text(alloc, &walked, &graphs.old, &versions.source)
 }

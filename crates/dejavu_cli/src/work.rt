@@ -1,14 +1,16 @@
 //! What the words ask for.
 ghost use Rattle.std.specs.Prelude.{◌≡◌, ◌<◌, ◌≤◌, MatchResult, Some, false};
 ghost use Rattle.dv_outside.specs.Outside.{NeverFalls};
-ghost use Rattle.command_words.specs.Words.{command_of, texts_of, record_files, walk_files, select_files, rerun_files};
-ghost use Rattle.command_words.specs.Shown.{command_shown, HasWorkers};
+ghost use Rattle.command_words.specs.Words.{command_of, texts_of, record_files, walk_files, select_files, rerun_files, explain_files, gen_numbers};
+ghost use Rattle.command_words.specs.Shown.{command_shown, HasNumbers};
 ghost use Rattle.dejavu_cli.specs.Answers.{HasTextOf, HasCause, HasCauseOf};
 
 use crate::answer::{Answer, without_reruns};
+use crate::explain::explanation;
 use crate::files::{
     HISTORY_AND_ONE, SOURCE_AND_ONE, SUITE_AND_ONE, fetch_file, read_source, read_tests,
 };
+use crate::generate::generated_text;
 use crate::record::{Runner, record_text};
 use crate::rerun::rerun_answer;
 use crate::select::selection_text;
@@ -48,7 +50,7 @@ fn answer_to<R: Threads + Sync, S: Shelf, G: Gate>(
     shelf: &mut S,
     gate: &G,
 ) -> Result<Answer, Refusal>
-    requires { HasWorkers command }
+    requires { HasNumbers command }
     ensures answer { MatchResult result
         (λ answer. HasTextOf (Some (command_shown command.entry)) (S.files shelf.old) answer.differs answer.text.items)
         (HasCauseOf (command_shown command.entry) (S.files shelf.old) (S.faults shelf.old) (S.faults shelf.new)) }
@@ -80,6 +82,20 @@ fn answer_to<R: Threads + Sync, S: Shelf, G: Gate>(
             shelf,
             Runner { rt, workers, gate },
         ),
+        Command::Explain {
+            old,
+            new,
+            history,
+            test,
+        } => without_reruns(explain(alloc, old, new, history, test, shelf)),
+        Command::Gen { seed, size } => {
+            let runner = Runner {
+                rt,
+                workers: 1,
+                gate,
+            };
+            without_reruns(generated_text(alloc, seed, size, runner))
+        }
     }
 }
 
@@ -177,6 +193,30 @@ fn rerun<R: Threads + Sync, S: Shelf, G: Gate>(
     };
     match fetch_file(shelf, history_name, HISTORY_AND_ONE) {
         Ok(bytes) => rerun_answer(alloc, &versions, &bytes, runner),
+        Err(refusal) => Err(refusal),
+    }
+}
+
+/// The text of `explain`.
+fn explain<S: Shelf>(
+    alloc: Global,
+    old_name: &str,
+    new_name: &str,
+    history_name: &str,
+    test: &str,
+    shelf: &mut S,
+) -> Result<Vec<u8>, Refusal>
+    ensures answer { MatchResult result
+        (λ text. HasTextOf (Some (explain_files old_name.now new_name.now history_name.now test.now)) (S.files shelf.old) false text.items)
+        (HasCauseOf (explain_files old_name.now new_name.now history_name.now test.now) (S.files shelf.old) (S.faults shelf.old) (S.faults shelf.new)) }
+    ensures counts { NeverFalls (S.faults shelf.old) (S.faults shelf.new) }
+{
+    let versions = match read_versions(alloc, old_name, new_name, shelf) {
+        Ok(versions) => versions,
+        Err(refusal) => return Err(refusal),
+    };
+    match fetch_file(shelf, history_name, HISTORY_AND_ONE) {
+        Ok(bytes) => explanation(alloc, &versions, &bytes, test),
         Err(refusal) => Err(refusal),
     }
 }

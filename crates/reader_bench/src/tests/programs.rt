@@ -1,81 +1,7 @@
 // Whole programs.
 use crate::tests::agrees;
+use sample_sources::{CHANGED_LINE, LINE_BEFORE, WORD_COUNTER};
 use std::test::Fail;
-
-// Counts the lines, words, bytes and digits of its input.
-const WORDS_BEFORE: &str = r#"#include <stdio.h>
-
-/* Counts lines, words, bytes and digits. */
-enum { OUT = 0, IN = 1, KINDS = 4 };
-
-struct counts {
-    int lines;
-    int words;
-    int bytes;
-    int digits;
-};
-
-struct counts total;
-int kinds[KINDS];
-
-int kind_of(int c)
-{
-    if (c >= '0' && c <= '9')
-        return 1;
-    switch (c) {
-    case ' ':
-    case '\t':
-        return 2;
-    case '\n':
-        return 3;
-    default:
-        return 0;
-    }
-}
-
-int sum(int list[], int n)
-{
-    int i;
-    int s = 0;
-    for (i = 0; i < n; i++)
-        s += list[i];
-    return s;
-}
-
-int main(void)
-{
-    int c;
-    int state = OUT;
-
-    while ((c = getchar()) != -1) {
-        int k = kind_of(c);
-        total.bytes++;
-        kinds[k]++;
-        switch (k) {
-        case 1:
-            total.digits++;
-"#;
-
-const WORDS_AFTER: &str = r#"            break;
-        case 3:
-            total.lines++;
-            state = OUT;
-            break;
-        case 2:
-            state = OUT;
-            break;
-        default:
-            if (state == OUT)
-                total.words++;
-            state = IN;
-        }
-    }
-    printf("%d %d %d\n", total.lines, total.words, total.bytes);
-    if (sum(kinds, KINDS) != total.bytes)
-        return 1;
-    return 0;
-}
-"#;
 
 const WORDS_ITEMS: &str =
     "10 enum struct object object function if switch function declare declare for return function declare declare while eval if return";
@@ -126,9 +52,8 @@ fn programs_of_a_line(rt: HostRuntime) -> Result<(), Fail> {
 
 #[test]
 fn the_word_counter_and_its_change(rt: HostRuntime) -> Result<(), Fail> {
-    let rows = &[
-        ("", WORDS_ITEMS),
-        ("            state = IN;\n", WORDS_ITEMS),
-    ];
-    agrees(&rt, rt.alloc(), WORDS_BEFORE, WORDS_AFTER, rows)
+    let (before, behind) = WORD_COUNTER.split_once(LINE_BEFORE).ok_or("no such line")?;
+    let changed = format!(in rt.alloc(); "{LINE_BEFORE}{CHANGED_LINE}")?;
+    let rows = &[(LINE_BEFORE, WORDS_ITEMS), (changed.as_str(), WORDS_ITEMS)];
+    agrees(&rt, rt.alloc(), before, behind, rows)
 }

@@ -5,13 +5,13 @@ use Rattle.dejavu_cli.proofs.work.select.Goals as goal
 pub returns-in-Ok-fetch_file-clause-answer : goal.returns-in-Ok-fetch_file-clause-answer
 returns-in-Ok-fetch_file-clause-answer g c =
     selected c.args.old_name.now c.args.new_name.now (g.S.Shelf.files c.args.shelf.now) (g.S.Shelf.faults c.args.shelf.now) (g.S.Shelf.faults c.fetch_file.new.shelf)
-    c.in-Ok.versions.source.items (program_tree c.in-Ok.versions.old) (program_tree c.in-Ok.versions.new) c.in-Ok.ensures.versions
+    c.in-Ok.versions.source.items c.in-Ok.versions.new_source.items (program_tree c.in-Ok.versions.old) (program_tree c.in-Ok.versions.new) c.in-Ok.ensures.versions
     c.args.history_name.now (g.S.Shelf.files c.read_versions.new.shelf) c.in-Ok.ensures.same c.in-Ok-fetch_file.bytes.items c.in-Ok-fetch_file.ensures.bytes
     c.selection_text.result c.deref.result.now c.deref.ensures.value c.selection_text.ensures
 
 pub returns-clause-answer : goal.returns-clause-answer
 returns-clause-answer g c =
     no_bytes c.args.old_name.now c.args.new_name.now (g.S.Shelf.files c.args.shelf.now) (g.S.Shelf.faults c.args.shelf.now) (g.S.Shelf.faults c.fetch_file.new.shelf)
-    c.in-Ok.versions.source.items (program_tree c.in-Ok.versions.old) (program_tree c.in-Ok.versions.new) c.in-Ok.ensures.versions
+    c.in-Ok.versions.source.items c.in-Ok.versions.new_source.items (program_tree c.in-Ok.versions.old) (program_tree c.in-Ok.versions.new) c.in-Ok.ensures.versions
     c.args.history_name.now c.in-Err-fetch_file.refusal (g.S.Shelf.faults c.read_versions.new.shelf c.args.history_name.now) (c.in-Ok.ensures.counts c.args.history_name.now)
     c.in-Err-fetch_file.ensures.cause
