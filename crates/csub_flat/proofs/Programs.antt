@@ -1,9 +1,7 @@
 -- Functions and points of a valid program by their numbers.
-use Rattle.std.proofs.Common.{◌≡◌, ◌≤◌, ◌<◌, ◌+◌, ◌⊎◌, ◌++◌, ◌∙◌, Result, Ok, Err, IfOk, ℕ, zero, suc, List, [], ◌∷◌, map, length, get_or, Some, All, inl, inr, refl, ap, sym, subst, arith}
+use Rattle.std.proofs.Common.{◌≡◌, ◌≤◌, ◌<◌, ◌+◌, ◌⊎◌, ◌∙◌, Result, Ok, Err, IfOk, ℕ, zero, suc, List, [], ◌∷◌, map, length, get_or, Some, All, inl, inr, refl, ap, sym, subst, arith}
 use Rattle.std.specs.List.{slice_get}
 use Rattle.std.specs.Option.{option_map}
-use Rattle.std.proofs.lemmas.List.{length-append, get_or_append_left}
-use Rattle.std.proofs.Math.Seq.{get_or-append_seam}
 use Rattle.std.proofs.lemmas.List.Elements.{All-map, at_read}
 use Rattle.csub_objects.specs.Types.{Name}
 use Rattle.csub_semantics.specs.Types.{global_tree}
@@ -21,8 +19,6 @@ use Rattle.program_laws.proofs.LawsFlows.{labelled_at}
 use Rattle.csub_flat.specs.Fits.{FitsLabel}
 use Rattle.csub_flat.specs.Trees.{FlatLabel}
 use Rattle.csub_flat.specs.Copies.{IsFlat, IsCopyAt, first_in}
-use Rattle.csub_flat.specs.Seen.{label_seen}
-use Rattle.csub_flat.specs.declared.flat.FlatLabel.{FlatLabel as Label}
 use Rattle.csub_flat.proofs.LawsOrder.{in_order}
 use Rattle.csub_flat.proofs.Standing.{label_fits}
 use Rattle.csub_flat.proofs.Objects.{Has, has_all}
@@ -69,18 +65,6 @@ point_fits P n f l valid d h =
 pub copied : {A E : Type 0} (seen : A → FlatLabel) (P : ProgramTree) (n : ℕ) (f : FunctionTree) (l : LabelTree) → function_of P (place_of P n).function ≡ Some f → HasLabel P n l → FitsLabel P f l → (r : Result A E) → IfOk r (λ made. IsFlat P f l (seen made)) → IfOk r (λ made. IsCopyAt P n (seen made))
 copied seen P n f l d h fit (Ok made) copy = record { function = f; label = l; defined = d; labelled = h; fits = fit; copy = copy }
 copied seen P n f l d h fit (Err e) copy = tt
-
--- one label more
-pub copies_more : (P : ProgramTree) (labels : List Label) (m : Label) → ((n : ℕ) (k : Label) → n < length labels → k ≡ get_or labels n k → IsCopyAt P n (label_seen k)) → IsCopyAt P (length labels) (label_seen m)
-    → (n : ℕ) (k : Label) → n < length (labels ++ m ∷ []) → k ≡ get_or (labels ++ m ∷ []) n k → IsCopyAt P n (label_seen k)
-copies_more P labels m each last n k h e = pick (in_order n (length labels))
-  where
-    pick : (n ≡ length labels) ⊎ (n < length labels) ⊎ (length labels < n) → IsCopyAt P n (label_seen k)
-    pick (inl same) =
-        let is : k ≡ m = e ∙ ap (λ i. get_or (labels ++ m ∷ []) i k) same ∙ get_or-append_seam labels m [] k in
-        subst (λ i. IsCopyAt P i (label_seen k)) (sym same) (subst (λ x. IsCopyAt P (length labels) (label_seen x)) (sym is) last)
-    pick (inr (inl less)) = each n k less (e ∙ get_or_append_left labels (m ∷ []) k n less)
-    pick (inr (inr more)) = let l = length-append labels (m ∷ []) in absurd (omega arith)
 
 -- one function more
 pub most_more : (functions : List Function) (i old new : ℕ) (f : Function) → i < length functions → f ≡ get_or functions i f → ((k : ℕ) (d : Function) → k < i → frame_size (function_tree (get_or functions k d)) ≤ old) → old ≤ new → frame_size (function_tree f) ≤ new

@@ -1,35 +1,20 @@
 -- A whole run.
-use Rattle.std.proofs.Common.{◌≡◌, ◌≤◌, ◌∙◌, ℕ, ◌-◌, Some, refl, sym, ap, subst}
+use Rattle.std.proofs.Common.{◌≡◌, ◌≤◌, ◌∙◌, ℕ, ◌-◌, Some, refl, sym, ap}
 use Rattle.std.proofs.Math.Nat.{add-sub_of_le}
 use Rattle.std.proofs.lemmas.Option.{same_Some}
 use Rattle.csub_semantics.specs.declared.status.Status.{Status}
-use Rattle.csub_semantics.specs.declared.status.Status.TheVariants.{Turns}
 use Rattle.csub_semantics.specs.Flows.{flow_of}
 use Rattle.csub_semantics.specs.Runs.{Moment, running, ended, nowhere, after, Results, results_at, run_of}
 use Rattle.csub_semantics.specs.Syntax.{program_tree}
-use Rattle.csub_machine.specs.Moments.{Seen, moment_of, IsRunningAt, IsRunning, status_at, status_of, output_of, turns_of, crossed_of, results_of}
+use Rattle.csub_machine.specs.Moments.{Seen, moment_of, status_at, status_of, output_of, turns_of, crossed_of, results_of}
 use Rattle.csub_machine.proofs.MomentLemmas.{after_ended}
 
 abbrev pub asked : Seen → ℕ → Seen
 asked m n = record { program = m.program; input = m.input; done = n }
 
-pub fresh_is : (m : Seen) → m.done ≡ 0 → m ≡ asked m 0
-fresh_is m e = ap (asked m) e
-
-pub fresh_runs : (m : Seen) → m.done ≡ 0 → IsRunning m
-fresh_runs m e = subst (λ n. IsRunning (asked m n)) (sym e) tt
-
 -- the results that a moment shows with a status
 abbrev shown : ℕ → Status → Moment → Results
 shown k status x = record { status = status; output = output_of x; turns = turns_of k x; crossed = crossed_of x }
-
-running_results : (k : ℕ) (x : Moment) → IsRunningAt x → results_at k x ≡ Some (shown k Turns x)
-running_results k (running es at) h = refl
-running_results k (ended es n t s) h = absurd h
-running_results k nowhere h = absurd h
-
-pub results_running : (m : Seen) → IsRunning m → run_of (flow_of (program_tree m.program)) m.input m.done ≡ Some (results_of Turns m)
-results_running m h = running_results m.done (moment_of m) h
 
 ended_results : (m : Seen) (b : ℕ) (status : Status) (x : Moment) → moment_of m ≡ x → status_at x ≡ Some status → m.done ≤ b
     → results_at b (moment_of (asked m b)) ≡ Some (shown b status (moment_of (asked m b)))

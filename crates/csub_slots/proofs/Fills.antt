@@ -1,6 +1,5 @@
 -- Slots and values that grow.
 use Rattle.std.proofs.Common.{◌≡◌, ◌∙◌, ℕ, zero, suc, ◌+◌, ◌-◌, ◌<◌, ◌≤◌, List, [], ◌∷◌, ◌++◌, map, length, take, drop, replicate, get_or, slice_set, Result, is_ok, true, if◌then◌else◌, refl, ap, sym, arith, append_assoc, add-one, drop-cons}
-use Rattle.csub_types.specs.declared.trap.Trap.{Trap}
 use Rattle.csub_semantics.specs.Memory.{Answer, value, trapped, then_do}
 use Rattle.csub_slots.specs.Layout as layout
 use Rattle.csub_slots.specs.Acts.{FlatStore, flat_given_slot, flat_arguments, flat_entered}
@@ -72,17 +71,6 @@ args_more base args i a made new v s t whole h is e n before =
         let both : new ++ vs ≡ made ++ v ∷ vs = ap (λ (ws : List layout.Slot). ws ++ vs) n ∙ append_assoc made (v ∷ []) vs in
         ap (λ (ws : List layout.Slot). let x : Answer (List layout.Slot) FlatStore = value ws u in x) both
     later (trapped r u) = refl
-
--- where an argument is a trap, so are all
-pub args_stop : (base : ℕ) (args : List CodeArg) (i : ℕ) (a : CodeArg) (made : List layout.Slot) (r : Trap) (s t : FlatStore) (whole : Answer (List layout.Slot) FlatStore)
-    → i < length args → a ≡ get_or args i a → flat_given_slot base (given_seen a.given) s ≡ trapped r t
-    → then_do (flat_arguments base (map arg_seen (drop i args)) s) (λ vs u. value (made ++ vs) u) ≡ whole → whole ≡ trapped r t
-args_stop base args i a made r s t whole h is e before =
-    let rest = drop (i + 1) args in
-    let split : drop i args ≡ a ∷ rest = drop-cons args i a h ∙ ap (λ (x : CodeArg). x ∷ drop (suc i) args) (sym is) ∙ ap (λ (k : ℕ). a ∷ drop k args) (sym (add-one i)) in
-    sym before
-    ∙ ap (λ (x : List CodeArg). then_do (flat_arguments base (map arg_seen x) s) (λ vs u. value (made ++ vs) u)) split
-    ∙ ap (λ (x : Answer layout.Slot FlatStore). then_do (then_do x (λ y z. then_do (flat_arguments base (map arg_seen rest) z) (λ vs u. value (y ∷ vs) u))) (λ vs u. value (made ++ vs) u)) e
 
 -- slots that are set
 pub map_set : (xs : List Slot) (i : ℕ) (x : Slot) → map slot_seen (slice_set xs i x) ≡ slice_set (map slot_seen xs) i (slot_seen x)

@@ -1,5 +1,5 @@
 -- Bytes that are written one after another, formats piece by piece, and values of expressions in turn.
-use Rattle.std.proofs.Common.{◌≡◌, ◌∙◌, ℕ, suc, ◌+◌, ◌-◌, ◌<◌, ◌≤◌, ℤ, pos, List, [], ◌∷◌, ◌++◌, map, length, take, drop, get_or, All, Bool, true, false, nat_lt, if◌then◌else◌, refl, ap, sym, arith, append_assoc}
+use Rattle.std.proofs.Common.{◌≡◌, ◌∙◌, ℕ, suc, ◌+◌, ◌-◌, ◌<◌, ◌≤◌, ℤ, pos, List, [], ◌∷◌, ◌++◌, length, take, drop, get_or, All, Bool, true, false, nat_lt, if◌then◌else◌, refl, ap, sym, arith}
 use Rattle.std.proofs.lemmas.List.{drop_more, drop_all, take_all, length-append}
 use Rattle.std.proofs.lemmas.List.Elements.{All-nil, All-cons}
 use Rattle.std.proofs.lemmas.Bool.{ltb-true}
@@ -10,11 +10,7 @@ use Rattle.csub_semantics.specs.declared.expression.Piece.TheVariants.{Byte, Sig
 use Rattle.csub_semantics.specs.Trees.{exprs_of, expr_count}
 use Rattle.csub_semantics.specs.Formats.{shown, text_of, is_conversion}
 use Rattle.csub_semantics.specs.Memory.{Answer, value, trapped, then_do, put_byte, put_bytes, most_output}
-use Rattle.csub_semantics.specs.Evaluation.{eval, eval_all}
 use Rattle.csub_flat.specs.Trees.{FlatExpr}
-use Rattle.csub_flat.specs.Seen.{expr_seen}
-use Rattle.csub_flat.specs.declared.flat.FlatExpr.{FlatExpr as CodeExpr}
-use Rattle.csub_slots.specs.Memory.{flat}
 use Rattle.csub_slots.specs.Acts.{FlatStore}
 use Rattle.csub_slots.specs.States.{FewValues, FewInRow}
 
@@ -49,13 +45,6 @@ module _ (bytes : List ℕ) (i : ℕ) (s : FlatStore) (whole : Written) (before 
 
   pub bytes_end : length bytes ≤ i → whole ≡ value tt s
   bytes_end end = sym before ∙ ap (λ bs. put_bytes bs s) (drop_all i bytes end)
-
--- a piece that takes no value
-pub byte_text : (p : Piece) (rest : List Piece) (vs : List ℤ) → is_conversion p ≡ false → text_of (p ∷ rest) vs ≡ shown p (pos 0) ++ text_of rest vs
-byte_text (Byte b) rest vs e = refl
-byte_text Signed rest vs e = cc
-byte_text Plain rest vs e = cc
-byte_text Letter rest vs e = cc
 
 -- a piece that takes the first value
 first_text : (p : Piece) (rest : List Piece) (v : ℤ) (vs : List ℤ) → is_conversion p ≡ true → text_of (p ∷ rest) (v ∷ vs) ≡ shown p v ++ text_of rest vs
@@ -132,34 +121,6 @@ bytes_written (b ∷ bs) s t e = pick (put_byte b s) refl e (λ x. bytes_written
         let rest = later x h in
         (omega arith, omega arith)
     pick (trapped r x) g h later = cc
-
--- one value more
-pub values_more : (base : ℕ) (exprs : List CodeExpr) (i : ℕ) (e : CodeExpr) (made new : List ℤ) (v : ℤ) (s t : FlatStore) (whole : Answer (List ℤ) FlatStore)
-    → i < length exprs → e ≡ get_or exprs i e → eval (flat base) (expr_seen e) s ≡ value v t → new ≡ made ++ v ∷ []
-    → then_do (eval_all (flat base) (exprs_of (map expr_seen (drop i exprs))) s) (λ vs u. value (made ++ vs) u) ≡ whole
-    → then_do (eval_all (flat base) (exprs_of (map expr_seen (drop (i + 1) exprs))) t) (λ vs u. value (new ++ vs) u) ≡ whole
-values_more base exprs i e made new v s t whole inside is one n before =
-    let rest = exprs_of (map expr_seen (drop (i + 1) exprs)) in
-    later (eval_all (flat base) rest t)
-    ∙ sym (ap (λ (x : Answer ℤ FlatStore). then_do (then_do x (λ y z. then_do (eval_all (flat base) rest z) (λ vs u. value (y ∷ vs) u))) (λ vs u. value (made ++ vs) u)) one)
-    ∙ sym (ap (λ (x : List CodeExpr). then_do (eval_all (flat base) (exprs_of (map expr_seen x)) s) (λ vs u. value (made ++ vs) u)) (split exprs i e e inside is))
-    ∙ before
-  where
-    later : (x : Answer (List ℤ) FlatStore) → then_do x (λ vs u. value (new ++ vs) u) ≡ then_do (then_do x (λ vs u. value (v ∷ vs) u)) (λ vs u. value (made ++ vs) u)
-    later (value vs u) =
-        let both : new ++ vs ≡ made ++ v ∷ vs = ap (λ (ws : List ℤ). ws ++ vs) n ∙ append_assoc made (v ∷ []) vs in
-        ap (λ (ws : List ℤ). let x : Answer (List ℤ) FlatStore = value ws u in x) both
-    later (trapped r u) = refl
-
--- where a value is a trap, so is the row
-pub values_stop : (base : ℕ) (exprs : List CodeExpr) (i : ℕ) (e : CodeExpr) (made : List ℤ) (r : Trap) (s t : FlatStore) (whole : Answer (List ℤ) FlatStore)
-    → i < length exprs → e ≡ get_or exprs i e → eval (flat base) (expr_seen e) s ≡ trapped r t
-    → then_do (eval_all (flat base) (exprs_of (map expr_seen (drop i exprs))) s) (λ vs u. value (made ++ vs) u) ≡ whole → whole ≡ trapped r t
-values_stop base exprs i e made r s t whole inside is one before =
-    let rest = exprs_of (map expr_seen (drop (i + 1) exprs)) in
-    sym before
-    ∙ ap (λ (x : List CodeExpr). then_do (eval_all (flat base) (exprs_of (map expr_seen x)) s) (λ vs u. value (made ++ vs) u)) (split exprs i e e inside is)
-    ∙ ap (λ (x : Answer ℤ FlatStore). then_do (then_do x (λ y z. then_do (eval_all (flat base) rest z) (λ vs u. value (y ∷ vs) u))) (λ vs u. value (made ++ vs) u)) one
 
 -- the row of a `printf` that has few values
 pub row_length : (es : List FlatExpr) → expr_count (exprs_of es) ≡ length es

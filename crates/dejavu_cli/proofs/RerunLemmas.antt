@@ -1,5 +1,5 @@
 -- Which tests ran again, and that none differs exactly where all tests of a recorded suite behave the same.
-use Rattle.std.proofs.Common.{◌≡◌, ◌+◌, ℕ, List, [], ◌∷◌, length, Bool, true, false, nat_lt, Option, Some, Result, Ok, Err, IfOk, All, refl, sym, ap, ap₂, ◌∙◌, subst, arith, cond}
+use Rattle.std.proofs.Common.{◌≡◌, ◌+◌, ℕ, List, [], ◌∷◌, length, Bool, false, nat_lt, Option, Some, Result, Ok, Err, IfOk, All, refl, sym, ap, ap₂, ◌∙◌, subst, arith, cond}
 use Rattle.std.specs.Prelude.{count_by}
 use Rattle.std.specs.List.{AllZip}
 use Rattle.std.specs.declared.alloc.AllocError.{AllocError}
@@ -24,17 +24,6 @@ use Rattle.dejavu_cli.specs.Rerun.{IsRerun, IsFaithful, selected_tests}
 use Rattle.dejavu_cli.specs.Steps.{HasChosen, HasReran}
 
 -- ---- the selected tests
-
--- one by one, from the front
-pub selected_none : (entries : List EntryParts) (choices : List Choice) → length choices ≡ length entries → (entry : EntryParts) (choice : Choice) → is_selected choice ≡ false
-    → selected_tests (entry ∷ entries) (choice ∷ choices) ≡ selected_tests entries choices
-selected_none entries choices many entry (Selected e) is = cc
-selected_none entries choices many entry Left is = refl
-
-pub selected_one : (entries : List EntryParts) (choices : List Choice) (entry : EntryParts) (choice : Choice) → is_selected choice ≡ true
-    → selected_tests (entry ∷ entries) (choice ∷ choices) ≡ entry.test ∷ selected_tests entries choices
-selected_one entries choices entry (Selected e) is = refl
-selected_one entries choices entry Left is = cc
 
 -- they are within the limits of a suite's tests
 pub selected_within : (entries : List EntryParts) (choices : List Choice) → All IsEntryWithin entries → All IsWithin (selected_tests entries choices)

@@ -20,9 +20,6 @@ whole_file most whole bytes is short =
     let count : length bytes ≡ length (take most whole) = ap length is in
     grind (arith, common_steps, is, count, short, length-take most whole)
 
-pub short_file : (most : ℕ) (whole bytes : List ℕ) → bytes ≡ take most whole → length whole < most → bytes ≡ whole
-short_file most whole bytes is short = grind (arith, common_steps, is, short)
-
 -- what was fetched whole is the file
 pub found_file : (told : Option Files) (name : List ℕ) (most : ℕ) (bytes : List ℕ) → IsFetched told name most bytes → length bytes < most → (files : Files) → told ≡ Some files → file_at files name ≡ Some bytes
 found_file told name most bytes fetched short files at =

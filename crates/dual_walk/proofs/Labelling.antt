@@ -1,10 +1,9 @@
 -- Numbers of labels, as a row of them grows and when two are compared.
-use Rattle.std.proofs.Common.{◌≡◌, ◌<◌, ◌↔◌, ℕ, ◌++◌, ◌∷◌, [], List, Bor, length, get_or, map, Option, Some, None, option_map, refl, sym, ap, ◌∙◌, ◌⊎◌, inl, inr, arith}
+use Rattle.std.proofs.Common.{◌≡◌, ◌<◌, ◌↔◌, ℕ, ◌++◌, ◌∷◌, [], List, length, get_or, map, Option, Some, None, option_map, refl, sym, ap, subst, ◌∙◌, ◌⊎◌, inl, inr, arith}
 use Rattle.std.specs.Prelude.{slice_get}
 use Rattle.std.proofs.lemmas.List.{length-map}
 use Rattle.std.proofs.lemmas.Option.{slice_get-get_or, slice_get-map, same_Some}
 use Rattle.csub_objects.specs.Types.{Name}
-use Rattle.csub_semantics.specs.declared.label.Label.{Label}
 use Rattle.csub_semantics.specs.Types.{GlobalTree}
 use Rattle.csub_semantics.specs.Labels.{PointLabel, label_tree}
 use Rattle.csub_semantics.specs.Points.{PointTree}
@@ -13,44 +12,44 @@ use Rattle.csub_semantics.specs.Flows.{flow_of}
 use Rattle.csub_semantics.specs.Numbers.{Site, site, site_at}
 use Rattle.csub_semantics.specs.Books.{SameLabel}
 use Rattle.edge_label.specs.Numbers.{HasNumber, HaveNumbers, whole}
+use Rattle.edge_label.specs.declared.standing.Standing.{Standing}
 use Rattle.edge_label.proofs.LawsNumbers.{HaveNumbers-length, HaveNumbers-at}
 use Rattle.flow_graph.specs.Graph.{Tables, IsGraphOf, point_count}
-use Rattle.dual_walk.specs.LabelRows.{IsNumbered, AreNumbered, AreLabelsOf}
+use Rattle.dual_walk.specs.LabelRows.{StandsAt, IsNumbered, AreNumbered, AreLabelsOf}
 use Rattle.dual_walk.specs.Held.{AreAt}
 use Rattle.dual_walk.proofs.LawsLists.{get_push}
 
 -- one label more behind those of the points so far
-pub labels_push : (g : Tables) (labels : List (Bor Label)) (last : Bor Label)
-    → ((P : ProgramTree) (s : Site) → IsGraphOf g P → site_at P (length labels) ≡ Some s → (flow_of P).label s.function s.point ≡ Some (whole P.globals (label_tree last.now)))
-    → ((n : ℕ) (label : Bor Label) (P : ProgramTree) (s : Site) → slice_get labels n ≡ Some label → IsGraphOf g P → site_at P n ≡ Some s → (flow_of P).label s.function s.point ≡ Some (whole P.globals (label_tree label.now)))
-    → (n : ℕ) (label : Bor Label) (P : ProgramTree) (s : Site) → slice_get (labels ++ last ∷ []) n ≡ Some label → IsGraphOf g P → site_at P n ≡ Some s
-    → (flow_of P).label s.function s.point ≡ Some (whole P.globals (label_tree label.now))
-labels_push g labels last this before n label P s at ok there = pick (get_push labels last n label at)
+pub labels_push : (g : Tables) (labels : List Standing) (last : Standing)
+    → ((P : ProgramTree) (place : Site) → IsGraphOf g P → site_at P (length labels) ≡ Some place → StandsAt P place last)
+    → ((n : ℕ) (standing : Standing) (P : ProgramTree) (place : Site) → slice_get labels n ≡ Some standing → IsGraphOf g P → site_at P n ≡ Some place → StandsAt P place standing)
+    → (n : ℕ) (standing : Standing) (P : ProgramTree) (place : Site) → slice_get (labels ++ last ∷ []) n ≡ Some standing → IsGraphOf g P → site_at P n ≡ Some place → StandsAt P place standing
+labels_push g labels last this before n standing P place at ok there = pick (get_push labels last n standing at)
   where
-    pick : (slice_get labels n ≡ Some label) ⊎ ((n ≡ length labels) × (label ≡ last)) → (flow_of P).label s.function s.point ≡ Some (whole P.globals (label_tree label.now))
-    pick (inl h) = before n label P s h ok there
-    pick (inr h) = this P s ok (ap (site_at P) (sym h.0) ∙ there) ∙ ap (λ (l : Bor Label). Some (whole P.globals (label_tree l.now))) (sym h.1)
+    pick : (slice_get labels n ≡ Some standing) ⊎ ((n ≡ length labels) × (standing ≡ last)) → StandsAt P place standing
+    pick (inl h) = before n standing P place h ok there
+    pick (inr h) = subst (StandsAt P place) (sym h.1) (this P place ok (ap (site_at P) (sym h.0) ∙ there))
 
 -- the numbers of a book for the labels of a graph's points are those of the points
-pub row_numbered : (book : List PointLabel) (row : List ℕ) (g : Tables) (labels : List (Bor Label)) (globals : List GlobalTree) → AreLabelsOf g labels
-    → ((P : ProgramTree) → IsGraphOf g P → globals ≡ P.globals) → HaveNumbers book row (map (λ (label : Bor Label). whole globals (label_tree label.now)) labels) → AreNumbered book row g
+pub row_numbered : (book : List PointLabel) (row : List ℕ) (g : Tables) (labels : List Standing) (globals : List GlobalTree) → AreLabelsOf g labels
+    → ((P : ProgramTree) → IsGraphOf g P → globals ≡ P.globals) → HaveNumbers book row (map (λ (standing : Standing). whole globals (label_tree standing.label.now)) labels) → AreNumbered book row g
 row_numbered book row g labels globals are its have = record {
   points = HaveNumbers-length book row (map whole_of labels) have ∙ length-map labels whole_of ∙ are.points;
   each = λ n number at. numbered n number (HaveNumbers-at book row (map whole_of labels) have n number at);
 }
   where
-    whole_of : Bor Label → PointLabel
-    whole_of label = whole globals (label_tree label.now)
+    whole_of : Standing → PointLabel
+    whole_of standing = whole globals (label_tree standing.label.now)
 
     numbered : (n number : ℕ) → (label : PointLabel) × (slice_get (map whole_of labels) n ≡ Some label) × HasNumber book number label → IsNumbered book g n number
     numbered n number found = pick (slice_get labels n) refl (sym (slice_get-map whole_of labels n) ∙ found.1)
       where
-        pick : (o : Option (Bor Label)) → slice_get labels n ≡ o → option_map whole_of o ≡ Some found.0 → IsNumbered book g n number
+        pick : (o : Option Standing) → slice_get labels n ≡ o → option_map whole_of o ≡ Some found.0 → IsNumbered book g n number
         pick None at is = absurd cc
-        pick (Some label) at is = record {
+        pick (Some standing) at is = record {
           label = found.0;
           has = found.2;
-          labelled = λ P s ok there. are.each n label P s at ok there ∙ ap (λ gs. Some (whole gs (label_tree label.now))) (sym (its P ok)) ∙ is;
+          labelled = λ P place ok there. (are.each n standing P place at ok there).label ∙ ap (λ gs. Some (whole gs (label_tree standing.label.now))) (sym (its P ok)) ∙ is;
         }
 
 -- the number that a row has for a point

@@ -2,7 +2,7 @@
 use Rattle.std.proofs.Common.{◌≡◌, ℕ, zero, suc, ◌+◌, ◌<◌, ◌≤◌, List, [], ◌∷◌, length, Bool, true, false, cond, Option, Some, None, find, option_map, refl, sym, ap, ◌∙◌, subst, subst₂}
 use Rattle.std.specs.Prelude.{◌↔◌, slice_get}
 use Rattle.std.specs.List.{flat_map}
-use Rattle.std.proofs.lemmas.Option.{slice_get-map, slice_get_within, same_Some}
+use Rattle.std.proofs.lemmas.Option.{slice_get-map, same_Some}
 use Rattle.csub_objects.specs.Types.{Name}
 use Rattle.csub_semantics.specs.Types.{name_eq}
 use Rattle.csub_semantics.specs.Labels.{CallTree, call_of, PointLabel}
@@ -29,11 +29,6 @@ site_within g P n ok within =
     let x = get_some (point_list P) n (subst (λ k. n < k) (points_counted g P ok) within) in
     (site_of x.0, ap (option_map site_of) x.1)
 
-pub site_below : (g : Tables) (P : ProgramTree) (n : ℕ) (s : Site) → IsGraphOf g P → site_at P n ≡ Some s → n < point_count g
-site_below g P n s ok e =
-    let m = made_of site_of (slice_get (point_list P) n) s e in
-    subst (λ k. n < k) (sym (points_counted g P ok)) (slice_get_within (point_list P) n m.value m.is)
-
 -- the first point is the entry of `#start`
 start_site : (fs : List FunctionTree) → BeginsWithStart fs → option_map site_of (slice_get (points_of fs) 0) ≡ Some (site start_name entry)
 start_site [] h = absurd h
@@ -50,7 +45,8 @@ flat_at f (z ∷ xs) (suc n) i x y e h =
     let r = flat_at f xs n i x y e h in
     (length (f z) + r.0, slice_get-right (f z) (flat_map f xs) (length (f z)) r.0 (length (f z) + r.0) refl refl ∙ r.1)
 
-found_at : {A : Type 0} (test : A → Bool) (xs : List A) (x : A) → find test xs ≡ Some x → (i : ℕ) × (slice_get xs i ≡ Some x) × (test x ≡ true)
+-- what is found stands in the list, and passes the test
+pub found_at : {A : Type 0} (test : A → Bool) (xs : List A) (x : A) → find test xs ≡ Some x → (i : ℕ) × (slice_get xs i ≡ Some x) × (test x ≡ true)
 found_at test [] x e = absurd cc
 found_at {A} test (y ∷ ys) x e = pick (test y) refl e (found_at test ys x)
   where

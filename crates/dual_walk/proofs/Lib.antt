@@ -6,6 +6,7 @@ pub mod LawsRest
 mod SetBits
 mod PairLemmas
 mod RowLemmas
+mod Declaring
 mod Labelling
 mod Asked
 mod Explaining

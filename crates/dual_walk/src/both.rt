@@ -1,17 +1,17 @@
 //! Both graphs of a walk, with the labels of their points by numbers.
-ghost use Rattle.std.specs.Prelude.{◌≡◌, ◌+◌, ◌<◌, ◌^◌, ◌↔◌, IfOk, OnOk, IsTrue};
+ghost use Rattle.std.specs.Prelude.{◌≡◌, ◌+◌, ◌<◌, ◌^◌, ◌↔◌, IfOk, OnOk, IsTrue, map};
 ghost use Rattle.csub_objects.specs.Types.{Name};
 ghost use Rattle.csub_semantics.specs.Points.{PointTree};
 ghost use Rattle.csub_semantics.specs.Syntax.{ProgramTree};
 ghost use Rattle.csub_semantics.specs.Flows.{flow_of};
 ghost use Rattle.csub_semantics.specs.Books.{SameLabel};
 ghost use Rattle.edge_label.specs.Numbers.{KeepsNumbers};
+ghost use Rattle.edge_label.specs.Uses.{AreDeclared, standing_tree};
 ghost use Rattle.flow_graph.specs.Graph.{IsGraphOf, point_count};
 ghost use Rattle.dual_walk.specs.Held.{AreAt};
 ghost use Rattle.dual_walk.specs.LabelRows.{AreNumbered, AreLabelled, AreLabelsOf};
 
-use csub_semantics::Label;
-use edge_label::{LabelBook, Steps};
+use edge_label::{LabelBook, Standing, Steps};
 use flow_graph::Graph;
 use std::alloc::{AllocError, Global};
 use std::sync::ledger::Ledger;
@@ -46,13 +46,18 @@ pub fn number_labels(
     book.intern_all(&labels, graph.globals())
 }
 
-/// The trees of the labels of a graph's points. An `Err` is want of memory.
-fn list_labels(alloc: Global, graph: &Graph) -> Result<Vec<&Label>, AllocError>
-    ensures { IfOk result (λ labels. AreLabelsOf graph.now labels.items) }
+/// The labels of a graph's points, each with the number of its function: in a program a name stands with the type of its
+/// declaration. An `Err` is want of memory.
+fn list_labels(alloc: Global, graph: &Graph) -> Result<Vec<Standing<'_>>, AllocError>
+    ensures labels { IfOk result (λ labels. AreLabelsOf graph.now labels.items) }
+    ensures declared { IfOk result (λ labels. AreDeclared (map standing_tree labels.items)) }
 {
     let mut labels = Vec::new(alloc);
     for point in 0..graph.points() {
-        labels.push(graph.label_at(point))?;
+        labels.push(Standing {
+            function: graph.function_at(point),
+            label: graph.label_at(point),
+        })?;
     }
     Ok(labels)
 }

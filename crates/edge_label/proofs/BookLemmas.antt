@@ -4,15 +4,14 @@ use Rattle.std.specs.Prelude.{Result, Ok, Err, IfOk, OnErr}
 use Rattle.std.specs.declared.alloc.Global.{Global}
 use Rattle.std.proofs.lemmas.List.{map-append}
 use Rattle.std.proofs.lemmas.Option.{same_Some}
-use Rattle.csub_semantics.specs.Types.{GlobalTree}
 use Rattle.csub_semantics.specs.Labels.{PointLabel}
 use Rattle.edge_label.specs.Numbers.{HasNumber, HaveNumbers, KeepsNumbers, AddsOnly, HasEachOnce}
-use Rattle.edge_label.specs.Tables.{Extends, IsCode, label_in, IsBook, IsInterned, Grows}
+use Rattle.edge_label.specs.Tables.{Table, Extends, IsCode, label_in, IsBook, IsInterned, Grows}
 use Rattle.edge_label.proofs.CodeLemmas.{Keys, codes, Inserted, Distinct, StandsAt, inserted, one_number}
 use Rattle.edge_label.proofs.TableLemmas.{head_tail, label_read, one_code, still_labels, still_written}
 
 -- the labels of a set of codes
-abbrev pub labels : List GlobalTree → Keys → List PointLabel
+abbrev pub labels : Table → Keys → List PointLabel
 labels table keys = map (label_in table) (codes keys)
 
 HasNumber-push : (book : List PointLabel) (last label : PointLabel) (n : ℕ) → HasNumber book n label → HasNumber (book ++ last ∷ []) n label
@@ -29,7 +28,7 @@ grows old new label (inl e) = omega (arith, ap length e)
 grows old new label (inr e) = omega (arith, ap length e, length-append old (label ∷ []))
 
 -- numbers are equal exactly where the labels are
-pub same_numbers : (table : List GlobalTree) (keys : Keys) → Distinct keys → IsBook table (codes keys) → (i j : ℕ) (x y : PointLabel)
+pub same_numbers : (table : Table) (keys : Keys) → Distinct keys → IsBook table (codes keys) → (i j : ℕ) (x y : PointLabel)
     → HasNumber (labels table keys) i x → HasNumber (labels table keys) j y → (i ≡ j → x ≡ y) × (x ≡ y → i ≡ j)
 same_numbers table keys distinct book i j x y at_i at_j = (
   λ e. same_Some _ _ (sym at_i ∙ ap (slice_get (labels table keys)) e ∙ at_j),
@@ -37,11 +36,11 @@ same_numbers table keys distinct book i j x y at_i at_j = (
 )
 
 -- a book over a table that has grown
-pub grown_book : (table new : List GlobalTree) (lists : List (List ℕ)) → Extends table new → (HasEachOnce table → HasEachOnce new) → IsBook table lists → IsBook new lists
+pub grown_book : (table new : Table) (lists : List (List ℕ)) → Extends table new → (HasEachOnce table → HasEachOnce new) → IsBook table lists → IsBook new lists
 grown_book table new lists grown once book = record { once = once book.once; written = still_written table new grown lists book.written }
 
 -- what an insertion of a label's code leaves
-pub interned : (there : Bool) (table : List GlobalTree) (keys new_keys : Keys) (n : ℕ) (value : Vec ℕ Global) (label : PointLabel) → IsBook table (codes keys)
+pub interned : (there : Bool) (table : Table) (keys new_keys : Keys) (n : ℕ) (value : Vec ℕ Global) (label : PointLabel) → IsBook table (codes keys)
     → Inserted there keys new_keys value → Distinct new_keys → StandsAt new_keys n value → IsCode table label value.items → IsInterned table (codes keys) (codes new_keys) n label
 interned there table keys new_keys n value label book e distinct stands is =
     let alone = one_code table book.once in
@@ -69,13 +68,13 @@ one_more old new numbers given n label keeps_old have has =
     map-append (slice_get new) numbers (n ∷ []) ∙ ap₂ (λ x y. x ++ y) (numbers_stay old new numbers given keeps_old have) (ap (λ o. o ∷ []) has) ∙ sym (map-append Some given (label ∷ []))
 
 -- the same for the labels of codes
-pub more_codes : (table : List GlobalTree) (first second third : List (List ℕ)) (n : ℕ) (label : PointLabel) → Grows table first second → IsInterned table second third n label → Grows table first third
+pub more_codes : (table : Table) (first second third : List (List ℕ)) (n : ℕ) (label : PointLabel) → Grows table first second → IsInterned table second third n label → Grows table first third
 more_codes table first second third n label before after = record {
   book = after.book;
   keeps = λ m l has. keeps _ _ label after.adds_only m l (before.keeps m l has);
 }
 
-pub one_more_code : (table : List GlobalTree) (codes new : List (List ℕ)) (numbers : List ℕ) (given : List PointLabel) (n : ℕ) (label : PointLabel) → IsInterned table codes new n label
+pub one_more_code : (table : Table) (codes new : List (List ℕ)) (numbers : List ℕ) (given : List PointLabel) (n : ℕ) (label : PointLabel) → IsInterned table codes new n label
     → HaveNumbers (map (label_in table) codes) numbers given → HaveNumbers (map (label_in table) new) (numbers ++ n ∷ []) (given ++ label ∷ [])
 one_more_code table codes new numbers given n label after have = one_more _ _ numbers given n label (keeps _ _ label after.adds_only) have after.number
 
@@ -85,7 +84,7 @@ at_either (Ok x) P ok err good bad = good x ok
 at_either (Err e) P ok err good bad = bad err
 
 -- a book over a table that has grown, and after insertions of codes
-module _ (table new : List GlobalTree) (keys : Keys) (grown : Extends table new) (once : HasEachOnce table → HasEachOnce new) (book : IsBook table (codes keys)) where
+module _ (table new : Table) (keys : Keys) (grown : Extends table new) (once : HasEachOnce table → HasEachOnce new) (book : IsBook table (codes keys)) where
   pub still_book : IsBook new (codes keys)
   still_book = grown_book table new (codes keys) grown once book
 

@@ -1,25 +1,15 @@
 -- Numbers of a book.
 use Rattle.std.proofs.Common.{◌≡◌, ◌⊎◌, ◌↔◌, inl, inr, ◌<◌, ℕ, zero, suc, List, [], ◌∷◌, ◌++◌, length, refl, sym, ap, subst, ◌∙◌, slice_get, Some, arith}
 use Rattle.std.proofs.lemmas.List.{length-map}
-use Rattle.std.proofs.lemmas.Option.{slice_get_within, same_Some}
+use Rattle.std.proofs.lemmas.Option.{same_Some}
 use Rattle.csub_semantics.specs.Labels.{PointLabel}
-use Rattle.edge_label.specs.Numbers.{HasNumber, HaveNumbers, KeepsNumbers, AddsOnly, HasEachOnce}
-
--- a label's number was given
-pub HasNumber-given : (book : List PointLabel) (n : ℕ) (label : PointLabel) → HasNumber book n label → n < length book
-HasNumber-given book n label has = slice_get_within book n label has
+use Rattle.edge_label.specs.Numbers.{HasNumber, HaveNumbers, AddsOnly, HasEachOnce}
 
 -- each number that was given has a label
 pub label_at : (book : List PointLabel) (n : ℕ) → n < length book → (label : PointLabel) × HasNumber book n label
 label_at [] n given = absurd (omega arith)
 label_at (label ∷ book) zero given = (label, refl)
 label_at (label ∷ book) (suc n) given = label_at book n (omega arith)
-
-pub KeepsNumbers-refl : (book : List PointLabel) → KeepsNumbers book book
-KeepsNumbers-refl book = λ n label has. has
-
-pub KeepsNumbers-trans : (first second third : List PointLabel) → KeepsNumbers first second → KeepsNumbers second third → KeepsNumbers first third
-KeepsNumbers-trans first second third before after = λ n label has. after n label (before n label has)
 
 -- as many numbers as labels, and each label with its own
 pub HaveNumbers-length : (book : List PointLabel) (numbers : List ℕ) (labels : List PointLabel) → HaveNumbers book numbers labels → length numbers ≡ length labels

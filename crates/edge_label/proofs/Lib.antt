@@ -1,5 +1,7 @@
 pub mod LawsNumbers
 mod CodeLemmas
+mod Filling
+mod KnownLemmas
 mod NameLemmas
 mod BookLemmas
 mod IndexLemmas

@@ -27,21 +27,21 @@ use Rattle.edge_label.specs.Codes.{number_code, integer_code, name_code, list_co
 use Rattle.edge_label.specs.Codes.{operator_number, piece_code, rule_number, type_code, members_code, member_code, owner_code, variable_code}
 use Rattle.edge_label.specs.Codes.{place_code, expr_code, exprs_code, arg_code, answer_code, call_code, init_code, inits_code, label_code, global_code}
 use Rattle.edge_label.specs.Codes.{point_code}
-use Rattle.edge_label.specs.Readers.{Reader, then, read_number, read_integer, read_name, read_times, read_list, read_option, read_kind, read_unary}
+use Rattle.edge_label.specs.Readers.{Taker, Reader, then, read_number, read_integer, read_name, read_times, read_list, read_option, read_kind, read_unary}
 use Rattle.edge_label.specs.Readers.{read_step, read_operator, piece_of, read_piece, read_rule, read_type_levels, read_members_levels, read_type, read_member}
 use Rattle.edge_label.specs.Readers.{read_owner, read_variable, read_place_levels, read_expr_levels, read_exprs_levels}
 use Rattle.edge_label.specs.Readers.{read_place, read_expr, read_arg, read_answer, read_call, read_init_levels, read_inits_levels, read_init, read_tree}
-use Rattle.edge_label.specs.Readers.{read_global, read_label, coded_global, label_of}
+use Rattle.edge_label.specs.Readers.{read_global, read_label, coded_type, coded_global, label_of}
 
 -- what a reader and the one behind it give
-then_back : {A B : Type 0} (read : Reader A) (next : A → Reader B) {codes rest : List ℕ} {x : A} {given : B × List ℕ}
+pub then_back : {X A B : Type 0} (read : Taker X A) (next : A → Taker X B) {codes rest : List X} {x : A} {given : B × List X}
     → read codes ≡ (x, rest) → next x rest ≡ given → then read next codes ≡ given
 unfolding then
 then_back read next first second = ap (λ r. next r.0 r.1) first ∙ second
 
 -- the same where the codes of the two stand one behind the other
-then_append : {A B : Type 0} (read : Reader A) (next : A → Reader B) (a b s : List ℕ) {x : A} {given : B × List ℕ}
-    → ((t : List ℕ) → read (a ++ t) ≡ (x, t)) → next x (b ++ s) ≡ given
+pub then_append : {X A B : Type 0} (read : Taker X A) (next : A → Taker X B) (a b s : List X) {x : A} {given : B × List X}
+    → ((t : List X) → read (a ++ t) ≡ (x, t)) → next x (b ++ s) ≡ given
     → then read next ((a ++ b) ++ s) ≡ given
 then_append read next a b s first second = ap (then read next) (append_assoc a b s) ∙ then_back read next (first (b ++ s)) second
 
@@ -301,6 +301,11 @@ global_back global s =
 label_back : (label : PointLabel) (s : List ℕ) → read_label (point_code label ++ s) ≡ (label, s)
 label_back label s =
     then_append _ _ (label_code label.tree) _ s (tree_back label.tree) (then_back _ _ (list_back global_code read_global global_back label.globals s) refl)
+
+-- a type is read back from its code
+pub coded_type-type_code : (t : TypeTree) → coded_type (type_code t) ≡ t
+unfolding coded_type
+coded_type-type_code t = ap (λ codes. (read_type codes).0) (sym (append-nil (type_code t))) ∙ ap (λ r. r.0) (type_back t [])
 
 -- a global is read back from its code
 pub coded_global-global_code : (global : GlobalTree) → coded_global (global_code global) ≡ global

@@ -23,16 +23,20 @@ use Rattle.csub_semantics.specs.Trees.{OwnerTree, global_owner, local_owner, Var
 use Rattle.csub_semantics.specs.Labels.{AnswerTree, CallTree, InitTree, one_value, listed, InitTrees, no_init, more_inits}
 use Rattle.csub_semantics.specs.Labels.{LabelTree, enters, exits, evaluates, initialises, branches, switches, returns, jumps, halts, calls, PointLabel}
 
--- a reader takes a value off the front of a list, and gives what is left
-abbrev pub Reader : Type 0 → Type 0
-Reader A = List ℕ → A × List ℕ
+-- a value is taken off the front of a list, which gives what is left
+abbrev pub Taker : Type 0 → Type 0 → Type 0
+Taker X A = List X → A × List X
 
--- a value that takes no numbers
-abbrev pub just : {A : Type 0} → A → Reader A
+-- a reader takes it off a list of numbers
+abbrev pub Reader : Type 0 → Type 0
+Reader A = Taker ℕ A
+
+-- a value that takes nothing
+abbrev pub just : {X A : Type 0} → A → Taker X A
 just x codes = (x, codes)
 
--- a reader, and behind it the one that its value asks for
-unfoldable pub then : {A B : Type 0} → Reader A → (A → Reader B) → Reader B
+-- a taker, and behind it the one that its value asks for
+unfoldable pub then : {X A B : Type 0} → Taker X A → (A → Taker X B) → Taker X B
 then read next codes = let r = read codes in next r.0 r.1
 
 abbrev pub read_number : Reader ℕ
@@ -223,6 +227,10 @@ read_global =
 
 abbrev pub read_label : Reader PointLabel
 read_label = then read_tree (λ tree. then (read_list read_global) (λ globals. just (record { tree = tree; globals = globals })))
+
+-- the type that a list of numbers is the code of
+unfoldable pub coded_type : List ℕ → TypeTree
+coded_type codes = (read_type codes).0
 
 -- the global that a list of numbers is the code of
 unfoldable pub coded_global : List ℕ → GlobalTree

@@ -4,10 +4,17 @@ ghost use Rattle.csub_semantics.specs.Types.{GlobalTree, global_tree};
 ghost use Rattle.csub_semantics.specs.Labels.{label_tree, PointLabel};
 ghost use Rattle.edge_label.specs.Numbers.{HasNumber, HaveNumbers, KeepsNumbers, AddsOnly, whole};
 ghost use Rattle.edge_label.specs.Indices.{IsIndex};
-ghost use Rattle.edge_label.specs.Tables.{label_in, IsBook, IsInterned, Grows};
+ghost use Rattle.edge_label.specs.Known.{AreTyped};
+ghost use Rattle.edge_label.specs.Tables.{Table, AreNumbers, use_codes, label_in, IsCode, IsBook, IsInterned, Grows};
+ghost use Rattle.edge_label.specs.Uses.{AreDeclared, standing_tree};
 
+use crate::code::push_label;
+use crate::globals::{GlobalNumbers, number_globals, push_numbers};
+use crate::names::global_names;
+use crate::standing::Standing;
 use crate::steps::Steps;
-use crate::table::{GlobalNumbers, GlobalTable, code_of, number_all};
+use crate::table::CodeTable;
+use crate::types::{Typed, number_all_types, number_types};
 use csub_semantics::{GlobalVar, Label};
 use indexmap::IndexSet;
 use std::alloc::{AllocError, Global};
@@ -18,7 +25,7 @@ use std::sync::ledger::Ledger;
 #[derive(Drop)]
 pub struct LabelBook {
     alloc: Global,
-    globals: GlobalTable,
+    table: CodeTable,
     codes: IndexSet<Vec<u64>>,
 }
 
@@ -32,9 +39,9 @@ impl Model for LabelBook {
 
     ghost coded = { stored_labels };
 
-    ghost view = { λ book. map (label_in book.globals) (map (λ code. code.items) book.codes.keys) };
+    ghost view = { λ book. map (label_in book.table) (map (λ code. code.items) book.codes.keys) };
 
-    ghost invariant = { λ book. IsBook book.globals (map (λ code. code.items) book.codes.keys) };
+    ghost invariant = { λ book. IsBook book.table (map (λ code. code.items) book.codes.keys) };
 }
 
 impl LabelBook {
@@ -44,7 +51,7 @@ impl LabelBook {
     {
         LabelBook {
             alloc,
-            globals: GlobalTable::new(alloc),
+            table: CodeTable::new(alloc),
             codes: IndexSet::new(alloc),
         }
     }
@@ -63,23 +70,26 @@ impl LabelBook {
         ensures grows { length self.old ≤ length self.new }
         ensures err { OnErr result (self.new ≡ self.old) }
     {
-        let numbers = number_all(self.alloc, &mut self.globals, globals)?;
-        intern_code(self.alloc, &mut self.codes, label, &numbers)
+        let types = number_types(self.alloc, &mut self.table, label)?;
+        let numbers = number_globals(self.alloc, &mut self.table, globals)?;
+        intern_code(self.alloc, &mut self.codes, label, &types, &numbers)
     }
 
-    /// The numbers of the whole labels of a program, in the order of the labels, as [`LabelBook::intern`] gives them: a
-    /// pass over the contents of the globals, and a look-up for each name of a global in a label. At an `Err` some of the
-    /// labels may have got a number.
+    /// The numbers of the whole labels of a program, in the order of the labels, as [`LabelBook::intern`] gives them. The
+    /// contents of the globals are gone over once, and a type once for each name in a function; beside that it takes a
+    /// look-up for each object and each callee that a label names. At an `Err` some of the labels may have got a number.
     pub fn intern_all(
         &mut self,
-        labels: &[&Label],
+        labels: &[Standing<'_>],
         globals: &[GlobalVar],
     ) -> Result<Vec<u32>, AllocError>
-        ensures numbers { IfOk result (λ row. HaveNumbers self.new row.items (map (λ label. whole (map global_tree globals.now) (label_tree label.now)) labels.now)) }
+        requires declared { AreDeclared (map standing_tree labels.now) }
+        ensures numbers { IfOk result (λ row. HaveNumbers self.new row.items (map (λ s. whole (map global_tree globals.now) (label_tree s.label.now)) labels.now)) }
         ensures keeps { KeepsNumbers self.old self.new }
     {
-        let numbers = number_all(self.alloc, &mut self.globals, globals)?;
-        intern_codes(self.alloc, &mut self.codes, labels, &numbers)
+        let typed = number_all_types(self.alloc, &mut self.table, labels)?;
+        let numbers = number_globals(self.alloc, &mut self.table, globals)?;
+        intern_codes(self.alloc, &mut self.codes, &typed, &numbers)
     }
 
     /// Whether two numbers that this book gave have equal labels. It counts one step, and takes no memory.
@@ -95,23 +105,42 @@ impl LabelBook {
     }
 }
 
+/// The code of a whole label, by the numbers of its types and of the globals. An `Err` is want of memory.
+fn code_of(
+    alloc: Global,
+    label: &Label,
+    types: &[u64],
+    numbers: &GlobalNumbers<'_>,
+) -> Result<Vec<u64>, AllocError>
+    ensures { IfOk result (λ code. (table : Table) (globals : List GlobalTree) → AreNumbers table types.now (use_codes (label_tree label.now)) →
+        IsIndex table globals numbers.now.by_name.entries → IsCode table (whole globals (label_tree label.now)) code.items) }
+{
+    let names = global_names(alloc, label)?;
+    let mut code = Vec::new(alloc);
+    push_label(&mut code, label)?;
+    code.extend_from_slice(types)?;
+    push_numbers(&mut code, &names, numbers)?;
+    Ok(code)
+}
+
 /// The number of the code of a whole label: the one that it has, or the next one. An `Err` is want of memory or of
 /// numbers; the codes are then as before.
 fn intern_code(
     alloc: Global,
     codes: &mut IndexSet<Vec<u64>>,
     label: &Label,
+    types: &[u64],
     numbers: &GlobalNumbers<'_>,
 ) -> Result<u32, AllocError>
-    ensures interned { IfOk result (λ n. (table globals : List GlobalTree) → IsIndex table globals numbers.now.by_name.entries →
-        IsBook table (map (λ code. code.items) codes.old.keys) →
+    ensures interned { IfOk result (λ n. (table : Table) (globals : List GlobalTree) → AreNumbers table types.now (use_codes (label_tree label.now)) →
+        IsIndex table globals numbers.now.by_name.entries → IsBook table (map (λ code. code.items) codes.old.keys) →
         IsInterned table (map (λ code. code.items) codes.old.keys) (map (λ code. code.items) codes.new.keys) n (whole globals (label_tree label.now))) }
     ensures err { OnErr result (codes.new.keys ≡ codes.old.keys) }
 {
     if codes.len() >= 4_294_967_295 {
         return Err(AllocError);
     }
-    let code = code_of(alloc, label, numbers)?;
+    let code = code_of(alloc, label, types, numbers)?;
     let (number, _) = codes.insert_full(code)?;
     Ok(number as u32)
 }
@@ -120,19 +149,19 @@ fn intern_code(
 fn intern_codes(
     alloc: Global,
     codes: &mut IndexSet<Vec<u64>>,
-    labels: &[&Label],
+    labels: &[Typed<'_>],
     numbers: &GlobalNumbers<'_>,
 ) -> Result<Vec<u32>, AllocError>
-    ensures numbers { IfOk result (λ row. (table globals : List GlobalTree) → IsIndex table globals numbers.now.by_name.entries →
-        IsBook table (map (λ code. code.items) codes.old.keys) →
-        HaveNumbers (map (label_in table) (map (λ code. code.items) codes.new.keys)) row.items (map (λ label. whole globals (label_tree label.now)) labels.now)) }
-    ensures grows { (table globals : List GlobalTree) → IsIndex table globals numbers.now.by_name.entries →
-        IsBook table (map (λ code. code.items) codes.old.keys) →
+    ensures numbers { IfOk result (λ row. (table : Table) (globals : List GlobalTree) → AreTyped table labels.now →
+        IsIndex table globals numbers.now.by_name.entries → IsBook table (map (λ code. code.items) codes.old.keys) →
+        HaveNumbers (map (label_in table) (map (λ code. code.items) codes.new.keys)) row.items (map (λ t. whole globals (label_tree t.label.now)) labels.now)) }
+    ensures grows { (table : Table) (globals : List GlobalTree) → AreTyped table labels.now →
+        IsIndex table globals numbers.now.by_name.entries → IsBook table (map (λ code. code.items) codes.old.keys) →
         Grows table (map (λ code. code.items) codes.old.keys) (map (λ code. code.items) codes.new.keys) }
 {
     let mut row = Vec::new(alloc);
-    for label in labels {
-        let number = intern_code(alloc, codes, label, numbers)?;
+    for typed in labels {
+        let number = intern_code(alloc, codes, typed.label, &typed.types, numbers)?;
         row.push(number)?;
     }
     Ok(row)

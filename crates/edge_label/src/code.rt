@@ -1,10 +1,12 @@
-//! The code of a label, number by number.
+//! The codes of bare labels, types and globals, number by number.
 ghost use Rattle.std.specs.Prelude.{◌≡◌, ◌++◌, ◌∷◌, [], OnOk, map, option_map};
 ghost use Rattle.csub_objects.specs.Types.{members_of};
 ghost use Rattle.csub_objects.specs.Meaning.{type_tree, member_tree};
 ghost use Rattle.csub_semantics.specs.Types.{global_tree};
 ghost use Rattle.csub_semantics.specs.Trees.{constant, reading, stepping, variable, object, temporary, owner_tree, place_tree, expr_tree, formatted, exprs_of, arg_tree};
 ghost use Rattle.csub_semantics.specs.Labels.{answer_tree, call_tree, init_tree, inits_of, label_tree};
+ghost use Rattle.edge_label.specs.Bare.{bare_answer, bare_arg, bare_call, bare_expr, bare_exprs, bare_init, bare_inits, bare_label, bare_place, no_type};
+ghost use Rattle.edge_label.specs.Uses.{parameters_type};
 ghost use Rattle.edge_label.specs.Codes.{integer_code, name_code, list_code, option_code, number_code, kind_code, kind_number, unary_number, step_number, operator_number, piece_number, piece_code, rule_number, type_code, members_code, member_code, owner_code, place_code, expr_code, exprs_code, arg_code, answer_code, call_code, init_code, inits_code, label_code, global_code};
 
 use csub_semantics::{
@@ -13,9 +15,9 @@ use csub_semantics::{
 };
 use std::alloc::AllocError;
 
-/// Appends the code of a label's tree. An `Err` is want of memory.
+/// Appends the code of a label without its types. An `Err` is want of memory.
 pub fn push_label(out: &mut Vec<u64>, label: &Label) -> Result<(), AllocError>
-    ensures { OnOk result (out.new.items ≡ out.old.items ++ label_code (label_tree label.now)) }
+    ensures { OnOk result (out.new.items ≡ out.old.items ++ label_code (bare_label (label_tree label.now))) }
 {
     match label {
         Label::Entry => out.push(0)?,
@@ -33,10 +35,10 @@ pub fn push_label(out: &mut Vec<u64>, label: &Label) -> Result<(), AllocError>
             out.push(5)?;
             push_call(out, call)?;
         }
-        Label::Init(owner, ctype, init) => {
+        Label::Init(owner, _, init) => {
             out.push(6)?;
             push_owner(out, owner)?;
-            push_type(out, ctype)?;
+            push_no_type(out)?;
             push_init(out, init)?;
         }
         Label::Switch(expr) => push_behind(out, 7, expr)?,
@@ -67,7 +69,7 @@ fn push_integers(out: &mut Vec<u64>, values: &[i64]) -> Result<(), AllocError>
 
 #[cycle(initialisers)]
 fn push_init(out: &mut Vec<u64>, init: &RInit) -> Result<(), AllocError>
-    ensures { OnOk result (out.new.items ≡ out.old.items ++ init_code (init_tree init.now)) }
+    ensures { OnOk result (out.new.items ≡ out.old.items ++ init_code (bare_init (init_tree init.now))) }
 {
     match init {
         RInit::One(value) => push_behind(out, 0, value),
@@ -81,7 +83,7 @@ fn push_init(out: &mut Vec<u64>, init: &RInit) -> Result<(), AllocError>
 /// Appends the code of a list of initialisers.
 #[cycle(initialisers)]
 fn push_inits(out: &mut Vec<u64>, entries: &[RInit]) -> Result<(), AllocError>
-    ensures { OnOk result (out.new.items ≡ out.old.items ++ inits_code (inits_of (map init_tree entries.now))) }
+    ensures { OnOk result (out.new.items ≡ out.old.items ++ inits_code (bare_inits (inits_of (map init_tree entries.now)))) }
 {
     for entry in entries {
         out.push(1)?;
@@ -91,7 +93,7 @@ fn push_inits(out: &mut Vec<u64>, entries: &[RInit]) -> Result<(), AllocError>
 }
 
 fn push_answer(out: &mut Vec<u64>, answer: &Option<Answer>) -> Result<(), AllocError>
-    ensures { OnOk result (out.new.items ≡ out.old.items ++ option_code answer_code (option_map answer_tree answer.now)) }
+    ensures { OnOk result (out.new.items ≡ out.old.items ++ option_code answer_code (option_map bare_answer (option_map answer_tree answer.now))) }
 {
     match answer {
         None => out.push(0)?,
@@ -105,10 +107,10 @@ fn push_answer(out: &mut Vec<u64>, answer: &Option<Answer>) -> Result<(), AllocE
 }
 
 fn push_call(out: &mut Vec<u64>, call: &CallLabel) -> Result<(), AllocError>
-    ensures { OnOk result (out.new.items ≡ out.old.items ++ call_code (call_tree call.now)) }
+    ensures { OnOk result (out.new.items ≡ out.old.items ++ call_code (bare_call (call_tree call.now))) }
 {
     push_name(out, call.callee.bytes())?;
-    push_members(out, &call.params)?;
+    out.push(0)?;
     push_result(out, call.result)?;
     push_args(out, &call.args)?;
     push_temp(out, call.temp)
@@ -140,14 +142,21 @@ fn push_temp(out: &mut Vec<u64>, temp: Option<u32>) -> Result<(), AllocError>
     Ok(())
 }
 
-fn push_members(out: &mut Vec<u64>, members: &[Member]) -> Result<(), AllocError>
-    ensures { OnOk result (out.new.items ≡ out.old.items ++ list_code member_code (map member_tree members.now)) }
+/// Appends the code of the parameters of a function, which is that of a struct without a tag.
+pub fn push_parameters(out: &mut Vec<u64>, params: &[Member]) -> Result<(), AllocError>
+    ensures { OnOk result (out.new.items ≡ out.old.items ++ type_code (parameters_type (map member_tree params.now))) }
 {
-    out.push(members.len() as u64)?;
-    for member in members {
-        push_member(out, member)?;
-    }
-    Ok(())
+    out.push(2)?;
+    out.push(0)?;
+    push_struct_members(out, params)
+}
+
+/// Appends the code that stands in the place of a type.
+fn push_no_type(out: &mut Vec<u64>) -> Result<(), AllocError>
+    ensures { OnOk result (out.new.items ≡ out.old.items ++ type_code no_type) }
+{
+    out.push(0)?;
+    Ok(out.push(0)?)
 }
 
 #[cycle(types)]
@@ -158,8 +167,9 @@ fn push_member(out: &mut Vec<u64>, member: &Member) -> Result<(), AllocError>
     push_type(out, &member.ctype)
 }
 
+/// Appends the code of a type.
 #[cycle(types)]
-fn push_type(out: &mut Vec<u64>, ctype: &CType) -> Result<(), AllocError>
+pub fn push_type(out: &mut Vec<u64>, ctype: &CType) -> Result<(), AllocError>
     ensures { OnOk result (out.new.items ≡ out.old.items ++ type_code (type_tree ctype.now)) }
 {
     match ctype {
@@ -197,7 +207,7 @@ fn push_struct_members(out: &mut Vec<u64>, members: &[Member]) -> Result<(), All
 }
 
 fn push_args(out: &mut Vec<u64>, args: &[RArg]) -> Result<(), AllocError>
-    ensures { OnOk result (out.new.items ≡ out.old.items ++ list_code arg_code (map arg_tree args.now)) }
+    ensures { OnOk result (out.new.items ≡ out.old.items ++ list_code arg_code (map bare_arg (map arg_tree args.now))) }
 {
     out.push(args.len() as u64)?;
     for arg in args {
@@ -207,7 +217,7 @@ fn push_args(out: &mut Vec<u64>, args: &[RArg]) -> Result<(), AllocError>
 }
 
 fn push_arg(out: &mut Vec<u64>, arg: &RArg) -> Result<(), AllocError>
-    ensures { OnOk result (out.new.items ≡ out.old.items ++ arg_code (arg_tree arg.now)) }
+    ensures { OnOk result (out.new.items ≡ out.old.items ++ arg_code (bare_arg (arg_tree arg.now))) }
 {
     match arg {
         RArg::Value(expr) => push_behind(out, 0, expr),
@@ -217,7 +227,7 @@ fn push_arg(out: &mut Vec<u64>, arg: &RArg) -> Result<(), AllocError>
 
 #[cycle(expressions)]
 fn push_expr(out: &mut Vec<u64>, expr: &RExpr) -> Result<(), AllocError>
-    ensures { OnOk result (out.new.items ≡ out.old.items ++ expr_code (expr_tree expr.now)) }
+    ensures { OnOk result (out.new.items ≡ out.old.items ++ expr_code (bare_expr (expr_tree expr.now))) }
 {
     match expr {
         RExpr::Const(kind, value) => push_constant(out, *kind, *value),
@@ -264,7 +274,7 @@ fn push_expr(out: &mut Vec<u64>, expr: &RExpr) -> Result<(), AllocError>
 /// Appends the code of a `printf`.
 #[cycle(expressions)]
 fn push_printf(out: &mut Vec<u64>, pieces: &[Piece], values: &[RExpr]) -> Result<(), AllocError>
-    ensures { OnOk result (out.new.items ≡ out.old.items ++ expr_code (formatted pieces.now (exprs_of (map expr_tree values.now)))) }
+    ensures { OnOk result (out.new.items ≡ out.old.items ++ expr_code (bare_expr (formatted pieces.now (exprs_of (map expr_tree values.now))))) }
 {
     out.push(13)?;
     push_pieces(out, pieces)?;
@@ -274,7 +284,7 @@ fn push_printf(out: &mut Vec<u64>, pieces: &[Piece], values: &[RExpr]) -> Result
 /// Appends the code of the values of a format.
 #[cycle(expressions)]
 fn push_exprs(out: &mut Vec<u64>, exprs: &[RExpr]) -> Result<(), AllocError>
-    ensures { OnOk result (out.new.items ≡ out.old.items ++ exprs_code (exprs_of (map expr_tree exprs.now))) }
+    ensures { OnOk result (out.new.items ≡ out.old.items ++ exprs_code (bare_exprs (exprs_of (map expr_tree exprs.now)))) }
 {
     for expr in exprs {
         push_behind(out, 1, expr)?;
@@ -300,7 +310,7 @@ fn push_converted(
     kind: IntKind,
     expr: &RExpr,
 ) -> Result<(), AllocError>
-    ensures { OnOk result (out.new.items ≡ out.old.items ++ number ∷ kind_number kind ∷ expr_code (expr_tree expr.now)) }
+    ensures { OnOk result (out.new.items ≡ out.old.items ++ number ∷ kind_number kind ∷ expr_code (bare_expr (expr_tree expr.now))) }
 {
     out.push(number)?;
     push_behind(out, kind_number(kind), expr)
@@ -315,7 +325,7 @@ fn push_operand(
     kind: IntKind,
     expr: &RExpr,
 ) -> Result<(), AllocError>
-    ensures { OnOk result (out.new.items ≡ out.old.items ++ number ∷ operator ∷ kind_number kind ∷ expr_code (expr_tree expr.now)) }
+    ensures { OnOk result (out.new.items ≡ out.old.items ++ number ∷ operator ∷ kind_number kind ∷ expr_code (bare_expr (expr_tree expr.now))) }
 {
     out.push(number)?;
     push_converted(out, operator, kind, expr)
@@ -324,7 +334,7 @@ fn push_operand(
 /// Appends a number, and behind it the code of a place.
 #[cycle(expressions)]
 fn push_place_behind(out: &mut Vec<u64>, number: u64, place: &Place) -> Result<(), AllocError>
-    ensures { OnOk result (out.new.items ≡ out.old.items ++ number ∷ place_code (place_tree place.now)) }
+    ensures { OnOk result (out.new.items ≡ out.old.items ++ number ∷ place_code (bare_place (place_tree place.now))) }
 {
     out.push(number)?;
     push_place(out, place)
@@ -333,7 +343,7 @@ fn push_place_behind(out: &mut Vec<u64>, number: u64, place: &Place) -> Result<(
 /// Appends a number, and behind it the code of an expression.
 #[cycle(expressions)]
 fn push_behind(out: &mut Vec<u64>, number: u64, expr: &RExpr) -> Result<(), AllocError>
-    ensures { OnOk result (out.new.items ≡ out.old.items ++ number ∷ expr_code (expr_tree expr.now)) }
+    ensures { OnOk result (out.new.items ≡ out.old.items ++ number ∷ expr_code (bare_expr (expr_tree expr.now))) }
 {
     out.push(number)?;
     push_expr(out, expr)
@@ -360,7 +370,7 @@ fn push_temporary(out: &mut Vec<u64>, number: u32, kind: IntKind) -> Result<(), 
 
 #[cycle(expressions)]
 fn push_step(out: &mut Vec<u64>, op: StepOp, place: &Place) -> Result<(), AllocError>
-    ensures { OnOk result (out.new.items ≡ out.old.items ++ expr_code (stepping op (place_tree place.now))) }
+    ensures { OnOk result (out.new.items ≡ out.old.items ++ expr_code (stepping op (bare_place (place_tree place.now)))) }
 {
     out.push(10)?;
     out.push(step_number(op))?;
@@ -369,10 +379,10 @@ fn push_step(out: &mut Vec<u64>, op: StepOp, place: &Place) -> Result<(), AllocE
 
 #[cycle(expressions)]
 fn push_place(out: &mut Vec<u64>, place: &Place) -> Result<(), AllocError>
-    ensures { OnOk result (out.new.items ≡ out.old.items ++ place_code (place_tree place.now)) }
+    ensures { OnOk result (out.new.items ≡ out.old.items ++ place_code (bare_place (place_tree place.now))) }
 {
     match place {
-        Place::Var(owner, ctype) => push_object(out, owner, ctype),
+        Place::Var(owner, _) => push_object(out, owner),
         Place::Index(array, index) => {
             out.push(1)?;
             push_place(out, array)?;
@@ -387,13 +397,13 @@ fn push_place(out: &mut Vec<u64>, place: &Place) -> Result<(), AllocError>
 }
 
 /// Appends the code of the place of an object.
-fn push_object(out: &mut Vec<u64>, owner: &Owner, ctype: &CType) -> Result<(), AllocError>
-    ensures { OnOk result (out.new.items ≡ out.old.items ++ place_code (variable (object (owner_tree owner.now) (type_tree ctype.now)))) }
+fn push_object(out: &mut Vec<u64>, owner: &Owner) -> Result<(), AllocError>
+    ensures { OnOk result (out.new.items ≡ out.old.items ++ place_code (variable (object (owner_tree owner.now) no_type))) }
 {
     out.push(0)?;
     out.push(0)?;
     push_owner(out, owner)?;
-    push_type(out, ctype)
+    push_no_type(out)
 }
 
 fn push_owner(out: &mut Vec<u64>, owner: &Owner) -> Result<(), AllocError>
@@ -412,7 +422,8 @@ fn push_owner(out: &mut Vec<u64>, owner: &Owner) -> Result<(), AllocError>
     }
 }
 
-fn push_name(out: &mut Vec<u64>, name: &[u8]) -> Result<(), AllocError>
+/// Appends the code of a name.
+pub fn push_name(out: &mut Vec<u64>, name: &[u8]) -> Result<(), AllocError>
     ensures { OnOk result (out.new.items ≡ out.old.items ++ name_code name.now) }
 {
     out.push(name.len() as u64)?;

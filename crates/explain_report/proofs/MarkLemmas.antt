@@ -1,5 +1,5 @@
 -- Marks of places: which are added, and when all that marked facts rest on is marked.
-use Rattle.std.proofs.Common.{◌≡◌, ℕ, ◌+◌, ◌<◌, ◌≤◌, Bool, true, false, IsTrue, List, [], ◌∷◌, ◌++◌, length, get_or, set, replicate, Some, refl, sym, ap, ◌∙◌, subst, ◌⊎◌, ◌↔◌, inl, inr, arith, get_or-set_same, get_or-set_other}
+use Rattle.std.proofs.Common.{◌≡◌, ℕ, ◌+◌, ◌<◌, ◌≤◌, Bool, true, false, IsTrue, List, [], ◌∷◌, ◌++◌, length, get_or, set, replicate, Some, sym, ap, ◌∙◌, subst, ◌⊎◌, ◌↔◌, inl, inr, arith, get_or-set_same, get_or-set_other}
 use Rattle.std.specs.Prelude.{slice_get, Contains, All}
 use Rattle.std.proofs.lemmas.Bool.{cases_eq, cases_lt}
 use Rattle.std.proofs.lemmas.List.Elements.{Contains-get_or, Contains-append_left, Contains-append_right, Contains-append_cases}
@@ -14,14 +14,7 @@ use Rattle.explain_report.specs.Trims.Needed.{is_wanted, is_named}
 use Rattle.explain_report.specs.Marks.{AddsMarks, AreMarked, AreClosed}
 use Rattle.explain_report.proofs.Places.{unset, one_place}
 
--- no place more, one place more, and one after another
-pub adds_none : (marks : List Bool) → AddsMarks marks marks []
-adds_none marks = record { long = refl; each = λ i. (λ h. inl h, λ h. pick i h) }
-  where
-    pick : (i : ℕ) → IsTrue (has marks i) ⊎ Contains [] i → IsTrue (has marks i)
-    pick i (inl h) = h
-    pick i (inr h) = absurd (omega (arith, h.1))
-
+-- one place more, and one after another
 pub adds_one : (marks : List Bool) (j : ℕ) → j < length marks → AddsMarks marks (set marks j true) (j ∷ [])
 adds_one marks j l = record { long = length-set marks j true; each = λ i. (to i (cases_eq i j), from i (cases_eq i j)) }
   where

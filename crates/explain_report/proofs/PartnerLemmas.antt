@@ -1,15 +1,14 @@
 -- Which new points a list of facts holds with an old one, fact by fact.
-use Rattle.std.proofs.Common.{◌≡◌, ℕ, ◌+◌, ◌<◌, ◌≤◌, Bool, true, false, IsTrue, List, [], ◌∷◌, ◌++◌, length, get_or, set, replicate, take, Some, refl, sym, ap, ◌∙◌, subst, ◌⊎◌, inl, inr, arith, get_or-set_same, get_or-set_other}
+use Rattle.std.proofs.Common.{◌≡◌, ℕ, ◌+◌, ◌<◌, Bool, true, false, IsTrue, List, [], ◌∷◌, ◌++◌, length, get_or, set, take, Some, refl, sym, ap, ◌∙◌, subst, ◌⊎◌, inl, inr, arith, get_or-set_same, get_or-set_other}
 use Rattle.std.specs.Prelude.{slice_get}
 use Rattle.std.proofs.lemmas.Bool.{cases_eq}
-use Rattle.std.proofs.lemmas.List.{take_more, take_all, length-replicate}
+use Rattle.std.proofs.lemmas.List.{take_more}
 use Rattle.std.proofs.Math.ListN.{length-set}
 use Rattle.edge_trace.specs.Rows.{has}
 use Rattle.dual_walk.specs.declared.fact.Fact.{Fact}
 use Rattle.dual_walk.specs.Held.{HasPair}
 use Rattle.explain_report.specs.Dangers.{ArePartners}
 use Rattle.dual_walk.proofs.LawsLists.{get_push, get_left, get_last}
-use Rattle.explain_report.proofs.Places.{unset}
 
 -- one more fact: a pair of the facts with it is one of theirs, or its own
 module _ (facts : List Fact) (n : ℕ) (c : Fact) where
@@ -50,12 +49,6 @@ pub record PartnersTo (facts : List Fact) (n points i : ℕ) (partners : List Bo
   pub long : length partners ≡ points
   pub are : ArePartners (take i facts) n partners
 
-pub partners_none : (facts : List Fact) (n points : ℕ) → PartnersTo facts n points 0 (replicate points false)
-partners_none facts n points = record { long = length-replicate points false; are = λ n'. ((λ h. absurd (unset points n' h)), (λ h. none n' h.place h.fact h.stands)) }
-  where
-    none : (n' i : ℕ) (c : Fact) → slice_get [] i ≡ Some c → IsTrue (has (replicate points false) n')
-    none n' i c e = cc
-
 module _ (facts : List Fact) (n points i : ℕ) (d : Fact) (partners : List Bool) (within : i < length facts) where
   next : take (i + 1) facts ≡ take i facts ++ get_or facts i d ∷ []
   next = take_more facts i d within
@@ -68,6 +61,3 @@ module _ (facts : List Fact) (n points i : ℕ) (d : Fact) (partners : List Bool
 
   pub passed_next : ((get_or facts i d).old ≡ n → ⊥) → PartnersTo facts n points i partners → PartnersTo facts n points (i + 1) partners
   passed_next other h = record { long = h.long; are = subst (λ seen. ArePartners seen n partners) (sym next) (partners_passed (take i facts) n (get_or facts i d) partners other h.are) }
-
-pub partners_all : (facts : List Fact) (n points i : ℕ) (partners : List Bool) → length facts ≤ i → PartnersTo facts n points i partners → ArePartners facts n partners
-partners_all facts n points i partners all h = subst (λ seen. ArePartners seen n partners) (take_all i facts all) h.are

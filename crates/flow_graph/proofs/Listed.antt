@@ -1,6 +1,5 @@
 -- The points of functions, one function after another.
 use Rattle.std.proofs.Common.{◌≡◌, List, [], ◌∷◌, ◌++◌, ◌∙◌, reverse, arith, map, refl, ap, sym, ℕ, ◌+◌, ◌<◌, ◌≤◌, length, get_or, drop, add-one, drop-cons, append_assoc}
-use Rattle.std.proofs.Math.ListN.{drop_of_length-le}
 use Rattle.std.proofs.lemmas.List.{length-append, length-map, map-append, reverse-append, reverse-reverse}
 use Rattle.csub_objects.specs.Types.{Name}
 use Rattle.csub_semantics.specs.declared.function.Function.{Function}
@@ -60,9 +59,6 @@ pub trees_from-step : (fs : List Function) (i : ℕ) (x : Function) → i < leng
 trees_from-step fs i x h is =
     let step : trees_from fs i ≡ function_tree (get_or fs i x) ∷ trees_from fs (i + 1) = rw (drop-cons fs i x h, add-one) refl in
     step ∙ ap (λ y. function_tree y ∷ trees_from fs (i + 1)) (sym is)
-
-pub trees_from-end : (fs : List Function) (i : ℕ) → length fs ≤ i → trees_from fs i ≡ []
-trees_from-end fs i h = ap (map function_tree) (drop_of_length-le fs h)
 
 pub count_within : (fs : List Function) (i : ℕ) (x : Function) (n all : ℕ) → i < length fs → x ≡ get_or fs i x → n + count_program (trees_from fs i) ≡ all → n + count_function (function_tree x) ≤ all
 count_within fs i x n all h is e =

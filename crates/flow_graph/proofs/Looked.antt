@@ -5,7 +5,7 @@ use Rattle.std.specs.Option.{option_map, option_and_then}
 use Rattle.std.proofs.lemmas.List.{length-map}
 use Rattle.std.proofs.lemmas.List.Sums.{sum_by-cons}
 use Rattle.std.proofs.lemmas.Simd.{map-map}
-use Rattle.std.proofs.lemmas.Option.{slice_get-map, slice_get_within, same_Some, slice_get-get_or, get_or_from_slice_get}
+use Rattle.std.proofs.lemmas.Option.{slice_get-map, slice_get_within, same_Some, slice_get-get_or}
 use Rattle.csub_semantics.specs.declared.types.GlobalVar.{GlobalVar}
 use Rattle.csub_objects.specs.Types.{Name}
 use Rattle.csub_semantics.specs.Types.{name_eq}
@@ -20,7 +20,7 @@ use Rattle.csub_semantics.specs.Numbers.{Site, site, site_of, site_at, edge_at, 
 use Rattle.flow_graph.specs.declared.node.GraphWay.{GraphWay}
 use Rattle.flow_graph.specs.declared.node.GraphPoint.{GraphPoint}
 use Rattle.flow_graph.specs.declared.node.GraphFunction.{GraphFunction}
-use Rattle.flow_graph.specs.Graph.{Tables, NamedPoint, NamedFunction, way_at, point_at, function_at, way_of, point_of, function_of, way_count, edge_count, point_count, function_count, IsGraphOf, firsts_of, sources_of, way_count_at, source_at}
+use Rattle.flow_graph.specs.Graph.{Tables, NamedPoint, NamedFunction, way_at, point_at, function_at, way_of, point_of, function_of, way_count, edge_count, point_count, function_count, IsGraphOf, firsts_of, sources_of, source_at}
 use Rattle.flow_graph.proofs.LawsLists.{find-map, Made, made_of}
 use Rattle.flow_graph.proofs.LawsPlaces.{found, point_placed, site_one, edges_counted}
 use Rattle.program_laws.proofs.LawsNames.{same_exit}
@@ -325,7 +325,3 @@ read_first t fs ps firsts n first v is h e =
 pub none_made : {A : Type 0} {B : Type 0} {C : Type 0} (f : A → B) (h : A → C) (o : Option A) → None ≡ option_map f o → None ≡ option_map h o
 none_made f h None e = refl
 none_made f h (Some x) e = absurd cc
-
--- how many ways out a point has, by its number
-pub count_read : (t : Tables) (n : ℕ) (p : GraphPoint) → slice_get t.1 n ≡ Some p → way_count_at t n ≡ way_count p
-count_read t n p e = get_or_from_slice_get (map way_count t.1) n (way_count p) 0 (slice_get-map way_count t.1 n ∙ ap (option_map way_count) e)

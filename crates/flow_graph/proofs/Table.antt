@@ -1,17 +1,15 @@
 -- The table of a function's labels.
-use Rattle.std.proofs.Common.{◌≡◌, ◌∙◌, ℕ, List, [], ◌∷◌, ◌++◌, reverse, Bool, true, false, Option, Some, Vec, sym, ap, subst, refl, ⊎_elim, if◌then◌else◌}
+use Rattle.std.proofs.Common.{◌≡◌, ◌∙◌, ℕ, List, Bool, true, false, Some, Vec, sym, subst, ⊎_elim, if◌then◌else◌}
 use Rattle.std.specs.Str.{bytes_eq}
 use Rattle.std.specs.Map.{KeepsOthers, IsKeyTest, AreApart, lookup}
 use Rattle.std.specs.declared.alloc.Global.{Global}
 use Rattle.std.proofs.lemmas.Bool.{cases_Bool, cond-true, cond-false}
 use Rattle.std.proofs.lemmas.Cmp.{nat_list_eq_equiv}
 use Rattle.std.proofs.lemmas.Slice.Eq.{bytes_eq-Decides}
-use Rattle.std.proofs.lemmas.List.{reverse-append}
 use Rattle.indexmap.specs.IndexMap.{IndexMap, UpdatesBy}
 use Rattle.csub_objects.specs.Types.{Name}
 use Rattle.csub_semantics.specs.Types.{name_eq}
-use Rattle.csub_semantics.specs.Successors.{Mark, target}
-use Rattle.flow_graph.specs.Jumps.{entry_of, to_or}
+use Rattle.flow_graph.specs.Jumps.{entry_of}
 
 apart : (a b key : Name) → name_eq a b ≡ false → name_eq a key ≡ true → name_eq b key ≡ false
 apart a b key n y = nat_list_eq_equiv.symm b key ∙ sym (nat_list_eq_equiv.congr a key b y) ∙ n
@@ -32,15 +30,3 @@ entered m n name to h other =
     (λ x y. nat_list_eq_equiv.congr other x.items y.items) (λ key. apart name other key.items e)
     ∙ sym (cond-false (name_eq name other) (Some to) (entry_of m other) e))
     (cases_Bool (name_eq name other))
-
-to_or_chosen : (b : Bool) (to : ℕ) (o : Option ℕ) (exit : ℕ) → to_or (if b then Some to else o) exit ≡ (if b then to else to_or o exit)
-to_or_chosen true to o exit = refl
-to_or_chosen false to o exit = refl
-
--- one more labelled statement, in front of the others
-pub jump_more : (entry entry' : Option ℕ) (marks : List (Mark ℕ)) (m : Mark ℕ) (exit : ℕ) (name : Name) → entry' ≡ (if name_eq m.name name then Some m.to else entry) → to_or entry exit ≡ target (reverse marks) exit name → to_or entry' exit ≡ target (reverse (marks ++ m ∷ [])) exit name
-jump_more entry entry' marks m exit name e h =
-    ap (λ o. to_or o exit) e
-    ∙ to_or_chosen (name_eq m.name name) m.to entry exit
-    ∙ ap (λ n. if name_eq m.name name then m.to else n) h
-    ∙ sym (ap (λ l. target l exit name) (reverse-append marks (m ∷ [])))

@@ -99,6 +99,10 @@ pub record IsGraphOf (g : Tables) (P : ProgramTree) : Type 0 where
   pub points : map (point_at P) g.1 ≡ map point_of (point_list P)
   pub globals : map global_tree g.2 ≡ P.globals
 
+-- some valid program has this graph
+abbrev pub HasProgram : Tables → Type 0
+HasProgram g = (P : ProgramTree) × IsGraphOf g P
+
 -- each number is that of a function or a point of the graph, and all numbers are small
 pub record IsClosed (g : Tables) : Type 0 where
   pub few_functions : function_count g < 2 ^ 30

@@ -9,7 +9,7 @@ ghost use Rattle.csub_semantics.specs.Points.{entry, exit, point_tree, exit_tree
 ghost use Rattle.csub_semantics.specs.Syntax.{ProgramTree, program_tree};
 ghost use Rattle.csub_semantics.specs.Flows.{PlacedNode, Edge, point_list, edge_list, flow_of, function_of};
 ghost use Rattle.csub_semantics.specs.Numbers.{Site, site, site_at, edge_at as edge_at', name_at};
-ghost use Rattle.flow_graph.specs.Graph.{IsGraphOf, point_count, edge_count, function_count, way_count_at, source_at};
+ghost use Rattle.flow_graph.specs.Graph.{IsGraphOf, HasProgram, point_count, edge_count, function_count, way_count_at, source_at};
 
 use crate::build::{Listed, copy_globals, list_points};
 use crate::case_table::list_cases;
@@ -44,7 +44,7 @@ impl Model for Graph {
     ghost use Rattle.csub_semantics.specs.contracts.expression.RExpr as expr;
     ghost use Rattle.csub_semantics.specs.contracts.label.RInit as init;
     ghost use Rattle.flow_graph.specs.Cases.{AreEntered};
-    ghost use Rattle.flow_graph.specs.Graph.{Tables, IsClosed, firsts_of, sources_of};
+    ghost use Rattle.flow_graph.specs.Graph.{Tables, IsClosed, HasProgram, firsts_of, sources_of};
 
     ghost Value = { Tables };
 
@@ -52,7 +52,7 @@ impl Model for Graph {
 
     ghost view = { λ g. (g.functions.items, g.points.items, g.globals.items) };
 
-    ghost invariant = { λ g. IsClosed (g.functions.items, g.points.items, g.globals.items) × (g.firsts.items ≡ firsts_of g.points.items 0) × (g.sources.items ≡ sources_of g.points.items 0) × AreEntered g.points.items g.cases };
+    ghost invariant = { λ g. IsClosed (g.functions.items, g.points.items, g.globals.items) × (g.firsts.items ≡ firsts_of g.points.items 0) × (g.sources.items ≡ sources_of g.points.items 0) × AreEntered g.points.items g.cases × HasProgram (g.functions.items, g.points.items, g.globals.items) };
 }
 
 /// An edge: its source point, its exit label and the point to which it leads.
@@ -95,10 +95,11 @@ impl Graph {
         })
     }
 
-    /// How many points there are.
+    /// How many points there are. A graph is that of a valid program.
     pub fn points(&self) -> u32
         ensures value { result ≡ point_count self.now }
         ensures listed { (P : ProgramTree) → IsGraphOf self.now P → result ≡ length (point_list P) }
+        ensures valid { HasProgram self.now }
     {
         self.points.len() as u32
     }

@@ -42,7 +42,7 @@ invariant_of-result c =
     let trees = ap (map function_tree) c.functions.ensures.value in
     let made = c.in_ok-functions.field-0 in
     let g = is_graph P made.functions.items made.points.items c.in_ok-globals.globals.items c.functions.ensures.valid (c.in_ok-functions.ensures.functions ∙ ap (λ Q. functions_numbered Q 0) trees) (c.in_ok-functions.ensures.points ∙ ap (λ Q. program_numbered Q 0 0) trees) (c.in_ok-globals.ensures ∙ ap (map global_tree) c.globals.ensures) in
-    (is_closed P made.functions.items made.points.items c.in_ok-globals.globals.items g, c.in_ok-firsts.ensures.firsts ∙ ap (λ ps. firsts_of ps 0) c.as_slice.ensures.value, c.in_ok-firsts.ensures.sources ∙ ap (λ ps. sources_of ps 0) c.as_slice.ensures.value, subst (λ ps. AreEntered ps c.in_ok-cases.cases) c.as_slice-2.ensures.value c.in_ok-cases.ensures)
+    (is_closed P made.functions.items made.points.items c.in_ok-globals.globals.items g, c.in_ok-firsts.ensures.firsts ∙ ap (λ ps. firsts_of ps 0) c.as_slice.ensures.value, c.in_ok-firsts.ensures.sources ∙ ap (λ ps. sources_of ps 0) c.as_slice.ensures.value, subst (λ ps. AreEntered ps c.in_ok-cases.cases) c.as_slice-2.ensures.value c.in_ok-cases.ensures, (P, g))
 
 pub returns : goal.returns
 returns c =

@@ -1,8 +1,9 @@
 use Rattle.std.proofs.Common.{◌≡◌, ◌++◌, map, ap, sym, subst, refl, ◌∙◌, append-nil}
 use Rattle.csub_semantics.specs.Globals.{globals_of}
+use Rattle.edge_label.specs.Codes.{global_code}
 use Rattle.edge_label.specs.Tables.{AppendsNumbers}
 use Rattle.edge_label.proofs.TableLemmas.{numbers_of_next, names_step}
-use Rattle.edge_label.proofs.table.push_numbers.Goals as goal
+use Rattle.edge_label.proofs.globals.push_numbers.Goals as goal
 
 pub loop-name-preserved : goal.loop-name-preserved
 loop-name-preserved c = record {
@@ -16,4 +17,4 @@ pub returns : goal.returns
 returns c = λ table globals index.
     let all = map (λ name. name.now.now) c.loop-name.yielded in
     let names : all ≡ c.args.names.now = sym (append-nil all) ∙ ap (λ left. all ++ map (λ name. name.now) left) (sym c.in-None.ensures.steps.0) ∙ c.loop-name.invariant.names in
-    subst (λ ns. AppendsNumbers table (globals_of globals ns) c.args.code.now.items c.loop-name.code.items) names (c.loop-name.invariant.numbers table globals index)
+    subst (λ ns. AppendsNumbers table (map global_code (globals_of globals ns)) c.args.code.now.items c.loop-name.code.items) names (c.loop-name.invariant.numbers table globals index)

@@ -3,7 +3,7 @@ use Rattle.csub_semantics.specs.Types.{global_tree}
 use Rattle.edge_label.specs.Indices.{IsIndex}
 use Rattle.edge_label.specs.Numbers.{HasEachOnce}
 use Rattle.edge_label.specs.Tables.{Extends}
-use Rattle.edge_label.proofs.table.number_all.Given as goal
+use Rattle.edge_label.proofs.globals.number_globals.Given as goal
 
 -- each name of a global so far has the number of the first one, and the table has grown
 abbrev pub invariant-loop-global : goal.invariant-loop-global
