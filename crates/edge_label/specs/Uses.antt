@@ -11,6 +11,7 @@ use Rattle.csub_semantics.specs.Trees.{reading, unary_operation, conversion, ste
 use Rattle.csub_semantics.specs.Trees.{update, input_byte, output_byte, formatted, NamedExprs, no_expr, more_exprs, NamedArg, value_argument, array_argument}
 use Rattle.csub_semantics.specs.Labels.{LabelTree, enters, exits, evaluates, initialises, branches, switches, returns}
 use Rattle.csub_semantics.specs.Labels.{jumps, halts, calls, AnswerTree, InitTree, one_value, listed, InitTrees, no_init, more_inits, label_tree}
+use Rattle.csub_semantics.specs.Globals.{owner_names}
 use Rattle.edge_label.specs.declared.uses.TypeUse.{TypeUse as CodeUse}
 use Rattle.edge_label.specs.declared.uses.TypeUse.TheVariants.{Object, Callee}
 use Rattle.edge_label.specs.declared.standing.Standing.{Standing as CodeStanding}
@@ -88,6 +89,14 @@ label_uses (returns answer) = answer_uses answer
 label_uses jumps = []
 label_uses (halts e) = expr_uses e
 label_uses (calls c) = record { named = a_callee c.callee; ctype = parameters_type c.params } ∷ flat_map arg_uses c.args
+
+-- the names of globals among these
+abbrev pub named_names : Named → List Name
+named_names (an_object owner) = owner_names owner
+named_names (a_callee a) = []
+
+abbrev pub use_names : TypeUse → List Name
+use_names u = named_names u.named
 
 -- what is declared in a program: the types of the objects of file scope by their names, those of a function's own objects
 -- by the number of the function, their name and their number among those of the name, and of functions their parameters
