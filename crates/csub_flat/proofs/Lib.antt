@@ -11,6 +11,7 @@ mod Stages
 mod Standing
 mod Slots
 mod Passing
+mod Lookups
 mod Indexes
 mod Callees
 mod Programs

@@ -1,9 +1,8 @@
 -- Places of objects, by parameters and locals.
 use Rattle.std.proofs.Common.{◌≡◌, ◌≤◌, ◌∙◌, ℕ, zero, suc, ◌+◌, ◌-◌, ◌*◌, ◌&&◌, nat_lt, List, [], ◌∷◌, ◌++◌, map, sum_by, Bool, true, false, Option, Some, None, nat_eq, if◌then◌else◌, refl, ap, sym, subst, arith}
-use Rattle.std.specs.Option.{option_map, option_or}
+use Rattle.std.specs.Option.{option_or}
 use Rattle.std.proofs.lemmas.List.Sums.{sum_by-cons}
 use Rattle.csub_objects.specs.declared.types.Member.{Member}
-use Rattle.csub_semantics.specs.declared.function.LocalVar.{LocalVar}
 use Rattle.csub_semantics.specs.declared.function.Function.{Function}
 use Rattle.csub_types.specs.declared.kind.IntKind.TheVariants.{Int}
 use Rattle.csub_objects.specs.Types.{Name, TypeTree, number_type, array_type, struct_type, loose_type}
@@ -45,35 +44,6 @@ place_in-append (o ∷ os) us a n = pick (name_eq o.name a && nat_eq o.number n)
         ≡ option_or (if b then Some (inside_at 0 (plain o.ctype)) else moved (cells o.ctype) (place_in os a n)) (moved (objects_size (o ∷ os)) (place_in us a n))
     pick true later = refl
     pick false later = ap (moved (cells o.ctype)) later ∙ either (place_in os a n)
-
-in_function : (ps : List Member) (ls : List LocalVar) (a : Name) (n : ℕ) → place_in (map parameter_object (map member_tree ps) ++ map local_tree ls) a n ≡ option_or (place_in (map as_object ps) a n) (moved (objects_size (map as_object ps)) (place_in (map local_tree ls) a n))
-in_function ps ls a n =
-    ap (λ (os : List LocalTree). place_in (os ++ map local_tree ls) a n) (same_objects ps)
-    ∙ place_in-append (map as_object ps) (map local_tree ls) a n
-
--- the slot of what is found
-slot_some : (o : Option Inside) (i : ℕ) → Some i ≡ option_map (λ (x : Inside). x.at) o → (x : Inside) × (o ≡ Some x) × (x.at ≡ i)
-slot_some None i e = cc
-slot_some (Some x) i e = (x, refl, let k : i ≡ x.at = cc in sym k)
-
-slot_none : (o : Option Inside) → ◌≡◌ {A = Option ℕ} None (option_map (λ (x : Inside). x.at) o) → o ≡ None
-slot_none None e = refl
-slot_none (Some x) e = cc
-
-pub slot_in_params : (ps : List Member) (ls : List LocalVar) (a : Name) (n i : ℕ) → Some i ≡ option_map (λ (x : Inside). x.at) (place_in (map as_object ps) a n) → i ≡ slot_or (place_in (map parameter_object (map member_tree ps) ++ map local_tree ls) a n)
-slot_in_params ps ls a n i e =
-    let s = slot_some (place_in (map as_object ps) a n) i e in
-    sym s.2 ∙ ap slot_or (sym (in_function ps ls a n ∙ ap (λ (o : Option Inside). option_or o (moved (objects_size (map as_object ps)) (place_in (map local_tree ls) a n))) s.1))
-
-pub slot_in_locals : (ps : List Member) (ls : List LocalVar) (a : Name) (n i : ℕ) → ◌≡◌ {A = Option ℕ} None (option_map (λ (x : Inside). x.at) (place_in (map as_object ps) a n)) → Some i ≡ option_map (λ (x : Inside). x.at) (place_in (map local_tree ls) a n) → objects_size (map as_object ps) + i ≡ slot_or (place_in (map parameter_object (map member_tree ps) ++ map local_tree ls) a n)
-slot_in_locals ps ls a n i none e =
-    let s = slot_some (place_in (map local_tree ls) a n) i e in
-    ap (λ k. objects_size (map as_object ps) + k) (sym s.2)
-    ∙ ap slot_or (sym (in_function ps ls a n ∙ ap (λ (o : Option Inside). option_or o (moved (objects_size (map as_object ps)) (place_in (map local_tree ls) a n))) (slot_none (place_in (map as_object ps) a n) none) ∙ ap (moved (objects_size (map as_object ps))) s.1))
-
-pub slot_nowhere : (ps : List Member) (ls : List LocalVar) (a : Name) (n : ℕ) → ◌≡◌ {A = Option ℕ} None (option_map (λ (x : Inside). x.at) (place_in (map as_object ps) a n)) → ◌≡◌ {A = Option ℕ} None (option_map (λ (x : Inside). x.at) (place_in (map local_tree ls) a n)) → 0 ≡ slot_or (place_in (map parameter_object (map member_tree ps) ++ map local_tree ls) a n)
-slot_nowhere ps ls a n none also =
-    ap slot_or (sym (in_function ps ls a n ∙ ap (λ (o : Option Inside). option_or o (moved (objects_size (map as_object ps)) (place_in (map local_tree ls) a n))) (slot_none (place_in (map as_object ps) a n) none) ∙ ap (moved (objects_size (map as_object ps))) (slot_none (place_in (map local_tree ls) a n) also)))
 
 -- the slots of a function's objects
 pub size_objects : (f : Function) → objects_size (objects_of (function_tree f)) ≡ objects_size (map as_object f.params.items) + objects_size (map local_tree f.locals.items)

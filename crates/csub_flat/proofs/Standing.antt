@@ -1,5 +1,5 @@
 -- The label of each point of a valid program fits the frame of its function.
-use Rattle.std.proofs.Common.{◌≡◌, List, [], ◌∷◌, map, All, AllPairs, Option, Some, None, cond, refl, sym, ◌∙◌, ap, arith, Bool, true, false}
+use Rattle.std.proofs.Common.{◌≡◌, List, [], ◌∷◌, map, AllPairs, Option, Some, None, cond, refl, sym, ◌∙◌, ap, arith, Bool, true, false}
 use Rattle.std.specs.List.{flat_map}
 use Rattle.csub_types.specs.declared.kind.IntKind.{IntKind}
 use Rattle.csub_types.specs.declared.kind.IntKind.TheVariants.{Int}

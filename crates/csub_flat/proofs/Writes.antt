@@ -5,7 +5,7 @@ use Rattle.csub_objects.specs.Types.{Name, TypeTree, number_type, array_type, st
 use Rattle.csub_objects.specs.Types.{MemberTrees, no_member, more_members, cells, member_cells}
 use Rattle.csub_objects.specs.Parts.{member_at, part_type, has_parts}
 use Rattle.csub_semantics.specs.declared.label.RInit.{RInit}
-use Rattle.csub_semantics.specs.Labels.{InitTree, one_value, listed, InitTrees, no_init, more_inits, init_tree, inits_of}
+use Rattle.csub_semantics.specs.Labels.{InitTree, one_value, listed, InitTrees, more_inits, init_tree, inits_of}
 use Rattle.csub_semantics.specs.Syntax.{LocalTree, FunctionTree}
 use Rattle.csub_flat.specs.Trees.{FlatWrite}
 use Rattle.csub_flat.specs.Flatten.{flat_writes, element_writes, member_writes}

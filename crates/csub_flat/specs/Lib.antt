@@ -5,6 +5,7 @@ pub mod Flatten
 pub mod Fits
 pub mod Seen
 pub mod Globals
+pub mod Objects
 pub mod Scopes
 pub mod Ways
 pub mod Copies

@@ -1,11 +1,10 @@
 //! The flat copy of a label, made from the label and where it stands.
-ghost use Rattle.std.specs.Prelude.{◌≡◌, ◌≤◌, map, All, IfOk};
+ghost use Rattle.std.specs.Prelude.{◌≡◌, map, All, IfOk};
 ghost use Rattle.std.specs.Option.{option_map};
 ghost use Rattle.csub_objects.specs.Meaning.{type_tree, member_tree};
 ghost use Rattle.csub_semantics.specs.Trees.{object, temporary, owner_tree, place_tree, expr_tree, arg_tree};
-ghost use Rattle.csub_semantics.specs.Syntax.{function_tree};
 ghost use Rattle.csub_validity.specs.Valid.{objects_of, place_type};
-ghost use Rattle.csub_flat.specs.Frames.{place_in, frame_size};
+ghost use Rattle.csub_flat.specs.Frames.{place_in};
 ghost use Rattle.csub_flat.specs.Flatten.{slot_or, form_of, part_of, local_variable, flat_variable, element_part, member_part, flat_place, flattened};
 ghost use Rattle.csub_flat.specs.Flatten.{parameter_slot, flat_given, paired, temp_slot};
 ghost use Rattle.csub_flat.specs.Fits.{FitsPlace, FitsExpr, FitsArg, FitArgs};
@@ -13,24 +12,21 @@ ghost use Rattle.csub_flat.specs.Scopes.{globals_at, function_at};
 ghost use Rattle.csub_flat.specs.Seen.{form_seen, variable_seen, part_seen, place_seen, expr_seen, given_seen, arg_seen};
 
 use crate::flat::{FlatArg, FlatExpr, FlatGiven, FlatPart, FlatPlace, FlatVariable, Form};
-use crate::places::{find_local, find_param, params_size, slots_before, slots_of};
+use crate::frame::find_slot;
+use crate::places::{slots_before, slots_of};
 use crate::scope::Scope;
 use csub_objects::{array_length, member_type, number_kind};
-use csub_semantics::{CType, Function, IntKind, Member, Owner, Piece, Place, RArg, RExpr, Text};
+use csub_semantics::{CType, IntKind, Member, Owner, Piece, Place, RArg, RExpr, Text};
 use csub_validity::places::place_type;
 use std::alloc::{AllocError, Global};
 
 /// The slot of an object in a frame of its function; 0 where there is no such object, as in no valid program.
-pub fn object_slot(function: &Function, name: &[u8], number: u32) -> u32
-    requires { frame_size (function_tree function.now) ≤ 4096 }
-    ensures { result ≡ slot_or (place_in (objects_of (function_tree function.now)) name.now number) }
+pub fn object_slot(scope: Scope<'_>, name: &Text, number: u32) -> u32
+    ensures { result ≡ slot_or (place_in (objects_of (function_at scope.entry)) name.now number) }
 {
-    match find_param(&function.params, name, number) {
+    match find_slot(&scope.frame.slots, name, number) {
         Some(slot) => slot,
-        None => match find_local(&function.locals, name, number) {
-            Some(slot) => params_size(&function.params) + slot,
-            None => 0,
-        },
+        None => 0,
     }
 }
 
@@ -44,7 +40,7 @@ pub fn temporary_slot(scope: Scope<'_>, number: u32) -> u32
     if scope.function.temps < number {
         return 0;
     }
-    scope.first + (number - 1)
+    scope.frame.first + (number - 1)
 }
 
 /// The slot of a global; 0 where there is no such global, as in no valid program.
@@ -84,9 +80,7 @@ fn flatten_object(scope: Scope<'_>, owner: &Owner, ctype: &CType) -> FlatVariabl
 {
     match owner {
         Owner::Global(name) => FlatVariable::Global(global_slot(scope, name), form_of(ctype)),
-        Owner::Local(name, number) => {
-            local_variable(object_slot(scope.function, name.bytes(), *number), ctype)
-        }
+        Owner::Local(name, number) => local_variable(object_slot(scope, name, *number), ctype),
     }
 }
 
@@ -263,17 +257,17 @@ fn copy_pieces(alloc: Global, pieces: &[Piece]) -> Result<Vec<Piece>, AllocError
     Ok(made)
 }
 
-/// The flat copies of the arguments of a call, with the parameters of the callee. An `Err` is want of memory.
+/// The flat copies of the arguments of a call, with the parameters of the callee, of which the scope is given. An `Err`
+/// is want of memory.
 pub fn flatten_args(
     alloc: Global,
     scope: Scope<'_>,
-    callee: &Function,
+    callee: Scope<'_>,
     params: &[Member],
     args: &[RArg],
 ) -> Result<Vec<FlatArg>, AllocError>
-    requires size { frame_size (function_tree callee.now) ≤ 4096 }
-    requires fits { FitArgs (globals_at scope) (function_at scope) (map member_tree params.now) (map arg_tree args.now) }
-    ensures { IfOk result (λ made. map arg_seen made.items ≡ paired (globals_at scope.entry) (function_at scope.entry) (function_tree callee.now) (map member_tree params.now) (map arg_tree args.now)) }
+    requires { FitArgs (globals_at scope) (function_at scope) (map member_tree params.now) (map arg_tree args.now) }
+    ensures { IfOk result (λ made. map arg_seen made.items ≡ paired (globals_at scope.entry) (function_at scope.entry) (function_at callee.entry) (map member_tree params.now) (map arg_tree args.now)) }
 {
     let mut made = Vec::new(alloc);
     let mut rest = args;
@@ -290,15 +284,14 @@ pub fn flatten_args(
 fn flatten_arg(
     alloc: Global,
     scope: Scope<'_>,
-    callee: &Function,
+    callee: Scope<'_>,
     param: &Member,
     arg: &RArg,
 ) -> Result<FlatArg, AllocError>
-    requires size { frame_size (function_tree callee.now) ≤ 4096 }
-    requires fits { FitsArg (globals_at scope) (function_at scope) (member_tree param.now) (arg_tree arg.now) }
-    ensures { IfOk result (λ made. arg_seen made ≡ record { slot = parameter_slot (function_tree callee.now) (member_tree param.now); given = flat_given (globals_at scope.entry) (function_at scope.entry) (member_tree param.now) (arg_tree arg.now) }) }
+    requires { FitsArg (globals_at scope) (function_at scope) (member_tree param.now) (arg_tree arg.now) }
+    ensures { IfOk result (λ made. arg_seen made ≡ record { slot = parameter_slot (function_at callee.entry) (member_tree param.now); given = flat_given (globals_at scope.entry) (function_at scope.entry) (member_tree param.now) (arg_tree arg.now) }) }
 {
-    let slot = object_slot(callee, param.name.bytes(), 1);
+    let slot = object_slot(callee, &param.name, 1);
     let given = flatten_given(alloc, scope, param, arg)?;
     Ok(FlatArg { slot, given })
 }

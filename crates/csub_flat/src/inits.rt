@@ -115,7 +115,7 @@ pub fn flatten_begin(
     let Owner::Local(name, number) = owner else {
         unreachable!();
     };
-    let slot = object_slot(scope.function, name.bytes(), *number);
+    let slot = object_slot(scope, name, *number);
     let mut steps = Vec::new(alloc);
     flatten_init(alloc, scope, init, ctype, slot, &mut steps)?;
     Ok(steps)

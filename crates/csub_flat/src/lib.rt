@@ -16,6 +16,7 @@
 pub mod choices;
 pub mod flat;
 mod flatten;
+mod frame;
 mod globals;
 mod inits;
 mod places;

@@ -1,12 +1,9 @@
-//! The slots of objects among others, one after another.
-ghost use Rattle.std.specs.Prelude.{◌≡◌, ◌&&◌, ◌≤◌, nat_eq, map, IfSome};
-ghost use Rattle.std.specs.Option.{option_map};
+//! How many slots objects have.
+ghost use Rattle.std.specs.Prelude.{◌≡◌, ◌≤◌, map};
 ghost use Rattle.csub_objects.specs.Types.{cells, first_cell};
 ghost use Rattle.csub_objects.specs.Meaning.{type_tree};
-ghost use Rattle.csub_objects.specs.Paths.{Inside};
-ghost use Rattle.csub_semantics.specs.Types.{name_eq};
 ghost use Rattle.csub_semantics.specs.Syntax.{local_tree};
-ghost use Rattle.csub_flat.specs.Frames.{place_in, objects_size, as_object};
+ghost use Rattle.csub_flat.specs.Frames.{objects_size, as_object};
 ghost use Rattle.csub_flat.specs.Fits.{MayStand};
 ghost use Rattle.csub_flat.specs.Flatten.{cell_or};
 
@@ -30,50 +27,6 @@ pub fn slots_before(ctype: &CType, name: &Text) -> u32
         Some(before) => before as u32,
         None => 0,
     }
-}
-
-/// The slot of a parameter among parameters.
-pub fn find_param(params: &[Member], name: &[u8], number: u32) -> Option<u32>
-    requires { objects_size (map as_object params.now) ≤ 4096 }
-    ensures within { IfSome result (λ slot. slot ≤ 4096) }
-    ensures place { result ≡ option_map (λ (x : Inside). x.at) (place_in (map as_object params.now) name.now number) }
-{
-    let mut slot = 0;
-    for param in params {
-        if is_param(param, name, number) {
-            return Some(slot);
-        }
-        slot += slots_of(&param.ctype);
-    }
-    None
-}
-
-fn is_param(param: &Member, name: &[u8], number: u32) -> bool
-    ensures { result ≡ (name_eq param.now.name name.now && nat_eq 1 number) }
-{
-    param.name.bytes() == name && number == 1
-}
-
-/// The slot of a local among locals.
-pub fn find_local(locals: &[LocalVar], name: &[u8], number: u32) -> Option<u32>
-    requires { objects_size (map local_tree locals.now) ≤ 4096 }
-    ensures within { IfSome result (λ slot. slot ≤ 4096) }
-    ensures place { result ≡ option_map (λ (x : Inside). x.at) (place_in (map local_tree locals.now) name.now number) }
-{
-    let mut slot = 0;
-    for local in locals {
-        if is_local(local, name, number) {
-            return Some(slot);
-        }
-        slot += slots_of(&local.ctype);
-    }
-    None
-}
-
-fn is_local(local: &LocalVar, name: &[u8], number: u32) -> bool
-    ensures { result ≡ (name_eq local.now.name name.now && nat_eq local.now.number number) }
-{
-    local.name.bytes() == name && local.number == number
 }
 
 /// How many slots parameters have.

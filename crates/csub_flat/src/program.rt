@@ -1,13 +1,13 @@
 //! The flat copy of a program.
-ghost use Rattle.std.specs.Prelude.{ℕ, List, ◌∷◌, ◌≡◌, ◌+◌, ◌≤◌, ◌<◌, length, map, IfOk, All};
+ghost use Rattle.std.specs.Prelude.{ℕ, ◌≡◌, ◌≤◌, ◌<◌, length, IfOk, All};
 ghost use Rattle.std.specs.Option.{option_map};
 ghost use Rattle.csub_semantics.specs.Labels.{call_tree, label_tree};
-ghost use Rattle.csub_semantics.specs.Syntax.{FunctionTree, function_tree, program_tree};
+ghost use Rattle.csub_semantics.specs.Syntax.{program_tree};
 ghost use Rattle.csub_semantics.specs.Flows.{point_list};
 ghost use Rattle.flow_graph.specs.Graph.{IsGraphOf};
-ghost use Rattle.csub_validity.specs.Valid.{objects_of};
-ghost use Rattle.csub_flat.specs.Frames.{objects_size, frame_size, globals_of};
+ghost use Rattle.csub_flat.specs.Frames.{frame_size, globals_of};
 ghost use Rattle.csub_flat.specs.Globals.{AreSlotsOf};
+ghost use Rattle.csub_flat.specs.Objects.{AreFramesOf};
 ghost use Rattle.csub_flat.specs.Scopes.{program_at, function_at};
 ghost use Rattle.csub_flat.specs.Fits.{FitsCall, FitsLabel};
 ghost use Rattle.csub_flat.specs.Flatten.{temp_slot};
@@ -17,12 +17,12 @@ ghost use Rattle.csub_flat.specs.Seen.{call_seen, label_seen};
 use crate::choices::{Choices, list_choices};
 use crate::flat::{FlatCall, FlatLabel};
 use crate::flatten::{flatten_args, flatten_expr, flatten_temporary, temporary_slot};
+use crate::frame::{Frame, frame_slots, list_frames};
 use crate::globals::{globals_size, number_globals};
 use crate::inits::flatten_begin;
-use crate::places::{locals_size, params_size};
 use crate::scope::Scope;
 use csub_core::Program;
-use csub_semantics::{Answer, CallLabel, Function, IntKind, Label, Text};
+use csub_semantics::{Answer, CallLabel, IntKind, Label, Text};
 use flow_graph::Graph;
 use std::alloc::{AllocError, Global};
 use std::collections::BTreeMap;
@@ -45,23 +45,6 @@ pub struct FlatProgram {
     pub choices: Choices,
     /// How many slots a run takes.
     pub sizes: Sizes,
-}
-
-/// How many slots the objects of a function have.
-fn object_slots(function: &Function) -> u32
-    requires { frame_size (function_tree function.now) ≤ 4096 }
-    ensures { result ≡ objects_size (objects_of (function_tree function.now)) }
-{
-    params_size(&function.params) + locals_size(&function.locals)
-}
-
-/// How many slots a frame of a function has.
-fn frame_slots(function: &Function) -> u32
-    requires { frame_size (function_tree function.now) ≤ 4096 }
-    ensures value { result ≡ frame_size (function_tree function.now) }
-    ensures small { result ≤ 4096 }
-{
-    object_slots(function) + function.temps
 }
 
 /// The slot of the temporary that takes a result.
@@ -90,9 +73,15 @@ fn flatten_call(
     };
     let entry = graph.start_of(number);
     let functions = scope.program.functions();
-    let callee = &functions[number as usize];
+    let callee = Scope {
+        program: scope.program,
+        slots: scope.slots,
+        frames: scope.frames,
+        function: &functions[number as usize],
+        frame: &scope.frames[number as usize],
+    };
     let args = flatten_args(alloc, scope, callee, &call.params, &call.args)?;
-    let size = frame_slots(callee);
+    let size = callee.frame.size;
     let temp = flatten_temp(scope, call.temp);
     Ok(FlatCall {
         entry,
@@ -133,26 +122,30 @@ fn flatten_label(
     }
 }
 
-/// The copy of the label of a point, by the slots of the globals. An `Err` is want of memory.
+/// The copy of the label of a point, by the slots of the globals and the frames of the functions. An `Err` is want of
+/// memory.
 fn flatten_point(
     alloc: Global,
     program: &Program,
     graph: &Graph,
     slots: &BTreeMap<Text, u32>,
+    frames: &[Frame],
     point: u32,
 ) -> Result<FlatLabel, AllocError>
     requires graph { IsGraphOf graph.now (program_tree program.now) }
     requires slots { AreSlotsOf (globals_of (program_tree program.now)) slots.now }
+    requires frames { AreFramesOf (program_tree program.now).functions frames.now }
     requires point { point < length (point_list (program_tree program.now)) }
     ensures { IfOk result (λ made. IsCopyAt (program_tree program.now) point (label_seen made)) }
 {
+    let number = graph.function_at(point);
     let functions = program.functions();
-    let function = &functions[graph.function_at(point) as usize];
     let scope = Scope {
         program,
         slots,
-        function,
-        first: object_slots(function),
+        frames,
+        function: &functions[number as usize],
+        frame: &frames[number as usize],
     };
     flatten_label(alloc, graph, scope, graph.label_at(point))
 }
@@ -180,9 +173,9 @@ fn greatest_frame(program: &Program) -> u32
     most
 }
 
-/// The flat copy of a program. An `Err` is want of memory. The work is that of copying the labels, a comparison of names
-/// for each use of an object and object of its function, and for each call and function, and a look-up in an ordered map
-/// for each use of a global and each way out of a switch.
+/// The flat copy of a program. An `Err` is want of memory. The work is that of copying the labels, of putting the
+/// objects of the program and of each function and the ways out of switches into ordered maps, a look-up in such a map
+/// for each use of an object, and a comparison of names for each call and function.
 pub fn flatten_program(
     alloc: Global,
     program: &Program,
@@ -193,9 +186,10 @@ pub fn flatten_program(
 {
     let globals = program.globals();
     let slots = number_globals(alloc, globals)?;
+    let frames = list_frames(alloc, program)?;
     let mut labels = Vec::new(alloc);
     for point in 0..graph.points() {
-        labels.push(flatten_point(alloc, program, graph, &slots, point)?)?;
+        labels.push(flatten_point(alloc, program, graph, &slots, &frames, point)?)?;
     }
     let sizes = Sizes {
         globals: globals_size(globals),

@@ -1,10 +1,11 @@
 //! Where a label stands.
-ghost use Rattle.std.specs.Prelude.{◌≡◌, ◌≤◌};
+ghost use Rattle.std.specs.Prelude.{◌≤◌};
 ghost use Rattle.csub_semantics.specs.Syntax.{program_tree, function_tree};
-ghost use Rattle.csub_validity.specs.Valid.{objects_of};
-ghost use Rattle.csub_flat.specs.Frames.{globals_of, objects_size, frame_size};
+ghost use Rattle.csub_flat.specs.Frames.{globals_of, frame_size};
 ghost use Rattle.csub_flat.specs.Globals.{AreSlotsOf};
+ghost use Rattle.csub_flat.specs.Objects.{IsFrameOf, AreFramesOf};
 
+use crate::frame::Frame;
 use csub_core::Program;
 use csub_semantics::{Function, Text};
 use std::collections::BTreeMap;
@@ -17,11 +18,14 @@ pub struct Scope<'a> {
     pub program: &'a Program,
     /// The slots of the program's globals, by their names.
     pub slots: &'a BTreeMap<Text, u32>,
+    /// The frames of the program's functions, by their numbers.
+    pub frames: &'a [Frame],
     /// The function.
     pub function: &'a Function,
-    /// The slot of the function's first temporary, behind those of its objects.
-    pub first: u32,
+    /// The function's frame.
+    pub frame: &'a Frame,
     ghost numbered: { AreSlotsOf (globals_of (program_tree program.now)) slots.now },
-    ghost behind: { first ≡ objects_size (objects_of (function_tree function.now)) },
+    ghost framed: { AreFramesOf (program_tree program.now).functions frames.now },
+    ghost placed: { IsFrameOf (function_tree function.now) frame.now },
     ghost small: { frame_size (function_tree function.now) ≤ 4096 },
 }

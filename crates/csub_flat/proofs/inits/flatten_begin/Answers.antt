@@ -16,5 +16,4 @@ flatten_init-requires-clause-room c =
     let room = object_room f c.in-Local.name c.in-Local.number begun.0.0 (type_tree c.args.ctype.now) begun.0.1 in
     let few = c.args.scope.small in
     let slot = c.object_slot-slot.ensures in
-    let name = c.bytes.ensures in
-    omega (arith, rw name at slot)
+    omega arith

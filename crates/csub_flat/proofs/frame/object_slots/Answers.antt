@@ -2,7 +2,7 @@ use Rattle.std.proofs.Common.{◌≡◌, ◌≤◌, map, rules, arith}
 use Rattle.csub_semantics.specs.Syntax.{local_tree}
 use Rattle.csub_flat.specs.Frames.{objects_size, as_object}
 use Rattle.csub_flat.proofs.Slots.{size_objects}
-use Rattle.csub_flat.proofs.program.object_slots.Goals as goal
+use Rattle.csub_flat.proofs.frame.object_slots.Goals as goal
 
 pub params_size-requires : goal.params_size-requires
 params_size-requires c =
