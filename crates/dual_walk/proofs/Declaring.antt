@@ -1,4 +1,4 @@
--- In a valid program each name in a label stands with the type of its declaration.
+-- In a valid program each name in a label stands with the type of its declaration, and each tag with the members of its own.
 use Rattle.std.proofs.Common.{ℕ, suc, ◌≡◌, ◌<◌, ◌+◌, List, [], ◌∷◌, ◌++◌, ◌∙◌, map, Bool, true, false, cond, ◌&&◌, nat_eq, All, AllPairs, Option, Some, None, find, option_map, refl, sym, ap, subst, arith}
 use Rattle.std.specs.List.{flat_map}
 use Rattle.std.specs.Option.{option_and_then}
@@ -6,7 +6,7 @@ use Rattle.std.proofs.lemmas.Bool.{eqb-true, and_parts}
 use Rattle.std.proofs.lemmas.List.Elements.{All-nil, All-cons, All-head, All-tail, All-append, All-map}
 use Rattle.std.proofs.lemmas.Option.{slice_get_within, slice_get-get_or, get_or_from_slice_get}
 use Rattle.csub_types.specs.declared.kind.IntKind.{IntKind}
-use Rattle.csub_objects.specs.Types.{Name, TypeTree, MemberTree}
+use Rattle.csub_objects.specs.Types.{Name, TypeTree, MemberTree, members_of}
 use Rattle.csub_semantics.specs.Types.{name_eq}
 use Rattle.csub_semantics.specs.Trees.{OwnerTree, global_owner, local_owner, Variable, object, temporary, NamedPlace, variable, element_place, member_place, NamedExpr, constant, reading, unary_operation, conversion, stepping, operation, conjunction, disjunction, choice, assignment, update, input_byte, output_byte, formatted, NamedExprs, no_expr, more_exprs, NamedArg, value_argument, array_argument}
 use Rattle.csub_semantics.specs.Labels.{LabelTree, evaluates, initialises, branches, switches, returns, halts, calls, PointLabel, CallTree, AnswerTree, InitTree, one_value, listed, InitTrees, no_init, more_inits}
@@ -24,9 +24,10 @@ use Rattle.program_laws.proofs.LawsStanding.{IsPoint, node_is}
 use Rattle.program_laws.proofs.LawsFlows.{labelled_at}
 use Rattle.flow_graph.specs.Graph.{Tables, HasProgram}
 use Rattle.edge_label.specs.declared.standing.Standing.{Standing}
-use Rattle.edge_label.specs.Uses.{an_object, a_callee, TypeUse, parameters_type, variable_uses, place_uses, expr_uses, exprs_uses, arg_uses, init_uses, inits_uses, answer_uses, label_uses, Declarations, declared_type, IsDeclared, AreDeclared, standing_tree}
+use Rattle.edge_label.specs.Uses.{an_object, a_callee, TypeUse, parameters_type, variable_uses, place_uses, expr_uses, exprs_uses, arg_uses, init_uses, inits_uses, answer_uses, label_uses, Declarations, IsDeclaredUse, IsDeclared, AreTagged, AreDeclared, standing_tree}
 use Rattle.dual_walk.specs.LabelRows.{StandsAt, AreLabelsOf}
 use Rattle.dual_walk.proofs.LawsNumbers.{site_within, found_at}
+use Rattle.dual_walk.proofs.Tagging.{all_right, declared_members, global_tagged, object_tagged, function_tagged}
 
 -- what a program declares
 abbrev declarations : ProgramTree → Declarations
@@ -34,12 +35,8 @@ declarations P = record {
   file_type = global_type P.globals;
   own_type = λ f a n. option_and_then (λ (g : FunctionTree). type_in (objects_of g) a n) (option_and_then (function_of P) (name_at P f));
   parameters = λ a. option_map (λ (g : FunctionTree). parameters_type g.params) (function_of P a);
+  by_tag = declared_members P;
 }
-
--- what holds of two lists holds of the second
-all_right : {X : Type 0} (Q : X → Type 0) (xs ys : List X) → All Q (xs ++ ys) → All Q ys
-all_right Q [] ys h = h
-all_right Q (x ∷ xs) ys h = all_right Q xs ys (All-tail Q x (xs ++ ys) h)
 
 -- what holds of pairs of a list
 module _ {X : Type 0} (R : X → X → Type 0) (x : X) (xs : List X) where
@@ -75,10 +72,10 @@ type_behind (o ∷ os) vs a n t pairs e = pick (is_named a n o) refl (type_behin
     pick false is later = later
 
 -- a function of a program, by its number
-module _ (P : ProgramTree) (k : ℕ) (f : FunctionTree) (own : (a : Name) (n : ℕ) → (declarations P).own_type k a n ≡ type_in (objects_of f) a n) where
-  -- a name stands with its declared type there
+module _ (P : ProgramTree) (valid : IsValid P) (k : ℕ) (b : Name) (f : FunctionTree) (is : function_of P b ≡ Some f) (own : (a : Name) (n : ℕ) → (declarations P).own_type k a n ≡ type_in (objects_of f) a n) where
+  -- a name stands with its declared type there, and the structs in it have their declared members
   abbrev HasItsType : TypeUse → Type 0
-  HasItsType u = declared_type (declarations P) k u.named ≡ Some u.ctype
+  HasItsType = IsDeclaredUse (declarations P) k
 
   abbrev HaveTheirTypes : List TypeUse → Type 0
   HaveTheirTypes uses = All HasItsType uses
@@ -92,18 +89,21 @@ module _ (P : ProgramTree) (k : ℕ) (f : FunctionTree) (own : (a : Name) (n : �
 
   -- validity lets an object stand with its declared type alone
   object_declared : (owner : OwnerTree) (t : TypeTree) → IsObject P.globals (objects_of f) owner t → HasItsType (record { named = an_object owner; ctype = t })
-  object_declared (global_owner a) t h = h
-  object_declared (local_owner a n) t h = own a n ∙ h
+  object_declared (global_owner a) t h = (h, global_tagged P valid a t h)
+  object_declared (local_owner a n) t h = (own a n ∙ h, object_tagged P valid b f is a n t h)
 
   -- an initialised object is a local, and no parameter has its name and its number
   local_declared : (owner : OwnerTree) (t : TypeTree) → AllPairs AreOther (objects_of f) → IsObject [] f.locals owner t → HasItsType (record { named = an_object owner; ctype = t })
   local_declared (global_owner a) t pairs h = absurd cc
-  local_declared (local_owner a n) t pairs h = own a n ∙ type_behind (map parameter_object f.params) f.locals a n t pairs h
+  local_declared (local_owner a n) t pairs h = object_declared (local_owner a n) t (type_behind (map parameter_object f.params) f.locals a n t pairs h)
 
   -- and a callee with its own parameters
-  callee_declared : (o : Option FunctionTree) (c : CallTree) → IsDefinedAs o c → option_map (λ (g : FunctionTree). parameters_type g.params) o ≡ Some (parameters_type c.params)
-  callee_declared None c h = absurd h
-  callee_declared (Some g) c h = ap (λ (ms : List MemberTree). Some (parameters_type ms)) h.0
+  callee_declared : (o : Option FunctionTree) (c : CallTree) → function_of P c.callee ≡ o → IsDefinedAs o c → HasItsType (record { named = a_callee c.callee; ctype = parameters_type c.params })
+  callee_declared None c e h = absurd h
+  callee_declared (Some g) c e h = (
+    ap (option_map (λ (f : FunctionTree). parameters_type f.params)) e ∙ ap (λ (ms : List MemberTree). Some (parameters_type ms)) h.0,
+    subst (λ (ms : List MemberTree). AreTagged (declared_members P) (members_of ms)) h.0 (function_tagged P valid c.callee g e),
+  )
 
   module _ (p : PartTree) (j : ℕ) where
     abbrev sc : Scope
@@ -171,7 +171,7 @@ module _ (P : ProgramTree) (k : ℕ) (f : FunctionTree) (own : (a : Name) (n : �
 
     call_declared : (c : CallTree) → IsCall P sc f.temps j c → HaveTheirTypes (label_uses (calls c))
     call_declared c h =
-        All-cons HasItsType (record { named = a_callee c.callee; ctype = parameters_type c.params }) (flat_map arg_uses c.args) (callee_declared (function_of P c.callee) c h.defined) (args_declared c.params c.args h.args)
+        All-cons HasItsType (record { named = a_callee c.callee; ctype = parameters_type c.params }) (flat_map arg_uses c.args) (callee_declared (function_of P c.callee) c refl h.defined) (args_declared c.params c.args h.args)
 
     initialised_declared : (owner : OwnerTree) (t : TypeTree) (init : InitTree) → AllPairs AreOther (objects_of f) → IsInitialised f sc j owner t init → HaveTheirTypes (label_uses (initialises owner t init))
     initialised_declared owner t init pairs h =
@@ -223,8 +223,8 @@ label_declared P valid place standing is =
     let s = at.stands in
     let own = own_objects P standing.function place.function s.function is.function s.defined in
     let pairs = objects_differ P valid place.function s.function s.defined in
-    subst (λ (l : LabelTree). All (HasItsType P standing.function s.function own) (label_uses l)) (ap (λ (l : PointLabel). l.tree) at.is)
-    (node_declared P standing.function s.function own pairs (IsPoint (function_nodes s.function)) s.node.point s.node.label s.node.ways (node_is P place.function place.point valid s))
+    subst (λ (l : LabelTree). All (IsDeclaredUse (declarations P) standing.function) (label_uses l)) (ap (λ (l : PointLabel). l.tree) at.is)
+    (node_declared P valid standing.function place.function s.function s.defined own pairs (IsPoint (function_nodes s.function)) s.node.point s.node.label s.node.ways (node_is P place.function place.point valid s))
 
 -- and so in the labels of all points of a graph
 pub labels_declared : (g : Tables) (labels : List Standing) → HasProgram g → AreLabelsOf g labels → AreDeclared (map standing_tree labels)

@@ -13,3 +13,4 @@ mod Explaining
 mod Following
 mod Counting
 mod Resting
+mod Tagging

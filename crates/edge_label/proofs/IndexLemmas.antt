@@ -10,8 +10,9 @@ use Rattle.csub_objects.specs.Types.{Name}
 use Rattle.csub_semantics.specs.Types.{name_eq, GlobalTree}
 use Rattle.csub_semantics.specs.Globals.{global_of}
 use Rattle.edge_label.specs.Codes.{global_code}
-use Rattle.edge_label.specs.Tables.{Table, Extends}
-use Rattle.edge_label.proofs.TableLemmas.{kept}
+use Rattle.edge_label.specs.Structs.{Table}
+use Rattle.edge_label.specs.Tables.{Extends}
+use Rattle.edge_label.proofs.ListLemmas.{kept}
 
 -- the number of a name among entries
 abbrev pub number_of : List (Bor (List ℕ) × ℕ) → Name → Option ℕ

@@ -1,5 +1,5 @@
--- Types put back into a bare label: the label whose types have given codes, from left to right.
-use Rattle.std.specs.Prelude.{ℕ, List, [], ◌∷◌, Option, Some, None, drop}
+-- Types put back into a bare label, from left to right.
+use Rattle.std.specs.Prelude.{List, [], ◌∷◌, Option, Some, None, drop}
 use Rattle.std.proofs.Common.{get_or}
 use Rattle.csub_objects.specs.Types.{TypeTree, number_type, array_type, struct_type, loose_type, MemberTree, MemberTrees, no_member, more_members}
 use Rattle.csub_semantics.specs.Trees.{Variable, object, temporary, NamedPlace, variable, element_place, member_place, NamedExpr}
@@ -8,14 +8,15 @@ use Rattle.csub_semantics.specs.Trees.{reading, unary_operation, conversion, ste
 use Rattle.csub_semantics.specs.Trees.{update, input_byte, output_byte, formatted, NamedExprs, no_expr, more_exprs, NamedArg, value_argument, array_argument}
 use Rattle.csub_semantics.specs.Labels.{LabelTree, enters, exits, evaluates, initialises, branches, switches, returns, jumps, halts, calls}
 use Rattle.csub_semantics.specs.Labels.{AnswerTree, CallTree, InitTree, one_value, listed, InitTrees, no_init, more_inits}
-use Rattle.edge_label.specs.Readers.{Taker, just, then, coded_type}
+use Rattle.edge_label.specs.Bare.{no_type}
+use Rattle.edge_label.specs.Readers.{Taker, just, then}
 
--- the codes are taken off the front of a list
+-- the types are taken off the front of a list
 abbrev pub Filler : Type 0 → Type 0
-Filler A = Taker (List ℕ) A
+Filler A = Taker TypeTree A
 
 abbrev pub take_type : Filler TypeTree
-take_type codes = (coded_type (get_or codes 0 []), drop 1 codes)
+take_type types = (get_or types 0 no_type, drop 1 types)
 
 -- the members of a struct
 abbrev pub list_of : MemberTrees → List MemberTree

@@ -7,7 +7,7 @@ use Rattle.csub_objects.specs.Types.{Name}
 use Rattle.csub_semantics.specs.Types.{GlobalTree}
 use Rattle.csub_semantics.specs.Globals.{global_of}
 use Rattle.edge_label.specs.Codes.{global_code}
-use Rattle.edge_label.specs.Tables.{Table}
+use Rattle.edge_label.specs.Structs.{Table}
 
 -- each name of a global has the number that a table has for the first global of that name, and no other name has one
 abbrev pub IsIndex : Table → List GlobalTree → List (Bor (List ℕ) × ℕ) → Type 0

@@ -1,13 +1,19 @@
--- Numbers of types by the names beside which they stand.
-use Rattle.std.specs.Prelude.{◌≡◌, ℕ, zero, suc, List, [], ◌∷◌, Option, Some, None, drop, length, slice_get}
+-- Numbers of types by the names beside which they stand, and of structs by their tags.
+use Rattle.std.specs.Prelude.{◌≡◌, ℕ, zero, suc, List, [], ◌∷◌, Option, Some, None, IsTrue, drop, length, slice_get}
+use Rattle.std.specs.Borrow.{Bor}
+use Rattle.std.specs.Str.{bytes_eq}
+use Rattle.std.specs.Map.{lookup}
 use Rattle.std.specs.List.{All}
-use Rattle.csub_objects.specs.Types.{TypeTree}
+use Rattle.csub_objects.specs.Types.{Name, TypeTree, MemberTrees}
 use Rattle.csub_semantics.specs.Trees.{global_owner, local_owner}
 use Rattle.csub_semantics.specs.Labels.{label_tree}
-use Rattle.edge_label.specs.Codes.{name_code, type_code}
+use Rattle.edge_label.specs.Codes.{name_code}
 use Rattle.edge_label.specs.Numbers.{HasEachOnce}
-use Rattle.edge_label.specs.Tables.{Table, AreNumbers, use_codes}
-use Rattle.edge_label.specs.Uses.{Named, an_object, a_callee, Declarations}
+use Rattle.edge_label.specs.Structs.{Table, HasStruct, IsStructTable}
+use Rattle.edge_label.specs.Tables.{IsTypeNumber, AreTypeNumbers, types_of}
+use Rattle.edge_label.specs.Uses.{Named, an_object, a_callee, Tags, Declarations}
+use Rattle.edge_label.specs.declared.structs.TagNumbers.{TagNumbers}
+use Rattle.edge_label.specs.declared.table.Tables.{Tables}
 use Rattle.edge_label.specs.declared.types.Typed.{Typed}
 
 -- what tells a name in a function from others: an object of file scope and a callee are the same in each function
@@ -26,17 +32,28 @@ type_at d (suc zero ∷ f ∷ n ∷ name) = d.own_type f (drop 1 name) n
 type_at d (suc (suc k) ∷ name) = d.parameters (drop 1 name)
 
 -- the number is that of the declared type of the name with a code
-pub record IsNumberOf (table : Table) (d : Declarations) (name : List ℕ) (number : ℕ) : Type 0 where
+pub record IsNumberOf (tables : Tables) (d : Declarations) (name : List ℕ) (number : ℕ) : Type 0 where
   pub ctype : TypeTree
   pub declared : type_at d name ≡ Some ctype
-  pub stands : slice_get table number ≡ Some (type_code ctype)
+  pub stands : IsTypeNumber tables number ctype
 
 -- names by their codes, and by each of them the number of its type
-pub record AreKnown (table : Table) (d : Declarations) (names : Table) (numbers : List ℕ) : Type 0 where
+pub record AreKnown (tables : Tables) (d : Declarations) (names : Table) (numbers : List ℕ) : Type 0 where
   pub once : HasEachOnce names
   pub as_many : length numbers ≡ length names
-  pub each : (p number : ℕ) (name : List ℕ) → slice_get names p ≡ Some name → slice_get numbers p ≡ Some number → IsNumberOf table d name number
+  pub each : (p number : ℕ) (name : List ℕ) → slice_get names p ≡ Some name → slice_get numbers p ≡ Some number → IsNumberOf tables d name number
 
 -- each label has the numbers of its types
-abbrev pub AreTyped : Table → List Typed → Type 0
-AreTyped table rows = All (λ t. AreNumbers table t.types.items (use_codes (label_tree t.label.now))) rows
+abbrev pub AreTyped : Tables → List Typed → Type 0
+AreTyped tables rows = All (λ t. AreTypeNumbers tables t.types.items (types_of (label_tree t.label.now))) rows
+
+-- each tag among entries has the number of the struct with the members that it is declared with
+abbrev pub AreOfTags : Table → Tags → List (Bor (List ℕ) × ℕ) → Type 0
+AreOfTags structs by_tag entries =
+    (tag : Name) (s : ℕ) → lookup (λ key. bytes_eq tag key.now) entries ≡ Some s
+    → (ms : MemberTrees) × (by_tag tag ≡ Some ms) × HasStruct structs s tag ms
+
+-- a table of structs, and numbers of structs by their tags, where these are trusted
+pub record AreStructs (by_tag : Tags) (structs : Table) (tags : TagNumbers) : Type 0 where
+  pub table : IsStructTable structs
+  pub numbers : IsTrue tags.trusted → AreOfTags structs by_tag tags.by_tag.entries

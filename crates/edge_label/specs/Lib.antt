@@ -7,5 +7,6 @@ pub mod Numbers
 pub mod ReadBack
 pub mod Readers
 pub mod Stored
+pub mod Structs
 pub mod Tables
 pub mod Uses

@@ -1,19 +1,18 @@
--- How a book keeps labels: a table has codes, each once, and the code of a label is that of the bare label, with the numbers
--- behind it that its types and its globals have in the table.
-use Rattle.std.specs.Prelude.{◌≡◌, ℕ, List, [], ◌++◌, Some, map, slice_get}
+-- How a book keeps labels: one table has structs, another one types and globals, each once, and the code of a label is that of the
+-- bare label, with the numbers behind it that its types and its globals have in the second table.
+use Rattle.std.specs.Prelude.{◌≡◌, ◌-◌, ℕ, List, [], ◌++◌, Some, map, length, drop, slice_get}
 use Rattle.std.specs.List.{All}
 use Rattle.std.proofs.Common.{get_or}
+use Rattle.csub_objects.specs.Types.{TypeTree}
 use Rattle.csub_semantics.specs.Labels.{LabelTree, PointLabel}
 use Rattle.edge_label.specs.Bare.{bare_label}
-use Rattle.edge_label.specs.Codes.{type_code, global_code, label_code}
+use Rattle.edge_label.specs.Codes.{global_code, label_code}
 use Rattle.edge_label.specs.Fills.{fill_label}
 use Rattle.edge_label.specs.Readers.{read_tree, coded_global}
 use Rattle.edge_label.specs.Numbers.{HasNumber, KeepsNumbers, AddsOnly, HasEachOnce}
+use Rattle.edge_label.specs.Structs.{Table, IsStructTable, IsTypeCode, AreTypeCodes, type_in}
+use Rattle.edge_label.specs.declared.table.Tables.{Tables}
 use Rattle.edge_label.specs.Uses.{TypeUse, label_uses}
-
--- codes by their numbers
-abbrev pub Table : Type 0
-Table = List (List ℕ)
 
 -- numbers stay, and there may be more
 abbrev pub Extends : Table → Table → Type 0
@@ -29,45 +28,72 @@ pub record AppendsNumbers (table : Table) (codes : List (List ℕ)) (old new : L
   pub appended : new ≡ old ++ numbers
   pub are : AreNumbers table numbers codes
 
--- the code of the type beside a name
-abbrev pub use_code : TypeUse → List ℕ
-use_code u = type_code u.ctype
+-- so in both tables of a book
+pub record Extend (old new : Tables) : Type 0 where
+  pub structs : Extends old.structs new.structs
+  pub parts : Extends old.parts new.parts
 
-abbrev pub use_codes : LabelTree → List (List ℕ)
-use_codes tree = map use_code (label_uses tree)
+-- the tables of a book: one of structs, and one in which nothing stands twice
+pub record AreTables (tables : Tables) : Type 0 where
+  pub structs : IsStructTable tables.structs
+  pub parts : HasEachOnce tables.parts
 
--- the codes of a label's types and globals
-abbrev pub parts_of : PointLabel → List (List ℕ)
-parts_of label = use_codes label.tree ++ map global_code label.globals
+-- the type beside a name
+abbrev pub use_type : TypeUse → TypeTree
+use_type u = u.ctype
+
+-- the types of a label, from left to right
+abbrev pub types_of : LabelTree → List TypeTree
+types_of tree = map use_type (label_uses tree)
+
+-- this is the number of this type: its code stands there, with numbers in the place of structs
+pub record IsTypeNumber (tables : Tables) (number : ℕ) (t : TypeTree) : Type 0 where
+  pub code : List ℕ
+  pub is : IsTypeCode tables.structs t code
+  pub stands : slice_get tables.parts number ≡ Some code
+
+-- these are the numbers of these types
+pub record AreTypeNumbers (tables : Tables) (numbers : List ℕ) (types : List TypeTree) : Type 0 where
+  pub codes : List (List ℕ)
+  pub are : AreTypeCodes tables.structs types codes
+  pub stand : AreNumbers tables.parts numbers codes
 
 -- the codes that stand at some numbers
 abbrev pub codes_at : Table → List ℕ → List (List ℕ)
 codes_at table numbers = map (λ n. get_or table n []) numbers
 
--- the label that a code stands for: the types are put back into the bare label, and what is left are its globals
-unfoldable pub label_in : Table → List ℕ → PointLabel
-label_in table code =
+-- the last n of a list
+abbrev pub last_of : {A : Type 0} → ℕ → List A → List A
+last_of n xs = drop (length xs - n) xs
+
+-- The label that a code stands for. The types are put back into the bare label; what is left of them is read from the codes of its
+-- globals, so there are as many of these, at the end.
+unfoldable pub label_in : Tables → List ℕ → PointLabel
+label_in tables code =
     let read = read_tree code in
-    let filled = fill_label read.0 (codes_at table read.1) in
-    record { tree = filled.0; globals = map coded_global filled.1 }
+    let codes = codes_at tables.parts read.1 in
+    let filled = fill_label read.0 (map (type_in tables.structs) codes) in
+    record { tree = filled.0; globals = map coded_global (last_of (length filled.1) codes) }
 
 -- a list is the code of a label
-abbrev pub IsCode : Table → PointLabel → List ℕ → Type 0
-IsCode table label code = AppendsNumbers table (parts_of label) (label_code (bare_label label.tree)) code
+pub record IsCode (tables : Tables) (label : PointLabel) (code : List ℕ) : Type 0 where
+  pub codes : List (List ℕ)
+  pub are : AreTypeCodes tables.structs (types_of label.tree) codes
+  pub written : AppendsNumbers tables.parts (codes ++ map global_code label.globals) (label_code (bare_label label.tree)) code
 
--- a book over a table, by the codes of its labels
-pub record IsBook (table : Table) (codes : List (List ℕ)) : Type 0 where
-  pub once : HasEachOnce table
-  pub written : All (λ code. IsCode table (label_in table code) code) codes
+-- a book over tables, by the codes of its labels
+pub record IsBook (tables : Tables) (codes : List (List ℕ)) : Type 0 where
+  pub sound : AreTables tables
+  pub written : All (λ code. IsCode tables (label_in tables code) code) codes
 
 -- the label has this number, and no other, among the codes and at most one more
-pub record IsInterned (table : Table) (codes new : List (List ℕ)) (n : ℕ) (label : PointLabel) : Type 0 where
-  pub book : IsBook table new
-  pub number : HasNumber (map (label_in table) new) n label
-  pub only : (m : ℕ) → HasNumber (map (label_in table) new) m label → m ≡ n
-  pub adds_only : AddsOnly (map (label_in table) codes) (map (label_in table) new) label
+pub record IsInterned (tables : Tables) (codes new : List (List ℕ)) (n : ℕ) (label : PointLabel) : Type 0 where
+  pub book : IsBook tables new
+  pub number : HasNumber (map (label_in tables) new) n label
+  pub only : (m : ℕ) → HasNumber (map (label_in tables) new) m label → m ≡ n
+  pub adds_only : AddsOnly (map (label_in tables) codes) (map (label_in tables) new) label
 
 -- the codes are those of a book in which no number has changed its label
-pub record Grows (table : Table) (codes new : List (List ℕ)) : Type 0 where
-  pub book : IsBook table new
-  pub keeps : KeepsNumbers (map (label_in table) codes) (map (label_in table) new)
+pub record Grows (tables : Tables) (codes new : List (List ℕ)) : Type 0 where
+  pub book : IsBook tables new
+  pub keeps : KeepsNumbers (map (label_in tables) codes) (map (label_in tables) new)

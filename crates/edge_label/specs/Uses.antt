@@ -1,8 +1,9 @@
 -- The types that a label writes beside names: beside an object its type, and beside a callee those of its parameters. In a
--- program a name stands with one type, that of its declaration.
+-- program a name stands with one type, that of its declaration, and a tag with the members of its own.
 use Rattle.std.specs.Prelude.{ℕ, ◌≡◌, List, [], ◌∷◌, ◌++◌, map, Option, Some, None}
 use Rattle.std.specs.List.{All, flat_map}
-use Rattle.csub_objects.specs.Types.{Name, TypeTree, struct_type, MemberTree, members_of}
+use Rattle.csub_objects.specs.Types.{Name, TypeTree, number_type, array_type, struct_type, loose_type}
+use Rattle.csub_objects.specs.Types.{MemberTree, MemberTrees, no_member, more_members, members_of}
 use Rattle.csub_objects.specs.Meaning.{type_tree, member_tree}
 use Rattle.csub_semantics.specs.Trees.{OwnerTree, global_owner, local_owner, Variable, object, temporary, owner_tree}
 use Rattle.csub_semantics.specs.Trees.{NamedPlace, variable, element_place, member_place, NamedExpr}
@@ -98,12 +99,18 @@ named_names (a_callee a) = []
 abbrev pub use_names : TypeUse → List Name
 use_names u = named_names u.named
 
+-- members of structs by their tags
+abbrev pub Tags : Type 0
+Tags = Name → Option MemberTrees
+
 -- what is declared in a program: the types of the objects of file scope by their names, those of a function's own objects
--- by the number of the function, their name and their number among those of the name, and of functions their parameters
+-- by the number of the function, their name and their number among those of the name, of functions their parameters, and of
+-- structs the members by their tags
 pub record Declarations : Type 0 where
   pub file_type : Name → Option TypeTree
   pub own_type : ℕ → Name → ℕ → Option TypeTree
   pub parameters : Name → Option TypeTree
+  pub by_tag : Tags
 
 -- the type of a name in a function
 abbrev pub declared_type : Declarations → ℕ → Named → Option TypeTree
@@ -111,14 +118,41 @@ declared_type d f (an_object (global_owner a)) = d.file_type a
 declared_type d f (an_object (local_owner a n)) = d.own_type f a n
 declared_type d f (a_callee a) = d.parameters a
 
+-- each struct in a type, or in members, has the members that its tag is declared with
+abbrev mutual
+  pub IsTagged : Tags → TypeTree → Type 0
+  IsTagged by_tag (number_type k) = Unit {0}
+  IsTagged by_tag (array_type t n) = IsTagged by_tag t
+  IsTagged by_tag (struct_type tag ms) = (by_tag tag ≡ Some ms) × AreTagged by_tag ms
+  IsTagged by_tag (loose_type t) = IsTagged by_tag t
+
+  pub AreTagged : Tags → MemberTrees → Type 0
+  AreTagged by_tag no_member = Unit {0}
+  AreTagged by_tag (more_members x t rest) = IsTagged by_tag t × AreTagged by_tag rest
+
+abbrev pub struct_members : TypeTree → MemberTrees
+struct_members (number_type k) = no_member
+struct_members (array_type t n) = no_member
+struct_members (struct_type tag ms) = ms
+struct_members (loose_type t) = no_member
+
+-- so in the type beside an object, and in those of the parameters of a callee, which are a struct without a tag
+abbrev pub HasTags : Tags → Named → TypeTree → Type 0
+HasTags by_tag (an_object owner) t = IsTagged by_tag t
+HasTags by_tag (a_callee a) t = AreTagged by_tag (struct_members t)
+
+-- a name in a function stands with the type of its declaration, and each struct there with the members of its own
+abbrev pub IsDeclaredUse : Declarations → ℕ → TypeUse → Type 0
+IsDeclaredUse d f u = (declared_type d f u.named ≡ Some u.ctype) × HasTags d.by_tag u.named u.ctype
+
 -- a label, and the number of the function in which it stands
 pub record StandingTree : Type 0 where
   pub function : ℕ
   pub tree : LabelTree
 
--- each name in a label stands with the type of its declaration
+-- each name in a label is declared so
 abbrev pub IsDeclared : Declarations → StandingTree → Type 0
-IsDeclared d s = All (λ u. declared_type d s.function u.named ≡ Some u.ctype) (label_uses s.tree)
+IsDeclared d s = All (IsDeclaredUse d s.function) (label_uses s.tree)
 
 abbrev pub AreDeclared : List StandingTree → Type 0
 AreDeclared labels = (d : Declarations) × All (IsDeclared d) labels

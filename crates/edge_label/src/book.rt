@@ -5,7 +5,8 @@ ghost use Rattle.csub_semantics.specs.Labels.{label_tree, PointLabel};
 ghost use Rattle.edge_label.specs.Numbers.{HasNumber, HaveNumbers, KeepsNumbers, AddsOnly, whole};
 ghost use Rattle.edge_label.specs.Indices.{IsIndex};
 ghost use Rattle.edge_label.specs.Known.{AreTyped};
-ghost use Rattle.edge_label.specs.Tables.{Table, AreNumbers, use_codes, label_in, IsCode, IsBook, IsInterned, Grows};
+ghost use Rattle.edge_label.specs.Tables.{AreTypeNumbers, types_of, label_in, IsCode, IsBook, IsInterned, Grows};
+ghost use Rattle.edge_label.specs.declared.table.Tables.{Tables};
 ghost use Rattle.edge_label.specs.Uses.{AreDeclared, standing_tree};
 
 use crate::code::push_label;
@@ -13,7 +14,7 @@ use crate::globals::{GlobalNumbers, number_globals, push_numbers};
 use crate::names::global_names;
 use crate::standing::Standing;
 use crate::steps::Steps;
-use crate::table::CodeTable;
+use crate::table::{CodeTable, Tables};
 use crate::types::{Typed, number_all_types, number_types};
 use csub_semantics::{GlobalVar, Label};
 use indexmap::IndexSet;
@@ -25,7 +26,7 @@ use std::sync::ledger::Ledger;
 #[derive(Drop)]
 pub struct LabelBook {
     alloc: Global,
-    table: CodeTable,
+    tables: Tables,
     codes: IndexSet<Vec<u64>>,
 }
 
@@ -39,9 +40,9 @@ impl Model for LabelBook {
 
     ghost coded = { stored_labels };
 
-    ghost view = { λ book. map (label_in book.table) (map (λ code. code.items) book.codes.keys) };
+    ghost view = { λ book. map (label_in book.tables) (map (λ code. code.items) book.codes.keys) };
 
-    ghost invariant = { λ book. IsBook book.table (map (λ code. code.items) book.codes.keys) };
+    ghost invariant = { λ book. IsBook book.tables (map (λ code. code.items) book.codes.keys) };
 }
 
 impl LabelBook {
@@ -51,7 +52,10 @@ impl LabelBook {
     {
         LabelBook {
             alloc,
-            table: CodeTable::new(alloc),
+            tables: Tables {
+                structs: CodeTable::new(alloc),
+                parts: CodeTable::new(alloc),
+            },
             codes: IndexSet::new(alloc),
         }
     }
@@ -60,7 +64,8 @@ impl LabelBook {
     /// has, or the next one. An `Err` is want of memory or of numbers, of which there are 2^32 - 1; the labels are then
     /// as before.
     ///
-    /// It goes over the contents of all globals. Whoever numbers more than one label calls [`LabelBook::intern_all`].
+    /// It goes over the contents of all globals, and over the members of each struct wherever it stands. Whoever numbers
+    /// more than one label calls [`LabelBook::intern_all`].
     pub fn intern(&mut self, label: &Label, globals: &[GlobalVar]) -> Result<u32, AllocError>
         ensures number { IfOk result (λ n. HasNumber self.new n (whole (map global_tree globals.now) (label_tree label.now))) }
         ensures only { IfOk result (λ n. (m : ℕ) → HasNumber self.new m (whole (map global_tree globals.now) (label_tree label.now)) → m ≡ n) }
@@ -70,14 +75,16 @@ impl LabelBook {
         ensures grows { length self.old ≤ length self.new }
         ensures err { OnErr result (self.new ≡ self.old) }
     {
-        let types = number_types(self.alloc, &mut self.table, label)?;
-        let numbers = number_globals(self.alloc, &mut self.table, globals)?;
+        let types = number_types(self.alloc, &mut self.tables, label)?;
+        let numbers = number_globals(self.alloc, &mut self.tables.parts, globals)?;
         intern_code(self.alloc, &mut self.codes, label, &types, &numbers)
     }
 
     /// The numbers of the whole labels of a program, in the order of the labels, as [`LabelBook::intern`] gives them. The
-    /// contents of the globals are gone over once, and a type once for each name in a function; beside that it takes a
-    /// look-up for each object and each callee that a label names. At an `Err` some of the labels may have got a number.
+    /// contents of the globals are gone over once, the members of a struct once for each tag, the parameters of a callee
+    /// once, and the type of an object once for each name in a function, where each struct takes a look-up of its tag;
+    /// beside that it takes a look-up for each object and each callee that a label names. At an `Err` some of the labels
+    /// may have got a number.
     pub fn intern_all(
         &mut self,
         labels: &[Standing<'_>],
@@ -87,8 +94,8 @@ impl LabelBook {
         ensures numbers { IfOk result (λ row. HaveNumbers self.new row.items (map (λ s. whole (map global_tree globals.now) (label_tree s.label.now)) labels.now)) }
         ensures keeps { KeepsNumbers self.old self.new }
     {
-        let typed = number_all_types(self.alloc, &mut self.table, labels)?;
-        let numbers = number_globals(self.alloc, &mut self.table, globals)?;
+        let typed = number_all_types(self.alloc, &mut self.tables, labels)?;
+        let numbers = number_globals(self.alloc, &mut self.tables.parts, globals)?;
         intern_codes(self.alloc, &mut self.codes, &typed, &numbers)
     }
 
@@ -112,8 +119,8 @@ fn code_of(
     types: &[u64],
     numbers: &GlobalNumbers<'_>,
 ) -> Result<Vec<u64>, AllocError>
-    ensures { IfOk result (λ code. (table : Table) (globals : List GlobalTree) → AreNumbers table types.now (use_codes (label_tree label.now)) →
-        IsIndex table globals numbers.now.by_name.entries → IsCode table (whole globals (label_tree label.now)) code.items) }
+    ensures { IfOk result (λ code. (tables : Tables) (globals : List GlobalTree) → AreTypeNumbers tables types.now (types_of (label_tree label.now)) →
+        IsIndex tables.parts globals numbers.now.by_name.entries → IsCode tables (whole globals (label_tree label.now)) code.items) }
 {
     let names = global_names(alloc, label)?;
     let mut code = Vec::new(alloc);
@@ -132,9 +139,9 @@ fn intern_code(
     types: &[u64],
     numbers: &GlobalNumbers<'_>,
 ) -> Result<u32, AllocError>
-    ensures interned { IfOk result (λ n. (table : Table) (globals : List GlobalTree) → AreNumbers table types.now (use_codes (label_tree label.now)) →
-        IsIndex table globals numbers.now.by_name.entries → IsBook table (map (λ code. code.items) codes.old.keys) →
-        IsInterned table (map (λ code. code.items) codes.old.keys) (map (λ code. code.items) codes.new.keys) n (whole globals (label_tree label.now))) }
+    ensures interned { IfOk result (λ n. (tables : Tables) (globals : List GlobalTree) → AreTypeNumbers tables types.now (types_of (label_tree label.now)) →
+        IsIndex tables.parts globals numbers.now.by_name.entries → IsBook tables (map (λ code. code.items) codes.old.keys) →
+        IsInterned tables (map (λ code. code.items) codes.old.keys) (map (λ code. code.items) codes.new.keys) n (whole globals (label_tree label.now))) }
     ensures err { OnErr result (codes.new.keys ≡ codes.old.keys) }
 {
     if codes.len() >= 4_294_967_295 {
@@ -152,12 +159,12 @@ fn intern_codes(
     labels: &[Typed<'_>],
     numbers: &GlobalNumbers<'_>,
 ) -> Result<Vec<u32>, AllocError>
-    ensures numbers { IfOk result (λ row. (table : Table) (globals : List GlobalTree) → AreTyped table labels.now →
-        IsIndex table globals numbers.now.by_name.entries → IsBook table (map (λ code. code.items) codes.old.keys) →
-        HaveNumbers (map (label_in table) (map (λ code. code.items) codes.new.keys)) row.items (map (λ t. whole globals (label_tree t.label.now)) labels.now)) }
-    ensures grows { (table : Table) (globals : List GlobalTree) → AreTyped table labels.now →
-        IsIndex table globals numbers.now.by_name.entries → IsBook table (map (λ code. code.items) codes.old.keys) →
-        Grows table (map (λ code. code.items) codes.old.keys) (map (λ code. code.items) codes.new.keys) }
+    ensures numbers { IfOk result (λ row. (tables : Tables) (globals : List GlobalTree) → AreTyped tables labels.now →
+        IsIndex tables.parts globals numbers.now.by_name.entries → IsBook tables (map (λ code. code.items) codes.old.keys) →
+        HaveNumbers (map (label_in tables) (map (λ code. code.items) codes.new.keys)) row.items (map (λ t. whole globals (label_tree t.label.now)) labels.now)) }
+    ensures grows { (tables : Tables) (globals : List GlobalTree) → AreTyped tables labels.now →
+        IsIndex tables.parts globals numbers.now.by_name.entries → IsBook tables (map (λ code. code.items) codes.old.keys) →
+        Grows tables (map (λ code. code.items) codes.old.keys) (map (λ code. code.items) codes.new.keys) }
 {
     let mut row = Vec::new(alloc);
     for typed in labels {

@@ -6,7 +6,6 @@ ghost use Rattle.csub_semantics.specs.Types.{global_tree};
 ghost use Rattle.csub_semantics.specs.Trees.{constant, reading, stepping, variable, object, temporary, owner_tree, place_tree, expr_tree, formatted, exprs_of, arg_tree};
 ghost use Rattle.csub_semantics.specs.Labels.{answer_tree, call_tree, init_tree, inits_of, label_tree};
 ghost use Rattle.edge_label.specs.Bare.{bare_answer, bare_arg, bare_call, bare_expr, bare_exprs, bare_init, bare_inits, bare_label, bare_place, no_type};
-ghost use Rattle.edge_label.specs.Uses.{parameters_type};
 ghost use Rattle.edge_label.specs.Codes.{integer_code, name_code, list_code, option_code, number_code, kind_code, kind_number, unary_number, step_number, operator_number, piece_number, piece_code, rule_number, type_code, members_code, member_code, owner_code, place_code, expr_code, exprs_code, arg_code, answer_code, call_code, init_code, inits_code, label_code, global_code};
 
 use csub_semantics::{
@@ -142,15 +141,6 @@ fn push_temp(out: &mut Vec<u64>, temp: Option<u32>) -> Result<(), AllocError>
     Ok(())
 }
 
-/// Appends the code of the parameters of a function, which is that of a struct without a tag.
-pub fn push_parameters(out: &mut Vec<u64>, params: &[Member]) -> Result<(), AllocError>
-    ensures { OnOk result (out.new.items ≡ out.old.items ++ type_code (parameters_type (map member_tree params.now))) }
-{
-    out.push(2)?;
-    out.push(0)?;
-    push_struct_members(out, params)
-}
-
 /// Appends the code that stands in the place of a type.
 fn push_no_type(out: &mut Vec<u64>) -> Result<(), AllocError>
     ensures { OnOk result (out.new.items ≡ out.old.items ++ type_code no_type) }
@@ -169,7 +159,7 @@ fn push_member(out: &mut Vec<u64>, member: &Member) -> Result<(), AllocError>
 
 /// Appends the code of a type.
 #[cycle(types)]
-pub fn push_type(out: &mut Vec<u64>, ctype: &CType) -> Result<(), AllocError>
+fn push_type(out: &mut Vec<u64>, ctype: &CType) -> Result<(), AllocError>
     ensures { OnOk result (out.new.items ≡ out.old.items ++ type_code (type_tree ctype.now)) }
 {
     match ctype {
@@ -446,7 +436,8 @@ fn push_integer(out: &mut Vec<u64>, value: i64) -> Result<(), AllocError>
     Ok(())
 }
 
-fn kind_number(kind: IntKind) -> u64
+/// The number of a kind.
+pub fn kind_number(kind: IntKind) -> u64
     ensures { result ≡ kind_number kind }
 {
     match kind {

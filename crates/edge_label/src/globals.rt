@@ -5,7 +5,8 @@ ghost use Rattle.csub_semantics.specs.Globals.{globals_of};
 ghost use Rattle.edge_label.specs.Codes.{global_code};
 ghost use Rattle.edge_label.specs.Numbers.{HasEachOnce};
 ghost use Rattle.edge_label.specs.Indices.{IsIndex};
-ghost use Rattle.edge_label.specs.Tables.{Table, Extends, AppendsNumbers};
+ghost use Rattle.edge_label.specs.Structs.{Table};
+ghost use Rattle.edge_label.specs.Tables.{Extends, AppendsNumbers};
 
 use crate::code::push_global;
 use crate::names::NameSet;

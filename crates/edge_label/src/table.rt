@@ -12,6 +12,15 @@ pub struct CodeTable {
     codes: IndexSet<Vec<u64>>,
 }
 
+/// The tables of a book.
+#[derive(Drop)]
+pub struct Tables {
+    /// Structs, with numbers in the place of the structs in the types of their members.
+    pub structs: CodeTable,
+    /// Types, with numbers in the place of structs, and globals.
+    pub parts: CodeTable,
+}
+
 impl Model for CodeTable {
     ghost use Rattle.std.specs.Prelude.{ℕ, List, map};
 

@@ -3,7 +3,8 @@ use Rattle.csub_semantics.specs.Types.{GlobalTree}
 use Rattle.csub_semantics.specs.Globals.{globals_of}
 use Rattle.edge_label.specs.Indices.{IsIndex}
 use Rattle.edge_label.specs.Codes.{global_code}
-use Rattle.edge_label.specs.Tables.{Table, AppendsNumbers}
+use Rattle.edge_label.specs.Structs.{Table}
+use Rattle.edge_label.specs.Tables.{AppendsNumbers}
 use Rattle.edge_label.proofs.globals.push_numbers.Given as goal
 
 -- the numbers of the globals so far are there

@@ -6,36 +6,53 @@ use Rattle.edge_label.specs.declared.standing.Standing.{Standing}
 use Rattle.edge_label.specs.Known.{AreTyped}
 use Rattle.edge_label.specs.Uses.{IsDeclared, standing_tree}
 use Rattle.edge_label.proofs.KnownLemmas.{typed_stays, one_more_typed, mapped_at}
-use Rattle.edge_label.proofs.TableLemmas.{Extends-trans}
+use Rattle.edge_label.proofs.TableLemmas.{Extend-trans}
 use Rattle.edge_label.proofs.types.number_all_types.Goals as goal
 
 pub loop-standing-preserved : goal.loop-standing-preserved
 loop-standing-preserved c =
-    let table = c.type_label.new.table in
+    let tables = c.type_label.new.tables in
     let last = c.in_ok-type_label.field-0 in
     record {
-      typed = λ d declared.
-          let before = c.loop-standing.invariant.typed d declared in
+      typed = λ d declared sound.
+          let before = c.loop-standing.invariant.typed d declared sound in
           let at = mapped_at (IsDeclared d) standing_tree c.args.labels.now c.loop-standing.standing-index c.standing-item.result c.loop-standing-test.true c.standing-item.is declared in
-          let found = c.in_ok-type_label.ensures.found d before.1 at in (
-            subst (AreTyped table) (sym c.in_ok-push.ensures.items)
-                (one_more_typed table c.loop-standing.rows.items last (typed_stays c.loop-standing.table table c.loop-standing.rows.items c.in_ok-type_label.ensures.grows before.0) found.0),
+          let found = c.in_ok-type_label.ensures.found d at (c.loop-standing.invariant.structs d declared sound) before.1 in (
+            subst (AreTyped tables) (sym c.in_ok-push.ensures.items)
+                (one_more_typed tables c.loop-standing.rows.items last (typed_stays c.loop-standing.tables tables c.loop-standing.rows.items c.in_ok-type_label.ensures.grows before.0) found.0),
             found.1,
           );
+      structs = λ d declared sound.
+          let at = mapped_at (IsDeclared d) standing_tree c.args.labels.now c.loop-standing.standing-index c.standing-item.result c.loop-standing-test.true c.standing-item.is declared in
+          c.in_ok-type_label.ensures.structs d at (c.loop-standing.invariant.structs d declared sound);
       labels =
           ap (map (λ (t : Typed). label_tree t.label.now)) c.in_ok-push.ensures.items
           ∙ map-append (λ (t : Typed). label_tree t.label.now) c.loop-standing.rows.items (last ∷ [])
           ∙ ap₂ (λ trees tree. trees ++ tree ∷ []) c.loop-standing.invariant.labels (c.in_ok-type_label.ensures.label ∙ ap (λ (s : Standing). label_tree s.label.now) c.standing-item.is)
           ∙ sym (map_more (λ (s : Standing). label_tree s.label.now) c.args.labels.now c.loop-standing.standing-index c.standing-item.result c.loop-standing-test.true);
-      grows = Extends-trans c.args.table.now c.loop-standing.table table c.loop-standing.invariant.grows c.in_ok-type_label.ensures.grows;
+      grows = Extend-trans c.args.tables.now c.loop-standing.tables tables c.loop-standing.invariant.grows c.in_ok-type_label.ensures.grows;
       once = λ once. c.in_ok-type_label.ensures.once (c.loop-standing.invariant.once once);
     }
 
-pub returns-in_err-type_label-clause-once : goal.returns-in_err-type_label-clause-once
-returns-in_err-type_label-clause-once c = λ once. c.in_err-type_label.ensures.once (c.loop-standing.invariant.once once)
+pub returns-in_err-type_label-clause-sound : goal.returns-in_err-type_label-clause-sound
+returns-in_err-type_label-clause-sound c = λ sound.
+    let d = c.requires.declared.0 in
+    let declared = c.requires.declared.1 in
+    let at = mapped_at (IsDeclared d) standing_tree c.args.labels.now c.loop-standing.standing-index c.standing-item.result c.loop-standing-test.true c.standing-item.is declared in
+    let structs = c.in_err-type_label.ensures.structs d at (c.loop-standing.invariant.structs d declared sound) in
+    record { structs = structs.table; parts = c.in_err-type_label.ensures.once (c.loop-standing.invariant.once sound.parts) }
+
+pub returns-in_err-type_label-clause-grows : goal.returns-in_err-type_label-clause-grows
+returns-in_err-type_label-clause-grows c =
+    Extend-trans c.args.tables.now c.loop-standing.tables c.type_label.new.tables c.loop-standing.invariant.grows c.in_err-type_label.ensures.grows
+
+pub returns-in_err-push-clause-sound : goal.returns-in_err-push-clause-sound
+returns-in_err-push-clause-sound c = λ sound.
+    let d = c.requires.declared.0 in
+    let declared = c.requires.declared.1 in
+    let at = mapped_at (IsDeclared d) standing_tree c.args.labels.now c.loop-standing.standing-index c.standing-item.result c.loop-standing-test.true c.standing-item.is declared in
+    let structs = c.in_ok-type_label.ensures.structs d at (c.loop-standing.invariant.structs d declared sound) in
+    record { structs = structs.table; parts = c.in_ok-type_label.ensures.once (c.loop-standing.invariant.once sound.parts) }
 
 pub returns-in_err-push-clause-grows : goal.returns-in_err-push-clause-grows
-returns-in_err-push-clause-grows c = Extends-trans c.args.table.now c.loop-standing.table c.type_label.new.table c.loop-standing.invariant.grows c.in_ok-type_label.ensures.grows
-
-pub returns-in_err-push-clause-once : goal.returns-in_err-push-clause-once
-returns-in_err-push-clause-once c = λ once. c.in_ok-type_label.ensures.once (c.loop-standing.invariant.once once)
+returns-in_err-push-clause-grows c = Extend-trans c.args.tables.now c.loop-standing.tables c.type_label.new.tables c.loop-standing.invariant.grows c.in_ok-type_label.ensures.grows

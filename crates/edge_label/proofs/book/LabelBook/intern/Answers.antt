@@ -4,72 +4,83 @@ use Rattle.std.proofs.lemmas.Option.{slice_get_within}
 use Rattle.std.proofs.lemmas.Result.{IfOk-weaker, on_err_weaker}
 use Rattle.csub_semantics.specs.Types.{global_tree}
 use Rattle.csub_semantics.specs.Labels.{PointLabel, label_tree}
-use Rattle.edge_label.specs.Numbers.{AddsOnly, HasEachOnce, whole}
-use Rattle.edge_label.specs.Tables.{Extends, AreNumbers, use_codes, IsInterned}
-use Rattle.edge_label.proofs.BookLemmas.{labels, keeps, grows, at_either, still_book, same_labels, unchanged, unchanged_book, adds}
+use Rattle.edge_label.specs.Numbers.{AddsOnly, whole}
+use Rattle.edge_label.specs.declared.table.Tables.{Tables}
+use Rattle.edge_label.specs.Tables.{Extend, AreTables, AreTypeNumbers, types_of, IsInterned}
+use Rattle.edge_label.proofs.BookLemmas.{labels, keeps, grows, at_either, still_book, same_labels, unchanged, unchanged_book, adds, with_parts, parts_extend, parts_sound}
 use Rattle.edge_label.proofs.CodeLemmas.{codes}
-use Rattle.edge_label.proofs.TableLemmas.{Extends-trans, AreNumbers-extends}
+use Rattle.edge_label.proofs.TableLemmas.{Extend-trans, AreTypeNumbers-extends}
 use Rattle.edge_label.proofs.book.LabelBook.intern.Goals as goal
 use Rattle.edge_label.proofs.book.LabelBook.intern.Goals.{After-drop-types-2}
 
 pub invariant_of-self : goal.invariant_of-self
-invariant_of-self c = still_book c.self.inside.table c.number_types.new.table c.self.inside.codes.keys c.in_err-types.ensures.grows c.in_err-types.ensures.once c.self.invariant
+invariant_of-self c = still_book c.self.inside.tables c.number_types.new.tables c.self.inside.codes.keys c.in_err-types.ensures.grows c.in_err-types.ensures.sound c.self.invariant
 
 pub returns-in_err-types-clause-err : goal.returns-in_err-types-clause-err
 returns-in_err-types-clause-err c =
-    let same : labels c.number_types.new.table c.self.inside.codes.keys ≡ c.args.self.now =
-    same_labels c.self.inside.table c.number_types.new.table c.self.inside.codes.keys c.in_err-types.ensures.grows c.in_err-types.ensures.once c.self.invariant ∙ c.self.view_is in
+    let same : labels c.number_types.new.tables c.self.inside.codes.keys ≡ c.args.self.now =
+    same_labels c.self.inside.tables c.number_types.new.tables c.self.inside.codes.keys c.in_err-types.ensures.grows c.in_err-types.ensures.sound c.self.invariant ∙ c.self.view_is in
     search (rules, same)
 
 pub invariant_of-self-in_err-numbers : goal.invariant_of-self-in_err-numbers
 invariant_of-self-in_err-numbers c =
-    still_book c.self.inside.table c.number_globals.new.table c.self.inside.codes.keys
-    (Extends-trans c.self.inside.table c.number_types.new.table c.number_globals.new.table c.in_ok-types.ensures.grows c.in_err-numbers.ensures.grows)
-    (λ once. c.in_err-numbers.ensures.once (c.in_ok-types.ensures.once once)) c.self.invariant
+    let typed = c.number_types.new.tables in
+    let parts = c.number_globals.new.table in
+    still_book c.self.inside.tables (with_parts typed parts) c.self.inside.codes.keys
+    (Extend-trans c.self.inside.tables typed (with_parts typed parts) c.in_ok-types.ensures.grows (parts_extend typed parts c.in_err-numbers.ensures.grows))
+    (λ sound. parts_sound typed parts c.in_err-numbers.ensures.once (c.in_ok-types.ensures.sound sound)) c.self.invariant
 
 pub returns-in_err-numbers-clause-err : goal.returns-in_err-numbers-clause-err
 returns-in_err-numbers-clause-err c =
-    let same : labels c.number_globals.new.table c.self.inside.codes.keys ≡ c.args.self.now =
-    same_labels c.self.inside.table c.number_globals.new.table c.self.inside.codes.keys
-    (Extends-trans c.self.inside.table c.number_types.new.table c.number_globals.new.table c.in_ok-types.ensures.grows c.in_err-numbers.ensures.grows)
-    (λ once. c.in_err-numbers.ensures.once (c.in_ok-types.ensures.once once)) c.self.invariant ∙ c.self.view_is in
+    let typed = c.number_types.new.tables in
+    let parts = c.number_globals.new.table in
+    let same : labels (with_parts typed parts) c.self.inside.codes.keys ≡ c.args.self.now =
+    same_labels c.self.inside.tables (with_parts typed parts) c.self.inside.codes.keys
+    (Extend-trans c.self.inside.tables typed (with_parts typed parts) c.in_ok-types.ensures.grows (parts_extend typed parts c.in_err-numbers.ensures.grows))
+    (λ sound. parts_sound typed parts c.in_err-numbers.ensures.once (c.in_ok-types.ensures.sound sound)) c.self.invariant ∙ c.self.view_is in
     search (rules, same)
 
--- the table has grown by the types and by the globals
-grown : (c : After-drop-types-2) → Extends c.self.inside.table c.number_globals.new.table
-grown c = Extends-trans c.self.inside.table c.number_types.new.table c.number_globals.new.table c.in_ok-types.ensures.grows c.in_ok-numbers.ensures.grows
+-- the tables have grown by the types and by the globals
+abbrev tables : After-drop-types-2 → Tables
+tables c = with_parts c.number_types.new.tables c.number_globals.new.table
 
-once : (c : After-drop-types-2) → HasEachOnce c.self.inside.table → HasEachOnce c.number_globals.new.table
-once c each = c.in_ok-numbers.ensures.once (c.in_ok-types.ensures.once each)
+grown : (c : After-drop-types-2) → Extend c.self.inside.tables (tables c)
+grown c =
+    Extend-trans c.self.inside.tables c.number_types.new.tables (tables c) c.in_ok-types.ensures.grows
+    (parts_extend c.number_types.new.tables c.number_globals.new.table c.in_ok-numbers.ensures.grows)
+
+sound : (c : After-drop-types-2) → AreTables c.self.inside.tables → AreTables (tables c)
+sound c is = parts_sound c.number_types.new.tables c.number_globals.new.table c.in_ok-numbers.ensures.once (c.in_ok-types.ensures.sound is)
 
 -- the numbers of the types
-typed : (c : After-drop-types-2) → AreNumbers c.number_globals.new.table c.deref.result.now (use_codes (label_tree c.args.label.now))
+typed : (c : After-drop-types-2) → AreTypeNumbers (tables c) c.deref.result.now (types_of (label_tree c.args.label.now))
 typed c =
-    subst (λ numbers. AreNumbers c.number_globals.new.table numbers (use_codes (label_tree c.args.label.now))) (sym c.deref.ensures.value)
-    (AreNumbers-extends c.number_types.new.table c.number_globals.new.table _ (use_codes (label_tree c.args.label.now)) c.in_ok-numbers.ensures.grows c.in_ok-types.ensures.numbers)
+    subst (λ numbers. AreTypeNumbers (tables c) numbers (types_of (label_tree c.args.label.now))) (sym c.deref.ensures.value)
+    (AreTypeNumbers-extends c.number_types.new.tables (tables c) _ (types_of (label_tree c.args.label.now))
+    (parts_extend c.number_types.new.tables c.number_globals.new.table c.in_ok-numbers.ensures.grows) (c.in_ok-types.ensures.numbers c.self.invariant.sound))
 
 -- what the insertion of the code gives
 abbrev Interned : After-drop-types-2 → ℕ → Type 0
-Interned c n = IsInterned c.number_globals.new.table (codes c.self.inside.codes.keys) (codes c.intern_code.new.codes.keys) n (whole (map global_tree c.args.globals.now) (label_tree c.args.label.now))
+Interned c n = IsInterned (tables c) (codes c.self.inside.codes.keys) (codes c.intern_code.new.codes.keys) n (whole (map global_tree c.args.globals.now) (label_tree c.args.label.now))
 
 interned : (c : After-drop-types-2) → IfOk c.intern_code.result (Interned c)
 interned c =
-    let book = still_book c.self.inside.table c.number_globals.new.table c.self.inside.codes.keys (grown c) (once c) c.self.invariant in
-    IfOk-weaker c.intern_code.result _ (Interned c) (λ n is. is c.number_globals.new.table (map global_tree c.args.globals.now) (typed c) c.in_ok-numbers.ensures.numbers book) c.intern_code.ensures.interned
+    let book = still_book c.self.inside.tables (tables c) c.self.inside.codes.keys (grown c) (sound c) c.self.invariant in
+    IfOk-weaker c.intern_code.result _ (Interned c) (λ n is. is (tables c) (map global_tree c.args.globals.now) (typed c) c.in_ok-numbers.ensures.numbers book) c.intern_code.ensures.interned
 
-same_book : (c : After-drop-types-2) → c.intern_code.new.codes.keys ≡ c.self.inside.codes.keys → labels c.number_globals.new.table c.intern_code.new.codes.keys ≡ c.args.self.now
+same_book : (c : After-drop-types-2) → c.intern_code.new.codes.keys ≡ c.self.inside.codes.keys → labels (tables c) c.intern_code.new.codes.keys ≡ c.args.self.now
 same_book c same =
-    unchanged c.self.inside.table c.number_globals.new.table c.self.inside.codes.keys (grown c) (once c) c.self.invariant c.intern_code.new.codes.keys same ∙ c.self.view_is
+    unchanged c.self.inside.tables (tables c) c.self.inside.codes.keys (grown c) (sound c) c.self.invariant c.intern_code.new.codes.keys same ∙ c.self.view_is
 
-adds_one : (c : After-drop-types-2) (n : ℕ) → Interned c n → AddsOnly c.args.self.now (labels c.number_globals.new.table c.intern_code.new.codes.keys) (whole (map global_tree c.args.globals.now) (label_tree c.args.label.now))
+adds_one : (c : After-drop-types-2) (n : ℕ) → Interned c n → AddsOnly c.args.self.now (labels (tables c) c.intern_code.new.codes.keys) (whole (map global_tree c.args.globals.now) (label_tree c.args.label.now))
 adds_one c n is =
-    subst (λ (old : List PointLabel). AddsOnly old (labels c.number_globals.new.table c.intern_code.new.codes.keys) (whole (map global_tree c.args.globals.now) (label_tree c.args.label.now))) c.self.view_is
-    (adds c.self.inside.table c.number_globals.new.table c.self.inside.codes.keys (grown c) (once c) c.self.invariant c.intern_code.new.codes.keys n _ is)
+    subst (λ (old : List PointLabel). AddsOnly old (labels (tables c) c.intern_code.new.codes.keys) (whole (map global_tree c.args.globals.now) (label_tree c.args.label.now))) c.self.view_is
+    (adds c.self.inside.tables (tables c) c.self.inside.codes.keys (grown c) (sound c) c.self.invariant c.intern_code.new.codes.keys n _ is)
 
 pub invariant_of-self-2 : goal.invariant_of-self-2
 invariant_of-self-2 c =
     at_either c.intern_code.result (Interned c) (interned c) c.intern_code.ensures.err (λ n is. is.book)
-    (λ same. unchanged_book c.self.inside.table c.number_globals.new.table c.self.inside.codes.keys (grown c) (once c) c.self.invariant c.intern_code.new.codes.keys same)
+    (λ same. unchanged_book c.self.inside.tables (tables c) c.self.inside.codes.keys (grown c) (sound c) c.self.invariant c.intern_code.new.codes.keys same)
 
 pub returns-clause-number : goal.returns-clause-number
 returns-clause-number c = IfOk-weaker c.intern_code.result (Interned c) _ (λ n is. is.number) (interned c)

@@ -1,0 +1,116 @@
+use Rattle.std.proofs.Common.{◌≡◌, ◌∙◌, ◌++◌, ◌∷◌, [], IsTrue, map, drop, refl, sym, ap, ap₂, subst, arith}
+use Rattle.std.proofs.lemmas.List.{drop_all}
+use Rattle.std.proofs.lemmas.Result.{IfOk-weaker, on_ok_weaker}
+use Rattle.csub_objects.specs.Codes.{type_size}
+use Rattle.csub_objects.specs.Meaning.{type_tree, member_tree}
+use Rattle.csub_objects.specs.Types.{array_type, struct_type, loose_type, members_of}
+use Rattle.csub_objects.proofs.LawsMembers.{member_falls}
+use Rattle.edge_label.specs.Codes.{name_code}
+use Rattle.edge_label.specs.Uses.{IsTagged}
+use Rattle.edge_label.specs.declared.structs.TagNumbers.{TagNumbers}
+use Rattle.edge_label.proofs.StructLemmas.{number_appended, array_appended, loose_appended, struct_appended, struct_numbered, structs_numbered, known_struct, tag_put, first_more, first_all, left_more, tagged_at}
+use Rattle.edge_label.proofs.TableLemmas.{Extends-trans}
+use Rattle.edge_label.proofs.structs.+structs.Goals as goal
+
+pub push_short-returns-in_ok-push-in-Num-2-clause-short : goal.push_short-returns-in_ok-push-in-Num-2-clause-short
+push_short-returns-in_ok-push-in-Num-2-clause-short t c = λ by_tag tagged structs.
+    number_appended c.args.structs.now (type_tree c.args.ctype.now) c.args.out.now.items c.push.new.self.items c.push-in-Num.new.self.items c.in-Num.kind (ap type_tree c.in-Num.is)
+    c.in_ok-push-in-Num.ensures.items (c.in_ok-push-in-Num-2.ensures.items ∙ ap (λ n. c.push.new.self.items ++ n ∷ []) c.kind_number.ensures)
+
+pub push_short-returns-in_ok-push-in-Array-2-clause-short : goal.push_short-returns-in_ok-push-in-Array-2-clause-short
+push_short-returns-in_ok-push-in-Array-2-clause-short t c =
+    let n = c.in-Array.length in
+    let e = type_tree c.ctype.result.now in
+    let is : type_tree c.args.ctype.now ≡ array_type e n = ap type_tree c.in-Array.is ∙ ap (λ x. array_type x n) (sym c.ctype.ensures) in
+    on_ok_weaker c.push_short.result
+    (λ short by_tag tagged structs. array_appended c.push_short.new.structs (type_tree c.args.ctype.now) c.args.out.now.items c.push-in-Array-2.new.self.items c.push_short.new.out.items e n c.from.result c.push-in-Array.new.self.items is
+    c.in_ok-push-in-Array.ensures.items c.in_ok-push-in-Array-2.ensures.items c.from.ensures
+    (short by_tag (λ trusted. subst (IsTagged by_tag) is (tagged trusted)) structs))
+    c.push_short.ensures.short
+
+pub push_short-returns-in_ok-number-in-Struct-clause-short : goal.push_short-returns-in_ok-number-in-Struct-clause-short
+push_short-returns-in_ok-number-in-Struct-clause-short t c =
+    let tag = c.bytes.result.now in
+    let members = members_of (map member_tree c.items.result.now) in
+    let is : type_tree c.args.ctype.now ≡ struct_type tag members =
+    ap type_tree c.in-Struct.is ∙ ap₂ (λ a ms. struct_type a (members_of ms)) (sym c.bytes.ensures) (sym c.items.ensures.items) in
+    let old = c.args.out.now.items in
+    on_ok_weaker c.push_numbered.result
+    (λ last by_tag tagged structs. struct_appended c.find_struct.new.structs (type_tree c.args.ctype.now) old old c.push_numbered.new.out.items tag members c.in_ok-number-in-Struct.number is
+    (c.in_ok-number-in-Struct.ensures.number by_tag (λ trusted. subst (IsTagged by_tag) is (tagged trusted)) structs) last)
+    c.push_numbered.ensures
+
+pub push_short-returns-in_ok-push-in-Loose-clause-short : goal.push_short-returns-in_ok-push-in-Loose-clause-short
+push_short-returns-in_ok-push-in-Loose-clause-short t c =
+    let e = type_tree c.ctype-in-Loose.result.now in
+    let is : type_tree c.args.ctype.now ≡ loose_type e = ap type_tree c.in-Loose.is ∙ ap loose_type (sym c.ctype-in-Loose.ensures) in
+    on_ok_weaker c.push_short-in-Loose.result
+    (λ short by_tag tagged structs. loose_appended c.push_short-in-Loose.new.structs (type_tree c.args.ctype.now) c.args.out.now.items c.push-in-Loose.new.self.items c.push_short-in-Loose.new.out.items e is
+    c.in_ok-push-in-Loose.ensures.items (short by_tag (λ trusted. subst (IsTagged by_tag) is (tagged trusted)) structs))
+    c.push_short-in-Loose.ensures.short
+
+pub push_short_members-push_short-requires : goal.push_short_members-push_short-requires
+push_short_members-push_short-requires t c =
+    let falls = member_falls c.args.members.now c.loop-member.member-index c.member-item.result c.loop-member-test.true in
+    let same = ap (λ m. type_size (type_tree m.ctype)) c.member-item.is in
+    (omega arith, tt)
+
+pub push_short_members-returns-in_err-push_short-clause-structs : goal.push_short_members-returns-in_err-push_short-clause-structs
+push_short_members-returns-in_err-push_short-clause-structs t c = λ by_tag tagged structs.
+    c.in_err-push_short.ensures.structs by_tag
+    (λ trusted. tagged_at by_tag c.args.members.now c.loop-member.member-index c.member-item.result c.loop-member-test.true c.member-item.is (tagged (subst IsTrue c.loop-member.invariant.trusted trusted)))
+    (c.loop-member.invariant.structs by_tag tagged structs)
+
+pub push_short_members-loop-member-preserved : goal.push_short_members-loop-member-preserved
+push_short_members-loop-member-preserved t c =
+    let i = c.loop-member.member-index in
+    let member = c.member-item.result in
+    let all = members_of (map member_tree c.args.members.now) in
+    record {
+      short = λ by_tag tagged structs.
+          let its : IsTrue c.loop-member.tags.trusted → IsTagged by_tag (type_tree member.ctype) = λ trusted. tagged_at by_tag c.args.members.now i member c.loop-member-test.true c.member-item.is (tagged (subst IsTrue c.loop-member.invariant.trusted trusted)) in
+          let h = c.in_ok-push_short.ensures.short by_tag its (c.loop-member.invariant.structs by_tag tagged structs) in
+          first_more c.loop-member.structs c.push_short.new.structs all _ _ member.name c.bytes.result.now (type_tree member.ctype) c.args.out.now.items c.loop-member.out.items c.push.new.self.items
+          c.push_name.new.out.items c.push_short.new.out.items (left_more c.args.members.now i member c.loop-member-test.true c.member-item.is) (c.loop-member.invariant.short by_tag tagged structs)
+          c.in_ok-push_short.ensures.grows c.in_ok-push.ensures.items c.in_ok-push_name.ensures c.bytes.ensures h;
+      structs = λ by_tag tagged structs.
+          let its : IsTrue c.loop-member.tags.trusted → IsTagged by_tag (type_tree member.ctype) = λ trusted. tagged_at by_tag c.args.members.now i member c.loop-member-test.true c.member-item.is (tagged (subst IsTrue c.loop-member.invariant.trusted trusted)) in
+          c.in_ok-push_short.ensures.structs by_tag its (c.loop-member.invariant.structs by_tag tagged structs);
+      grows = Extends-trans c.args.structs.now c.loop-member.structs c.push_short.new.structs c.loop-member.invariant.grows c.in_ok-push_short.ensures.grows;
+      trusted = c.in_ok-push_short.ensures.trusted ∙ c.loop-member.invariant.trusted;
+    }
+
+pub push_short_members-returns-clause-short : goal.push_short_members-returns-clause-short
+push_short_members-returns-clause-short t c = λ by_tag tagged structs.
+    let left = ap (λ ms. members_of (map member_tree ms)) (drop_all c.loop-member.member-index c.args.members.now c.loop-member-test.false) in
+    first_all c.loop-member.structs (members_of (map member_tree c.args.members.now)) (members_of (map member_tree (drop c.loop-member.member-index c.args.members.now)))
+    c.args.out.now.items c.loop-member.out.items c.push-2.new.self.items left (c.loop-member.invariant.short by_tag tagged structs) c.in_ok-push-2.ensures.items
+
+pub find_struct-returns-in-Some-clause-number : goal.find_struct-returns-in-Some-clause-number
+find_struct-returns-in-Some-clause-number t c = λ by_tag tagged structs.
+    known_struct c.args.structs.now by_tag c.args.tags.now c.args.tag.now (members_of (map member_tree c.args.members.now)) c.in-Some.number structs tagged c.in-Some.ensures
+
+pub find_struct-returns-clause-structs : goal.find_struct-returns-clause-structs
+find_struct-returns-clause-structs t c = λ by_tag tagged structs.
+    let found = c.number_struct.new.tags in
+    let new : TagNumbers = record { trusted = found.trusted; by_tag = c.insert.new.self } in
+    let before = c.in_ok-number.ensures.structs by_tag (λ trusted. (tagged trusted).1) structs in
+    let has = c.in_ok-number.ensures.number by_tag (λ trusted. (tagged trusted).1) structs in
+    tag_put c.number_struct.new.structs by_tag found new c.args.tag.now (members_of (map member_tree c.args.members.now)) c.in_ok-number.number before
+    (λ trusted. (tagged (subst IsTrue c.in_ok-number.ensures.trusted trusted)).0) has refl
+    (λ name. c.in_ok-insert.ensures.updates.0 (record { ref_ptr = c.args.tag.ref_ptr; now = name }))
+
+pub number_struct-returns-clause-number : goal.number_struct-returns-clause-number
+number_struct-returns-clause-number t c =
+    let begins = c.in_ok-push_name.ensures ∙ ap (λ l. l ++ name_code c.args.tag.now) (c.in_ok-push.ensures.items ∙ ap (λ l. l ++ 2 ∷ []) c.new-code.ensures.items) in
+    IfOk-weaker c.number.result _ _
+    (λ n at by_tag tagged structs. struct_numbered c.push_short_members.new.structs c.number.new.self c.args.tag.now (members_of (map member_tree c.args.members.now)) c.push_name.new.out.items
+    c.push_short_members.new.out.items begins (c.in_ok-push_short_members.ensures.short by_tag tagged structs) c.number.ensures.adds n at)
+    c.number.ensures.number
+
+pub number_struct-returns-clause-structs : goal.number_struct-returns-clause-structs
+number_struct-returns-clause-structs t c = λ by_tag tagged structs.
+    let begins = c.in_ok-push_name.ensures ∙ ap (λ l. l ++ name_code c.args.tag.now) (c.in_ok-push.ensures.items ∙ ap (λ l. l ++ 2 ∷ []) c.new-code.ensures.items) in
+    structs_numbered c.push_short_members.new.structs c.number.new.self c.args.tag.now (members_of (map member_tree c.args.members.now)) c.push_name.new.out.items
+    c.push_short_members.new.out.items begins (c.in_ok-push_short_members.ensures.short by_tag tagged structs) c.number.ensures.adds by_tag c.push_short_members.new.tags
+    (c.in_ok-push_short_members.ensures.structs by_tag tagged structs) c.number.ensures.once

@@ -1,0 +1,155 @@
+//! Types with numbers in the place of structs.
+ghost use Rattle.std.specs.Prelude.{◌≡◌, ◌++◌, [], IsTrue, IfOk, OnOk, IfSome, map};
+ghost use Rattle.std.specs.Map.{lookup};
+ghost use Rattle.std.specs.Str.{bytes_eq};
+ghost use Rattle.csub_objects.specs.Types.{struct_type, members_of};
+ghost use Rattle.csub_objects.specs.Meaning.{type_tree, member_tree};
+ghost use Rattle.edge_label.specs.Codes.{type_code};
+ghost use Rattle.edge_label.specs.Known.{AreStructs};
+ghost use Rattle.edge_label.specs.Structs.{numbered, HasStruct, AppendsType, AppendsMembers};
+ghost use Rattle.edge_label.specs.Tables.{Extends};
+ghost use Rattle.edge_label.specs.Uses.{Tags, IsTagged, AreTagged};
+
+use crate::code::{kind_number, push_name};
+use crate::table::CodeTable;
+use csub_semantics::{CType, Member};
+use std::alloc::{AllocError, Global};
+use std::collections::HashMap;
+
+/// Numbers of structs by their tags. So the members of a struct, which may be many, are gone over once for each tag.
+#[derive(Drop)]
+pub struct TagNumbers<'a> {
+    /// Whether a tag has the same members wherever it stands.
+    pub trusted: bool,
+    /// The numbers by the tags.
+    pub by_tag: HashMap<&'a [u8], u64>,
+}
+
+/// Appends the code of a type, with numbers in the place of structs. An `Err` is want of memory.
+#[cycle(structs)]
+pub fn push_short<'a>(
+    alloc: Global,
+    out: &mut Vec<u64>,
+    structs: &mut CodeTable,
+    tags: &mut TagNumbers<'a>,
+    ctype: &'a CType,
+) -> Result<(), AllocError>
+    ensures short { OnOk result ((by_tag : Tags) → (IsTrue tags.old.trusted → IsTagged by_tag (type_tree ctype.now)) → AreStructs by_tag structs.old tags.old →
+        AppendsType structs.new (type_tree ctype.now) out.old.items out.new.items) }
+    ensures structs { (by_tag : Tags) → (IsTrue tags.old.trusted → IsTagged by_tag (type_tree ctype.now)) → AreStructs by_tag structs.old tags.old →
+        AreStructs by_tag structs.new tags.new }
+    ensures grows { Extends structs.old structs.new }
+    ensures trusted { tags.new.trusted ≡ tags.old.trusted }
+{
+    match ctype {
+        CType::Num(kind) => {
+            out.push(0)?;
+            Ok(out.push(kind_number(*kind))?)
+        }
+        CType::Array(element, length) => {
+            out.push(1)?;
+            out.push(u64::from(*length))?;
+            push_short(alloc, out, structs, tags, element.ctype())
+        }
+        CType::Struct(tag, members) => {
+            let number = find_struct(alloc, structs, tags, tag.bytes(), members.items())?;
+            push_numbered(out, number)
+        }
+        CType::Loose(element) => {
+            out.push(3)?;
+            push_short(alloc, out, structs, tags, element.ctype())
+        }
+    }
+}
+
+/// Appends the code of members, with numbers in the place of structs.
+#[cycle(structs)]
+fn push_short_members<'a>(
+    alloc: Global,
+    out: &mut Vec<u64>,
+    structs: &mut CodeTable,
+    tags: &mut TagNumbers<'a>,
+    members: &'a [Member],
+) -> Result<(), AllocError>
+    ensures short { OnOk result ((by_tag : Tags) → (IsTrue tags.old.trusted → AreTagged by_tag (members_of (map member_tree members.now))) → AreStructs by_tag structs.old tags.old →
+        AppendsMembers structs.new (members_of (map member_tree members.now)) out.old.items out.new.items) }
+    ensures structs { (by_tag : Tags) → (IsTrue tags.old.trusted → AreTagged by_tag (members_of (map member_tree members.now))) → AreStructs by_tag structs.old tags.old →
+        AreStructs by_tag structs.new tags.new }
+    ensures grows { Extends structs.old structs.new }
+    ensures trusted { tags.new.trusted ≡ tags.old.trusted }
+{
+    for member in members {
+        out.push(1)?;
+        push_name(out, member.name.bytes())?;
+        push_short(alloc, out, structs, tags, &member.ctype)?;
+    }
+    Ok(out.push(0)?)
+}
+
+/// The number of the struct of a tag, which is looked up, and else found out and kept.
+#[cycle(structs)]
+fn find_struct<'a>(
+    alloc: Global,
+    structs: &mut CodeTable,
+    tags: &mut TagNumbers<'a>,
+    tag: &'a [u8],
+    members: &'a [Member],
+) -> Result<u64, AllocError>
+    ensures number { IfOk result (λ s. (by_tag : Tags) → (IsTrue tags.old.trusted → IsTagged by_tag (struct_type tag.now (members_of (map member_tree members.now)))) →
+        AreStructs by_tag structs.old tags.old → HasStruct structs.new s tag.now (members_of (map member_tree members.now))) }
+    ensures structs { (by_tag : Tags) → (IsTrue tags.old.trusted → IsTagged by_tag (struct_type tag.now (members_of (map member_tree members.now)))) →
+        AreStructs by_tag structs.old tags.old → AreStructs by_tag structs.new tags.new }
+    ensures grows { Extends structs.old structs.new }
+    ensures trusted { tags.new.trusted ≡ tags.old.trusted }
+{
+    if let Some(number) = known_number(tags, tag) {
+        return Ok(number);
+    }
+    let number = number_struct(alloc, structs, tags, tag, members)?;
+    tags.by_tag.insert(tag, number)?;
+    Ok(number)
+}
+
+/// The number of the struct with a tag and members. An `Err` is want of memory.
+#[cycle(structs)]
+pub fn number_struct<'a>(
+    alloc: Global,
+    structs: &mut CodeTable,
+    tags: &mut TagNumbers<'a>,
+    tag: &[u8],
+    members: &'a [Member],
+) -> Result<u64, AllocError>
+    ensures number { IfOk result (λ s. (by_tag : Tags) → (IsTrue tags.old.trusted → AreTagged by_tag (members_of (map member_tree members.now))) →
+        AreStructs by_tag structs.old tags.old → HasStruct structs.new s tag.now (members_of (map member_tree members.now))) }
+    ensures structs { (by_tag : Tags) → (IsTrue tags.old.trusted → AreTagged by_tag (members_of (map member_tree members.now))) →
+        AreStructs by_tag structs.old tags.old → AreStructs by_tag structs.new tags.new }
+    ensures grows { Extends structs.old structs.new }
+    ensures trusted { tags.new.trusted ≡ tags.old.trusted }
+{
+    let mut code = Vec::new(alloc);
+    code.push(2)?;
+    push_name(&mut code, tag)?;
+    push_short_members(alloc, &mut code, structs, tags, members)?;
+    structs.number(code)
+}
+
+/// The number that a tag has, where tags are trusted.
+fn known_number(tags: &TagNumbers<'_>, tag: &[u8]) -> Option<u64>
+    ensures { IfSome result (λ s. IsTrue tags.now.trusted × (lookup (λ key. bytes_eq tag.now key.now) tags.now.by_tag.entries ≡ Some s)) }
+{
+    if !tags.trusted {
+        return None;
+    }
+    let number = tags.by_tag.get(tag)?;
+    Some(*number)
+}
+
+/// Appends the code of a number in the place of a struct.
+pub fn push_numbered(out: &mut Vec<u64>, number: u64) -> Result<(), AllocError>
+    ensures { OnOk result (out.new.items ≡ out.old.items ++ type_code (numbered number)) }
+{
+    out.push(2)?;
+    out.push(1)?;
+    out.push(number)?;
+    Ok(out.push(0)?)
+}
