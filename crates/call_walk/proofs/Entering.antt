@@ -43,10 +43,6 @@ module _ (P P' : ProgramTree) where
   entries_held facts f g p k a has calls =
       subst (λ h. IsHeld P P' facts h entry entry) (one_callee (flow_of P) f p a.name g a.calls calls) (pair_held P P' facts k.entry.old k.entry.new a.name entry entry a.numbers.entries has)
 
-  -- no fact has been entered
-  pub entered_none : (facts : List Fact) → AreEntered P P' facts 0
-  entered_none facts = record { each = λ j c f g p p' l e at calls. absurd (omega (arith, l)) }
-
   -- one more fact has been entered
   pub entered_more : (before after : List Fact) (n : ℕ) → Extends before after → n < length before → AreEntered P P' before n
       → ((c : Fact) (f g : Name) (p p' : PointTree) → slice_get before n ≡ Some c → AreAt P P' c.old c.new f p p' → CallsAt (flow_of P) f p g → IsHeld P P' after g entry entry)

@@ -22,12 +22,6 @@ pub value_seen : (v : ℤ) (d : Bool) (keys : List ℤ) → list_any (label_eq (
 value_seen v true keys = values_seen v keys
 value_seen v false keys = values_seen v keys
 
-or_swap : (a b : Bool) → (a || b) ≡ (b || a)
-or_swap true true = refl
-or_swap true false = refl
-or_swap false true = refl
-or_swap false false = refl
-
 any_last : (w v : ℤ) (keys : List ℤ) → list_any (int_eq w) (keys ++ v ∷ []) ≡ (int_eq w v || list_any (int_eq w) keys)
 any_last w v [] = refl
 any_last w v (k ∷ keys) = ap (λ b. int_eq w k || b) (any_last w v keys) ∙ by (int_eq w k) (int_eq w v) (list_any (int_eq w) keys)

@@ -47,10 +47,6 @@ module _ (class : ℕ → Bool) where
   unfolding behind
   run_behind t r run stops = run_rest t r run stops
 
-  pub stops_begins : (r : List ℕ) → Stops class r → begins class r ≡ false
-  stops_begins [] stops = refl
-  stops_begins (b ∷ bs) stops = stops
-
   pub begins_stops : (r : List ℕ) → begins class r ≡ false → Stops class r
   begins_stops [] e = tt
   begins_stops (b ∷ bs) e = e

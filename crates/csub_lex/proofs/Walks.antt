@@ -44,13 +44,6 @@ mark_none marks i bytes le = at_drop_all (λ (ms : List Mark). mark_among ms byt
 pub line_step : (before : List ℕ) (b : ℕ) → blank_line (before ++ b ∷ []) ≡ (b == 10 || (blank_line before && is_space_or_tab b))
 line_step before b = fold-append (λ (blank : Bool) (c : ℕ). c == 10 || (blank && is_space_or_tab c)) true before (b ∷ [])
 
--- the line before `end` more bytes is blank where the last of them leaves it so
-pub line_back : (before : List ℕ) (end : ℕ) → 0 < end → end ≤ length before → blank_line (take end before) ≡ (get_or before (end - 1) 0 == 10 || (blank_line (take (end - 1) before) && is_space_or_tab (get_or before (end - 1) 0)))
-line_back before end some within =
-    let last : end - 1 < length before = omega arith in
-    let one : end - 1 + 1 ≡ end = omega arith in
-    ap (λ n. blank_line (take n before)) (sym one) ∙ ap blank_line (take_more before (end - 1) 0 last) ∙ line_step (take (end - 1) before) (get_or before (end - 1) 0)
-
 -- digits
 
 -- a value with one more digit is no smaller
@@ -59,10 +52,6 @@ grows base n [] some = omega arith
 grows base n (b ∷ bs) some =
     let one : 1 ≤ base = omega arith in
     omega (arith, mul-le-mul_left n one, grows base (n * base + digit_value b) bs some)
-
--- the product that a digit is added to stays small
-pub product_small : (value base : ℕ) → value ≤ 4294967295 → base ≤ 16 → value * base ≤ 68719476720
-product_small value base small few = grind arith
 
 -- a value that is too large after some digits is too large after all
 pub too_large : (base : ℕ) (digits : List ℕ) (i value : ℕ) → i < length digits → 0 < base → value ≡ value_in base (take i digits)

@@ -1,8 +1,8 @@
 -- The first count above a limit: of two lists, and of a list that is gone through.
 use Rattle.std.proofs.Common.{◌≡◌, ℕ, zero, suc, ◌+◌, ◌<◌, List, [], ◌∷◌, ◌++◌, length, drop, get_or, Option, Some, None, Bool, true, false, cond, refl, sym, ap, ◌∙◌, arith}
-use Rattle.std.specs.Prelude.{nat_lt, option_map}
+use Rattle.std.specs.Prelude.{nat_lt}
 use Rattle.std.specs.Option.{option_or}
-use Rattle.csub_limits.specs.Limits.{Passed, first_above, passed}
+use Rattle.csub_limits.specs.Limits.{first_above}
 
 option_or_cond : (b : Bool) (n : ℕ) (o p : Option ℕ) → cond b (Some n) (option_or o p) ≡ option_or (cond b (Some n) o) p
 option_or_cond true n o p = refl
@@ -12,15 +12,6 @@ option_or_cond false n o p = refl
 pub above_append : (m : ℕ) (xs ys : List ℕ) → first_above m (xs ++ ys) ≡ option_or (first_above m xs) (first_above m ys)
 above_append m [] ys = refl
 above_append m (x ∷ xs) ys = ap (λ o. cond (nat_lt m x) (Some x) o) (above_append m xs ys) ∙ option_or_cond (nat_lt m x) x (first_above m xs) (first_above m ys)
-
-option_or_map : {A B : Type 0} (f : A → B) (o p : Option A) → option_map f (option_or o p) ≡ option_or (option_map f o) (option_map f p)
-option_or_map f None p = refl
-option_or_map f (Some x) p = refl
-
-pub passed_append : (k m : ℕ) (xs ys : List ℕ) → passed k m (xs ++ ys) ≡ option_or (passed k m xs) (passed k m ys)
-passed_append k m xs ys =
-    let f : ℕ → Passed = λ n. record { number = k; count = n } in
-    ap (option_map f) (above_append m xs ys) ∙ option_or_map f (first_above m xs) (first_above m ys)
 
 -- what is found first in two lists, where the first comes first
 module _ {A : Type 0} (found : List ℕ → Option A) (joins : (xs ys : List ℕ) → found (xs ++ ys) ≡ option_or (found xs) (found ys)) where
@@ -46,10 +37,3 @@ module _ {A : Type 0} (found : List ℕ → Option A) (joins : (xs ys : List ℕ
     pub none_here : (xs : List X) (i : ℕ) (x : X) (o : Option A) → i < length xs → x ≡ get_or xs i x → found (all xs) ≡ found (all (drop i xs))
         → o ≡ found (one x) → o ≡ None → found (all xs) ≡ found (all (drop (i + 1) xs))
     none_here xs i x o h e before same is = before ∙ (found_at xs i x h e ∙ ap (λ p. option_or p (found (all (drop (i + 1) xs)))) (sym same ∙ is))
-
--- the first of two, and the second where there is no first
-pub or_first : {A : Type 0} (o p : Option A) (a : A) → Some a ≡ o → Some a ≡ option_or o p
-or_first o p a h = ap (λ q. option_or q p) h
-
-pub or_second : {A : Type 0} (o p q : Option A) → None ≡ o → q ≡ p → q ≡ option_or o p
-or_second o p q h e = e ∙ ap (λ r. option_or r p) h

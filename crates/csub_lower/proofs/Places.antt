@@ -1,6 +1,6 @@
 -- Places of the first definition of a name.
 use Rattle.std.proofs.Common.{◌≡◌, ◌∙◌, refl, sym, ap, subst, arith, ℕ, zero, suc, ◌<◌, List, [], ◌∷◌, ◌++◌, length, map, get_or}
-use Rattle.std.proofs.Common.{Bool, true, false, Option, Some, None, Vec, is_some, IsTrue, ⊎_elim, if◌then◌else◌, option_map}
+use Rattle.std.proofs.Common.{Bool, true, false, Option, Some, None, Vec, is_some, ⊎_elim, if◌then◌else◌, option_map}
 use Rattle.std.specs.Option.{option_or}
 use Rattle.std.specs.List.{find}
 use Rattle.std.specs.Str.{bytes_eq}
@@ -129,19 +129,6 @@ noted_new m n name p none h other = placed-updates m n name p h other ∙ by (by
   where
     by : (b : Bool) → bytes_eq name other ≡ b → (if b then Some p else placed m other) ≡ option_or (placed m other) (if b then Some p else None)
     by true e = sym (ap (λ o. option_or o (Some p)) (subst (λ x. placed m x ≡ None) ((bytes_eq-Decides name other).0 e) none))
-    by false e = or_none (placed m other)
-
--- and one that has a place keeps it
-pub noted_old : {S : Type 0} (m : IndexMap (Vec ℕ Global) ℕ S) (name : Name) (p : ℕ) → IsTrue (is_some (placed m name))
-    → (other : Name) → placed m other ≡ option_or (placed m other) (if bytes_eq name other then Some p else None)
-noted_old m name p some other = by (bytes_eq name other) refl
-  where
-    held : (o : Option ℕ) → IsTrue (is_some o) → o ≡ option_or o (Some p)
-    held None h = absurd (cc)
-    held (Some q) h = refl
-
-    by : (b : Bool) → bytes_eq name other ≡ b → placed m other ≡ option_or (placed m other) (if b then Some p else None)
-    by true e = held (placed m other) (subst (λ x. IsTrue (is_some (placed m x))) ((bytes_eq-Decides name other).0 e) some)
     by false e = or_none (placed m other)
 
 -- the places after one definition more

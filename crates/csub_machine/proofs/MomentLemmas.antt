@@ -4,14 +4,11 @@ use Rattle.std.proofs.Math.Nat.{add-zero, add-suc}
 use Rattle.csub_semantics.specs.declared.status.Status.{Status}
 use Rattle.csub_semantics.specs.Flows.{Flow, Edge}
 use Rattle.csub_semantics.specs.Acts.{Store}
-use Rattle.csub_semantics.specs.Runs.{Standing, goes, stops, lost, turn, running, ended, nowhere, crossing, after_turn, go_on, after}
+use Rattle.csub_semantics.specs.Runs.{Standing, goes, lost, turn, running, ended, nowhere, crossing, after_turn, go_on, after}
 
 module _ (F : Flow) (input : List ℕ) where
   pub after_goes : (k : ℕ) (es : List Edge) (at to : Standing) (c : Option Edge) → after F input k ≡ running es at → turn F at ≡ goes c to → after F input (k + 1) ≡ running (crossing c es) to
   after_goes k es at to c e t = ap (after F input) (add-one k) ∙ ap (go_on F k) e ∙ ap (after_turn k es) t
-
-  pub after_stops : (k : ℕ) (es : List Edge) (at : Standing) (status : Status) (s : Store) → after F input k ≡ running es at → turn F at ≡ stops status s → after F input (k + 1) ≡ ended es (k + 1) status s
-  after_stops k es at status s e t = ap (after F input) (add-one k) ∙ ap (go_on F k) e ∙ ap (after_turn k es) t
 
   pub after_lost : (k : ℕ) (es : List Edge) (at : Standing) → after F input k ≡ running es at → turn F at ≡ lost → after F input (k + 1) ≡ nowhere
   after_lost k es at e t = ap (after F input) (add-one k) ∙ ap (go_on F k) e ∙ ap (after_turn k es) t

@@ -1,8 +1,7 @@
 -- A run of the code from one moment to another.
-use Rattle.std.proofs.Common.{◌≡◌, ◌≤◌, ◌<◌, ◌+◌, ◌-◌, ◌∙◌, ap, sym, ℕ, List, [], ◌∷◌, ◌++◌, length, map, replicate, reverse, All, cond, true, false, Option, Some, None, IsSome, subst, refl, arith}
+use Rattle.std.proofs.Common.{◌≡◌, ◌≤◌, ◌<◌, ◌+◌, ◌-◌, ◌∙◌, ap, sym, ℕ, List, [], ◌∷◌, ◌++◌, length, map, replicate, reverse, All, cond, true, Option, Some, None, IsSome, subst, refl, arith}
 use Rattle.std.proofs.Math.Nat.{add-sub_of_le}
 use Rattle.std.proofs.lemmas.List.Elements.{All-nil}
-use Rattle.csub_semantics.specs.declared.status.Status.{Status}
 use Rattle.csub_objects.specs.Types.{Name}
 use Rattle.csub_semantics.specs.Types.{GlobalTree}
 use Rattle.csub_semantics.specs.Syntax.{FunctionTree, ProgramTree}
@@ -15,7 +14,7 @@ use Rattle.csub_validity.specs.Valid.{IsValid, BeginsWithStart}
 use Rattle.csub_flat.specs.Sites.{site_or, place_of}
 use Rattle.csub_machine.specs.Moments.{IsRunningAt, status_at, output_of, turns_of, crossed_of}
 use Rattle.csub_machine.specs.Crossed.{edge_of, crossed_row}
-use Rattle.csub_machine.proofs.MomentLemmas.{after_goes, after_stops, after_ended}
+use Rattle.csub_machine.proofs.MomentLemmas.{after_goes, after_ended}
 use Rattle.program_laws.proofs.LawsNames.{name_itself}
 use Rattle.csub_slots.specs.Layout.{empty, StandsFor, live_size, live}
 use Rattle.csub_slots.specs.Begins.{opening_slots}
@@ -26,7 +25,7 @@ use Rattle.csub_slots.specs.Like.{Like}
 use Rattle.csub_slots.proofs.LawsBegins.{begin_stands}
 use Rattle.csub_machine.specs.declared.frames.Frame.{Frame}
 use Rattle.csub_machine.specs.declared.run.Run.{Run}
-use Rattle.csub_machine.specs.Standings.{function_or, live_function, live_of, frame_of, below_of, standing_of, AreBased, GoesTo, StopsWith, moment_at, IsAt}
+use Rattle.csub_machine.specs.Standings.{function_or, live_function, live_of, frame_of, below_of, standing_of, AreBased, GoesTo, moment_at, IsAt}
 use Rattle.csub_flat.specs.Copies.{first_size}
 
 module _ (P : ProgramTree) (old new : Run) where
@@ -51,22 +50,6 @@ module _ (P : ProgramTree) (old new : Run) where
           crossed = row ∙ ap (crossed_row P) (sym (ap crossed_of m));
         },
         subst IsRunningAt (sym m) tt,
-      )
-
-  -- a run ends by a turn
-  pub came_to_its_end : (status : Status) (a : IsAt P old) (g : old.going ≡ true) → StopsWith (turn (flow_of P) (standing_of P old.frames (a.standing g).store)) status (state_of new.store)
-      → new.going ≡ false → new.store.input.items ≡ old.store.input.items → new.crossed ≡ old.crossed
-      → new.turns ≡ old.turns + 1 → new.done ≡ old.done + 1 → IsAt P new × (status_at (moment_at P new) ≡ Some status)
-  came_to_its_end status a g to stopped i row turns done =
-      let m = one_more i done ∙ after_stops (flow_of P) old.store.input.items old.done (crossed_of (moment_at P old)) (standing_of P old.frames (a.standing g).store) status to.store (a.standing g).moment to.stops in (
-        record {
-          standing = λ e. let h = sym stopped ∙ e in cc;
-          onward = λ h. absurd (subst IsRunningAt m h);
-          output = sym to.text.output ∙ sym (ap output_of m);
-          turns = turns ∙ ap (λ n. n + 1) (as_many a g) ∙ sym (ap (turns_of new.done) m);
-          crossed = row ∙ a.crossed ∙ ap (crossed_row P) (sym (ap crossed_of m));
-        },
-        ap status_at m,
       )
 
   -- a run that has ended is where it was, however many more turns are asked for

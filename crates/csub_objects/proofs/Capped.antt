@@ -1,5 +1,5 @@
 -- Numbers of cells, cut at 65,537.
-use Rattle.std.proofs.Common.{max, ◌≡◌, ℕ, zero, suc, ◌+◌, ◌*◌, ◌<◌, ◌∙◌, ap, subst, ⊎_elim, arith}
+use Rattle.std.proofs.Common.{◌≡◌, ℕ, zero, suc, ◌+◌, ◌*◌, ◌<◌, ◌∙◌, ap, subst, ⊎_elim, arith}
 use Rattle.std.proofs.Math.Nat.{mul_comm}
 use Rattle.std.proofs.lemmas.Bool.{cases_lt}
 use Rattle.csub_objects.specs.Types.{IsCapped}
@@ -34,13 +34,3 @@ capped-plus a m b n r g h s =
     (λ q. let e : b ≡ n = h.exact q in subst (λ x. IsCapped r x) (ap (λ x. x + b) d ∙ ap (λ x. m + x) e) s)
     (cases_lt 65536 n))
     (cases_lt 65536 m)
-
-pub capped-max : (a m b n : ℕ) → IsCapped a m → IsCapped b n → IsCapped (max a b) (max m n)
-capped-max a m b n g h = record {
-  exact = λ p. let d : a ≡ m = g.exact (omega arith) in let e : b ≡ n = h.exact (omega arith) in cc;
-  above = λ p. ⊎_elim
-      (λ q. let d : a ≡ 65537 = g.above q in let s = h.small in omega arith)
-      (λ q. let e : b ≡ 65537 = h.above (omega arith) in let s = g.small in omega arith)
-      (cases_lt 65536 m);
-  small = let s = g.small in let r = h.small in omega arith;
-}

@@ -5,7 +5,7 @@ use Rattle.csub_text.specs.declared.span.Span.{Span}
 use Rattle.csub_types.specs.declared.kind.IntKind.{IntKind}
 use Rattle.csub_types.specs.declared.kind.IntKind.TheVariants.{Int}
 use Rattle.csub_types.specs.Kinds.{convert}
-use Rattle.csub_tree.specs.Expressions.{Expr, Kind, Exprs, Node, Paren, Call, NoExprs, MoreExprs}
+use Rattle.csub_tree.specs.Expressions.{Expr, Kind, Exprs, Node, Paren, Call, MoreExprs}
 use Rattle.csub_tree.specs.Declarations.{Init, Declarator, Declare}
 use Rattle.csub_tree.specs.Statements.{Stmt, StmtKind, Perhaps, Stmts, Line, Declared, Eval, Empty, Block, If, While, Do, For, Switch}
 use Rattle.csub_tree.specs.Statements.{Case, Default, Break, Continue, Goto, Label, Return, NoStmt, OneStmt, NoStmts, MoreStmts}

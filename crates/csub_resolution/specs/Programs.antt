@@ -1,18 +1,17 @@
 -- The program that a source stands for.
-use Rattle.std.specs.Prelude.{ℕ, ◌+◌, ◌≡◌, max, List, [], ◌∷◌, ◌++◌, Option, Some, None, find, bytes_eq}
-use Rattle.std.specs.List.{flat_map}
+use Rattle.std.specs.Prelude.{ℕ, ◌+◌, max, List, [], ◌∷◌, ◌++◌, Option, Some, None, find, bytes_eq}
 use Rattle.csub_text.specs.declared.span.Span.{Span}
 use Rattle.csub_types.specs.declared.kind.IntKind.{IntKind}
 use Rattle.csub_types.specs.declared.kind.IntKind.TheVariants.{Int}
 use Rattle.csub_tree.specs.declared.name.Name.{Name as NameAt}
-use Rattle.csub_tree.specs.Declarations.{Param, Head, Declarator, Declare}
+use Rattle.csub_tree.specs.Declarations.{Param, Head, Declarator}
 use Rattle.csub_tree.specs.Statements.{Stmts}
-use Rattle.csub_tree.specs.Units.{Item, Struct, Enum, Object, Prototype, Function, Source}
+use Rattle.csub_tree.specs.Units.{Item, Object, Function, Source}
 use Rattle.csub_objects.specs.Types.{Name, TypeTree, MemberTree}
 use Rattle.csub_semantics.specs.Types.{GlobalTree}
-use Rattle.csub_semantics.specs.Syntax.{Stage, PartTree, StmtTree, StmtTrees, ElseTree, parts, block, conditional, while_loop, do_loop, for_loop}
+use Rattle.csub_semantics.specs.Syntax.{PartTree, StmtTree, StmtTrees, ElseTree, parts, block, conditional, while_loop, do_loop, for_loop}
 use Rattle.csub_semantics.specs.Syntax.{switch_on, case_label, default_label, breaks, continues, goes_to, marked, no_stmt, more_stmts}
-use Rattle.csub_semantics.specs.Syntax.{no_else, else_stmt, FunctionTree, ProgramTree, ProgramParts, program_tree}
+use Rattle.csub_semantics.specs.Syntax.{no_else, else_stmt, FunctionTree, ProgramTree}
 use Rattle.csub_semantics.specs.Flows.{start_name, main_name}
 use Rattle.csub_validity.specs.Valid.{stage_result, start_call}
 use Rattle.csub_scopes.specs.Scopes.{Scope}
@@ -153,8 +152,3 @@ abbrev pub program_of : Source → ProgramTree
 program_of u =
     let functions = functions_in (defined_in no_file u.items) no_file u.items in
     record { functions = start (span_of_main functions) ∷ functions; globals = globals_in no_file u.items }
-
--- A program is the one that a source stands for: `#start` and the defined functions in the order of the source, and the
--- objects of file scope in that order.
-abbrev pub Resolves : Source → ProgramParts → Type 0
-Resolves u Q = program_tree Q ≡ program_of u

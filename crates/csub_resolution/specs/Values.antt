@@ -1,6 +1,5 @@
 -- What expressions stand for: places, values, and the calls that are made before.
 use Rattle.std.specs.Prelude.{ℕ, ◌+◌, pos, negsuc, List, [], ◌∷◌, ◌++◌, Option, Some, None, find, bytes_eq}
-use Rattle.csub_text.specs.declared.span.Span.{Span}
 use Rattle.csub_text.specs.declared.operator.BinOp.{BinOp}
 use Rattle.csub_types.specs.declared.kind.IntKind.{IntKind}
 use Rattle.csub_types.specs.declared.kind.IntKind.TheVariants.{Int}
@@ -9,7 +8,7 @@ use Rattle.csub_tree.specs.declared.name.Name.{Name as NameAt}
 use Rattle.csub_tree.specs.Expressions.{Expr, Kind, Exprs, Node, Number, Char, Text, Named, Paren, Unary, Cast, Step, Binary, And, Or}
 use Rattle.csub_tree.specs.Expressions.{Choose, Assign, Call, Index, Member, NoExprs, MoreExprs}
 use Rattle.csub_objects.specs.Types.{Name, TypeTree, number_type, array_type, struct_type, loose_type, MemberTree}
-use Rattle.csub_semantics.specs.Trees.{OwnerTree, global_owner, local_owner, object, temporary, NamedPlace, variable, element_place, member_place}
+use Rattle.csub_semantics.specs.Trees.{global_owner, local_owner, object, temporary, NamedPlace, variable, element_place, member_place}
 use Rattle.csub_semantics.specs.Trees.{NamedExpr, constant, reading, unary_operation, conversion, stepping, operation, conjunction, disjunction}
 use Rattle.csub_semantics.specs.Trees.{choice, assignment, update, input_byte, output_byte, formatted, NamedExprs, no_expr, more_exprs}
 use Rattle.csub_semantics.specs.Trees.{NamedArg, value_argument, array_argument}

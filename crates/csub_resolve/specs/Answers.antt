@@ -1,5 +1,5 @@
 -- What an answer of the resolver says of a source.
-use Rattle.std.specs.Prelude.{◌≡◌, Option, Some, None}
+use Rattle.std.specs.Prelude.{◌≡◌, Some, None}
 use Rattle.csub_tree.specs.Units.{Source}
 use Rattle.csub_semantics.specs.Syntax.{ProgramTree}
 use Rattle.csub_units.specs.Units.{unit_fault}

@@ -73,10 +73,6 @@ on_right (Some f) (Some g) k h = by (is_before g f) refl
     by true e = h
     by false e = first_trans f g k (before_false f g e) h
 
--- a fault covers itself
-pub itself_first : (f : Fault) → IsFirst f f
-itself_first f = inr (refl, omega arith)
-
 -- a test that holds covers its rule at its place
 pub tested : (b : Bool) (r : ℕ) (s : Span) → IsTrue b → Covers (fault_if b r s) (record { rule = r; span = s })
 tested true r s h = inr (refl, omega arith)

@@ -1,5 +1,5 @@
 -- An expression without a fault can be resolved, and has a sort where it is an operand.
-use Rattle.std.proofs.Common.{◌≡◌, Option, None, Some, refl, IsTrue, not, ◌&&◌, if◌then◌else◌}
+use Rattle.std.proofs.Common.{◌≡◌, Option, None, Some, refl, IsTrue, ◌&&◌, if◌then◌else◌}
 use Rattle.csub_tree.specs.Expressions.{Expr, Exprs, Node, Number, Char, Text, Named, Paren, Unary, Cast, Step, Binary, And, Or}
 use Rattle.csub_tree.specs.Expressions.{Choose, Assign, Call, Index, Member, NoExprs, MoreExprs}
 use Rattle.csub_scopes.specs.Scopes.{Scope, Declared, Meaning, global_object, local_object, enum_constant, a_function, untyped, find, is_typed, finds_type, HasTypes}
@@ -149,7 +149,3 @@ module _ (scope : Scope) (types : HasTypes scope) where
         let q = neither (if is_literal e then None else (fault scope (below h) e or_earlier number_fault scope e))
         (numbers_fault scope (below h) rest) p in
         found_numbers h rest q.1
-
-  -- an operand without a fault has a sort
-  pub operand_sorted : (h : Standing) (e : Expr) → IsTrue (not (is_whole h)) → fault scope h e ≡ None → IsTrue (is_sorted (sort_of scope e))
-  operand_sorted h e w p = (found h e p).has_sort w

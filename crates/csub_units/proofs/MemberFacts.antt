@@ -1,13 +1,12 @@
 -- What is known of gathered members: objects may have their types, and their names differ where none is told twice.
-use Rattle.std.proofs.Common.{◌≡◌, ◌∙◌, ◌≢◌, refl, ap, subst, arith, ℕ, ◌+◌, List, [], ◌∷◌, ◌++◌, map, nat_le, nat_lt, bytes_eq}
+use Rattle.std.proofs.Common.{◌≡◌, ◌∙◌, ◌≢◌, refl, ap, subst, arith, ◌+◌, List, [], ◌∷◌, ◌++◌, map, nat_le, bytes_eq}
 use Rattle.std.proofs.Common.{Option, Some, None, option_map, Bool, true, false, IsTrue, not, ◌&&◌, ◌||◌, All, if◌then◌else◌}
-use Rattle.std.proofs.lemmas.Bool.Decides.{nat_tests}
 use Rattle.std.proofs.lemmas.List.Elements.{All-cons}
 use Rattle.std.proofs.lemmas.List.Kept.{AllPairs-cons}
 use Rattle.std.proofs.lemmas.Slice.Eq.{bytes_eq-Decides}
 use Rattle.csub_tree.specs.declared.name.Name.{Name as NameAt}
 use Rattle.csub_tree.specs.Declarations.{Declarator, Declare}
-use Rattle.csub_objects.specs.Types.{Name, TypeTree, struct_type, cells, levels, MemberTree, members_of, IsCapped, member_cells, member_levels, HaveDifferentNames}
+use Rattle.csub_objects.specs.Types.{Name, TypeTree, struct_type, cells, levels, MemberTree, members_of, HaveDifferentNames}
 use Rattle.csub_scopes.specs.Scopes.{Scope}
 use Rattle.csub_rules.specs.declared.fault.Fault.{Fault}
 use Rattle.csub_rules.specs.Faults.{fault_if, ◌or_earlier◌}
@@ -111,26 +110,11 @@ all_differ scope tag ds h =
 
 -- ---- the limits
 
-more_cells : (c m : ℕ) → IsCapped c m → nat_lt 65536 c ≡ not (nat_le m 65536)
-more_cells c m h = grind (arith, nat_tests)
-
-more_levels : (l n : ℕ) → IsCapped l n → nat_le 32 l ≡ not (nat_le (n + 1) 32)
-more_levels l n h = grind (arith, nat_tests)
-
 all_right : (a p q : Bool) → IsTrue a → (not p || not q) ≡ not (a && (p && q))
 all_right true true true h = refl
 all_right true true false h = refl
 all_right true false q h = refl
 all_right false p q h = absurd (cc)
-
-pub struct_limits : (tag : Name) (ms : List MemberTree) (c l : ℕ) → IsTrue (have_arrays (members_of ms))
-    → IsCapped c (member_cells (members_of ms)) → IsCapped l (member_levels (members_of ms))
-    → (nat_lt 65536 c || nat_le 32 l) ≡ is_too_large (Some (struct_type tag (members_of ms)))
-struct_limits tag ms c l a h k =
-    let m : ℕ = member_cells (members_of ms) in
-    let n : ℕ = member_levels (members_of ms) in
-    ap (λ b. b || nat_le 32 l) (more_cells c m h) ∙ ap (λ b. not (nat_le m 65536) || b) (more_levels l n k)
-    ∙ all_right (have_arrays (members_of ms)) (nat_le m 65536) (nat_le (n + 1) 32) a
 
 -- ---- what is told of a struct, by what the code keeps on the way
 

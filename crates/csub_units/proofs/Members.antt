@@ -31,10 +31,6 @@ append_nil : (ms : List MemberTree) → ms ++ [] ≡ ms
 append_nil [] = refl
 append_nil (m ∷ ms) = ap (λ ns. m ∷ ns) (append_nil ms)
 
-pub none_behind : (ms : Option (List MemberTree)) → behind ms (Some []) ≡ ms
-none_behind None = refl
-none_behind (Some ms) = ap (λ ns. Some ns) (append_nil ms)
-
 one_first : (x : Name) (o : Option TypeTree) (ms : Option (List MemberTree))
     → with_member (option_map (λ t. record { name = x; ctype = t }) o) ms ≡ behind (one x o) ms
 one_first x None ms = refl

@@ -1,11 +1,9 @@
 -- Laws of rows: what a set has after each call, for proofs here and above.
-use Rattle.std.proofs.Common.{◌≡◌, ◌≢◌, ◌<◌, ◌≤◌, ◌+◌, ℕ, zero, suc, add-one, cond, map, Bool, true, false, not, ◌&&◌, ◌||◌, ◌⊎◌, inl, inr, List, length, set, replicate, refl, sym, ap, ◌∙◌, arith, get_or-set_same, get_or-set_other}
-use Rattle.std.specs.List.{range_with_len}
+use Rattle.std.proofs.Common.{◌≡◌, ◌≢◌, ◌<◌, ◌≤◌, ℕ, zero, suc, Bool, true, false, not, ◌&&◌, ◌||◌, ◌⊎◌, inl, inr, List, length, set, replicate, refl, arith, get_or-set_same, get_or-set_other}
 use Rattle.std.proofs.lemmas.Bool.{cases_lt}
 use Rattle.std.proofs.lemmas.List.{get_or_past, get_or-replicate, ext_get_or, length-replicate}
-use Rattle.std.proofs.lemmas.List.FromFn.{length-map-range_with_len, get_or-map-range_with_len, map-range_with_len_more}
-use Rattle.std.proofs.lemmas.List.Sums.{sum_by_push}
-use Rattle.edge_trace.specs.Rows.{has, below, size, union, difference}
+use Rattle.std.proofs.lemmas.List.FromFn.{length-map-range_with_len, get_or-map-range_with_len}
+use Rattle.edge_trace.specs.Rows.{has, below, union, difference}
 
 -- ---- a row by what it has
 
@@ -76,30 +74,3 @@ has-difference a b edge = at (cases_lt edge (length a))
     at (inr past) =
         let none : has (difference a b) edge ≡ false = has_past (difference a b) edge (omega (arith, length-difference a b)) in
         rw (none, has_past a edge past) refl
-
--- ---- sizes
-
-below_row : (row : List Bool) → row ≡ below (length row) (has row)
-below_row row =
-    same_rows row (below (length row) (has row)) (sym (length-below (length row) (has row))) (λ edge under. sym (has-below (length row) (has row) edge under))
-
-size-below_more : (n : ℕ) (test : ℕ → Bool) → size (below (suc n) test) ≡ size (below n test) + cond (test n) 1 0
-unfolding below
-size-below_more n test =
-    ap (λ m. size (map test (range_with_len 0 m))) (sym (add-one n)) ∙ ap size (map-range_with_len_more test 0 n n (omega arith)) ∙ sum_by_push (λ is_in. cond is_in 1 0) (map test (range_with_len 0 n)) (test n)
-
-one_more : (s t : Bool) → cond (s || t) 1 0 ≡ cond s 1 0 + cond (t && not s) 1 0
-one_more true true = refl
-one_more true false = refl
-one_more false true = refl
-one_more false false = refl
-
-size-either : (n : ℕ) (s t : ℕ → Bool) → size (below n (λ e. s e || t e)) ≡ size (below n s) + size (below n (λ e. t e && not (s e)))
-size-either zero s t = unfold below in refl
-size-either (suc n) s t =
-    omega (arith, size-below_more n (λ e. s e || t e), size-below_more n s, size-below_more n (λ e. t e && not (s e)), size-either n s t, one_more (s n) (t n))
-
--- a set that joins another grows by what that has beyond it
-pub size-union : (a b : List Bool) → length a ≡ length b → size (union a b) ≡ size a + size (difference b a)
-size-union a b bounds =
-    size-either (length a) (has a) (has b) ∙ ap (λ row. size row + size (below (length a) (λ e. has b e && not (has a e)))) (sym (below_row a)) ∙ ap (λ n. size a + size (below n (λ e. has b e && not (has a e)))) bounds

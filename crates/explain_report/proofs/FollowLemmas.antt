@@ -1,5 +1,5 @@
 -- What a graph answers of a way out of a new point: whether a partner follows, and which place is told.
-use Rattle.std.proofs.Common.{◌≡◌, ℕ, ◌<◌, Bool, true, false, not, IsTrue, List, Option, Some, None, option_map, refl, sym, ap, ◌∙◌, arith}
+use Rattle.std.proofs.Common.{◌≡◌, ℕ, ◌<◌, Bool, true, false, not, IsTrue, List, Option, Some, None, option_map, sym, ap, ◌∙◌, arith}
 use Rattle.std.proofs.lemmas.Bool.{false_from_ne_true, not_from_false, not-true}
 use Rattle.csub_objects.specs.Types.{Name}
 use Rattle.csub_text.specs.declared.span.Span.{Span}
@@ -71,13 +71,6 @@ module _ (g : Tables) (P : ProgramTree) (ok : IsGraphOf g P) (f : Name) (p : Poi
     pub some_told : (n : ℕ) (h : Leads n) (span : Span) (place : Place) → span ≡ (placed_there n h).point.node.span → place ≡ place_of source span → place_text place ≡ new_place P source f follows
     some_told n h span place a b =
         ap place_text (b ∙ ap (place_of source) (a ∙ (placed_there n h).span)) ∙ sym (ap (new_place P source f) h.leads)
-
-    pub none_told : None ≡ option_map (site f) follows → new_place P source f None ≡ new_place P source f follows
-    none_told e = pick follows refl e
-      where
-        pick : (o : Option PointTree) → follows ≡ o → None ≡ option_map (site f) o → new_place P source f None ≡ new_place P source f follows
-        pick None is k = sym (ap (new_place P source f) is)
-        pick (Some q) is k = cc
 
 -- the way out of the edge with a number
 pub exit_there : (g : Tables) (P : ProgramTree) → IsGraphOf g P → (e : ℕ) (x : ExitTree) → e < edge_count g → ((edge : Edge) → edge_at P e ≡ Some edge → x ≡ edge.exit) → x ≡ exit_in (edge_at P e)

@@ -115,9 +115,6 @@ module _ (facts : List Fact) (marks : List Bool) where
     pub long : length table ≡ length facts
     pub entered : (k place : ℕ) → slice_get (marked_places marks n) k ≡ Some place → slice_get table place ≡ Some k
 
-  pub part_none : (table : List ℕ) → length table ≡ length facts → IsPartTo 0 [] table
-  part_none table long = record { moved = tt; long = long; entered = λ k place e. absurd cc }
-
   pub part_same : (n : ℕ) (kept : List Fact) (table : List ℕ) → has marks n ≡ false → IsPartTo n kept table → IsPartTo (n + 1) kept table
   part_same n kept table other h =
       let same = sym (places_same marks n other) in

@@ -1,8 +1,7 @@
 -- Lines that are written word by word.
-use Rattle.std.proofs.Common.{◌≡◌, ℕ, ◌+◌, ◌<◌, ◌≤◌, List, [], ◌∷◌, ◌++◌, length, get_or, drop, Option, Some, refl, sym, ap, ◌∙◌, append_assoc, append-nil}
+use Rattle.std.proofs.Common.{◌≡◌, ℕ, ◌+◌, List, [], ◌∷◌, ◌++◌, drop, Option, Some, refl, sym, ap, ◌∙◌, append_assoc}
 use Rattle.std.specs.Prelude.{codes}
 use Rattle.std.specs.Fmt.{decimal}
-use Rattle.std.proofs.lemmas.List.{at_drop_more, at_drop_all}
 use Rattle.line_text.specs.Lines.{text_of_lines}
 use Rattle.line_text.specs.Words.{line_of_words}
 use Rattle.csub_objects.specs.Types.{Name}
@@ -16,7 +15,6 @@ use Rattle.dual_walk.specs.declared.fact.Why.TheVariants.{Start, Step, Call, Ove
 use Rattle.dual_walk.specs.Books.{name_in}
 use Rattle.explain_report.specs.WalkTexts.{exit_text}
 use Rattle.explain_report.specs.Explanations.{reason_words, fact_line, fact_lines, new_place, back_words, parting_line}
-use Rattle.explain_report.proofs.EdgeLemmas.{line_added}
 
 -- ---- words
 
@@ -54,16 +52,6 @@ module _ (P : ProgramTree) where
 
   abbrev pub MakesFacts : List Fact → ℕ → List ℕ → List ℕ → Type 0
   MakesFacts facts i text whole = text ++ text_of_lines (fact_lines P i (drop i facts)) ≡ whole
-
-  pub facts_next : (facts : List Fact) (i : ℕ) (d : Fact) (before after whole : List ℕ) → i < length facts → after ≡ before ++ fact_line P i (get_or facts i d) ++ 10 ∷ []
-      → MakesFacts facts i before whole → MakesFacts facts (i + 1) after whole
-  facts_next facts i d before after whole within more h =
-      line_added before after whole (fact_line P i (get_or facts i d)) (text_of_lines (fact_lines P (i + 1) (drop (i + 1) facts))) more
-      (ap (λ lines. before ++ text_of_lines lines) (sym (at_drop_more (fact_lines P i) facts i d within)) ∙ h)
-
-  pub facts_all : (facts : List Fact) (i : ℕ) (text whole : List ℕ) → length facts ≤ i → MakesFacts facts i text whole → text ≡ whole
-  facts_all facts i text whole all h =
-      sym (append-nil text) ∙ ap (λ lines. text ++ text_of_lines lines) (sym (at_drop_all (fact_lines P i) facts i all)) ∙ h
 
 -- ---- the line of the danger
 

@@ -1,6 +1,6 @@
 -- A label has each global that its tree names, where the program declares it; and equal declarations.
 use Rattle.std.proofs.Common.{◌≡◌, ◌⊎◌, inl, inr, List, [], ◌∷◌, ◌++◌, Bool, true, false, ◌||◌, Option, Some, None, IsTrue, refl, ap, sym, subst, ◌∙◌}
-use Rattle.std.specs.List.{list_any, flat_map}
+use Rattle.std.specs.List.{list_any}
 use Rattle.std.specs.declared.cmp.Ordering.{Ordering}
 use Rattle.std.specs.declared.cmp.Ordering.TheVariants.{Less, Equal, Greater}
 use Rattle.std.specs.Ordering.{nat_cmp, match_ordering}
@@ -27,12 +27,6 @@ among_left (b ∷ names) more a (inr h) = inr (among_left names more a h)
 pub among_right : (names more : List Name) (a : Name) → Among more a → Among (names ++ more) a
 among_right [] more a h = h
 among_right (b ∷ names) more a h = inr (among_right names more a h)
-
-pub among_each : {X : Type 0} (names : X → List Name) (x : X) (xs : List X) (a : Name) → Among (names x) a → Among (flat_map names (x ∷ xs)) a
-among_each names x xs a h = among_left (names x) (flat_map names xs) a h
-
-pub among_others : {X : Type 0} (names : X → List Name) (x : X) (xs : List X) (a : Name) → Among (flat_map names xs) a → Among (flat_map names (x ∷ xs)) a
-among_others names x xs a h = among_right (names x) (flat_map names xs) a h
 
 abbrev order : Name → Name → Ordering
 order a b = slice_cmp nat_cmp a b

@@ -8,7 +8,7 @@ use Rattle.csub_semantics.specs.Syntax.{ProgramTree}
 use Rattle.csub_semantics.specs.Points.{PointTree, entry, ExitTree, next}
 use Rattle.csub_semantics.specs.Flows.{Flow, Edge, start_name, end_rule, function_of, function_nodes, cases_in, flow_of}
 use Rattle.csub_semantics.specs.Acts.{Store, Outcome, leaves, gives, pushes, pops, ends, act}
-use Rattle.csub_semantics.specs.Runs.{Frame, Standing, Turn, goes, stops, lost, cross, put_result, come_back, come_back_to, pop, exit_at, follow, turn_at, turn_of, turn, Moment, running, ended, nowhere, after_turn, go_on, after, results_at}
+use Rattle.csub_semantics.specs.Runs.{Frame, Turn, goes, stops, lost, cross, put_result, come_back, come_back_to, pop, exit_at, follow, turn_at, turn_of, turn, Moment, running, ended, nowhere, after_turn, go_on, after, results_at}
 use Rattle.csub_validity.specs.Valid.{IsDefinedAs, IsValid}
 use Rattle.program_laws.specs.Outcomes.{Fits}
 use Rattle.program_laws.specs.Lost.{NeverLost, HasResults}
@@ -128,9 +128,6 @@ module _ (P : ProgramTree) (valid : IsValid P) where
   pub stays : (input : List ℕ) (k : ℕ) → Stays (after F input k)
   stays input zero = (at_entry P start_name (start_defined P.functions valid.start), refl)
   stays input (suc k) = gone_on k (after F input k) (stays input k)
-
-  pub no_turn_lost : (input : List ℕ) (k : ℕ) (es : List Edge) (at : Standing) → after F input k ≡ running es at → turn F at ≢ lost
-  no_turn_lost input k es at e l = subst Keeps l (turn_keeps at.frames at.store (subst Stays e (stays input k)))
 
   pub never : NeverLost P
   never input k e = subst Stays e (stays input k)

@@ -113,9 +113,6 @@ module _ (P : ProgramTree) (f : FunctionTree) (defined : List Defined) (result :
 
   -- ---- declarations
 
-  new_local : Here → Option TypeTree → Declarator → LocalTree
-  new_local here base d = record { name = d.name.text; number = number_of d.name.text here.before; ctype = sure_type (object_type here.scope base d.dims) }
-
   -- a declared object with its initialiser
   init_is : (role : Role) (ls : List LocalTree) (here : Here) (base : Option TypeTree) (d : Declarator) (x : Init) → MayCall role
       → FineVar here base d → FineInit (past_var here base d).scope false (object_type here.scope base d.dims) x → WrittenInit x → Few (init_prints x)

@@ -1,5 +1,5 @@
 -- Programs whose lists are short: what no rule of the language bounds.
-use Rattle.std.specs.Prelude.{◌≤◌, All, List, length}
+use Rattle.std.specs.Prelude.{◌≤◌, All, length}
 use Rattle.csub_semantics.specs.Syntax.{StmtTree, StmtTrees, ElseTree, parts, block, conditional, while_loop, do_loop, for_loop}
 use Rattle.csub_semantics.specs.Syntax.{switch_on, case_label, default_label, breaks, continues, goes_to, marked, no_stmt, more_stmts}
 use Rattle.csub_semantics.specs.Syntax.{no_else, else_stmt, FunctionTree, ProgramTree}

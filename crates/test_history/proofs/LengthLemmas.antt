@@ -40,7 +40,3 @@ length-history_text history =
 -- the line of the crossed edges
 pub length-crossed_line : (row : List Bool) → 0 < length row → length (crossed_line Third row) ≡ 8 + 2 * ((length row + 7) / 8)
 length-crossed_line row some = omega (arith, length-row_bytes row, length-bytes_or_dash (row_bytes row) (omega (arith, length-row_bytes row)))
-
-pub length-crossed_line-none : (row : List Bool) → length row ≡ 0 → length (crossed_line Third row) ≡ 9
-length-crossed_line-none [] none = refl
-length-crossed_line-none (is_in ∷ row) none = absurd (omega arith)

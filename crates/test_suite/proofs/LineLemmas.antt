@@ -36,10 +36,6 @@ IsWord-test = record {
     test_byte : (k d c : ℕ) → k < 4 → get_or (codes "test") k d ≡ c → c < 45 → ⊥
     test_byte k d c within is small = grind arith
 
--- the words of a test's line
-pub words_of_line : TestParts → List (List ℕ)
-words_of_line test = codes "test" ∷ test.name ∷ decimal test.budget ∷ bytes_or_dash test.input ∷ []
-
 are_words : (test : TestParts) → IsWithin test → All IsWord (codes "test" ∷ test.name ∷ decimal test.budget ∷ bytes_or_dash test.input ∷ [])
 are_words test h =
     All-cons IsWord (codes "test") (test.name ∷ decimal test.budget ∷ bytes_or_dash test.input ∷ []) IsWord-test

@@ -30,10 +30,6 @@ plain_tests (test ∷ more) h =
     All-cons (λ line. All (λ byte. byte ≢ 10) line) (test_line test) (map test_line more)
     (test_line-no_newline test (All-head IsWithin test more h)) (plain_tests more (All-tail IsWithin test more h))
 
--- the lines of a text that begins with a suite
-pub lines_after : List TestParts → List TextLine → List TextLine
-lines_after tests others = line_with first_line true ∷ map (λ line. line_with line true) (map test_line tests) ++ others
-
 pub lines_of-suite_text : (tests : List TestParts) (rest : List ℕ) → All IsWithin tests
     → lines_of (suite_text tests ++ rest) ≡ line_with first_line true ∷ (map (λ line. line_with line true) (map test_line tests) ++ lines_of rest)
 lines_of-suite_text tests rest h =
