@@ -1,60 +1,15 @@
 //! The numbered graphs of small programs, whose points have their numbers as places.
-use csub_core::{ExitLabel, IntKind, Label, Point, RExpr, RPart, RStmt};
+use csub_core::{ExitLabel, Label, Point};
 use flow_graph::Graph;
-use program_builders::expressions::{constant, output_of};
-use program_builders::programs::program;
-use program_builders::statements::{
-    answer, evaluation, line_of, nested, one_part, part_at, place_before,
-};
-use std::alloc::{AllocError, Global};
+use program_words::read_program;
+use std::alloc::Global;
 use std::test::Fail;
 
-/// The graph of the program whose `main` has this body.
-fn graph_of(alloc: Global, body: Vec<RStmt>) -> Result<Graph, Fail> {
-    let program = program(alloc, body)?.ok_or("refused")?;
+/// The graph of the program whose `main` has these lines.
+pub fn graph_of(alloc: Global, lines: &str) -> Result<Graph, Fail> {
+    let text = format!(in alloc; "start main {{ {lines} }}")?;
+    let program = read_program(alloc, text.as_str())?.ok_or("refused")?;
     Ok(Graph::build(alloc, &program)?)
-}
-
-/// The part of a label at the point with a number.
-fn numbered(alloc: Global, label: Label, number: u32) -> RPart {
-    part_at(alloc, label, place_before(number))
-}
-
-/// The test `getchar()`.
-fn tested(alloc: Global, number: u32) -> RPart {
-    numbered(alloc, Label::Branch(RExpr::Getchar), number)
-}
-
-/// The part `putchar(byte)` alone.
-fn effect(alloc: Global, byte: i64, number: u32) -> Result<Vec<RPart>, AllocError> {
-    let label = evaluation(output_of(alloc, byte)?);
-    one_part(alloc, numbered(alloc, label, number))
-}
-
-/// `putchar(byte);`
-fn put(alloc: Global, byte: i64, number: u32) -> Result<RStmt, AllocError> {
-    Ok(RStmt::Parts(effect(alloc, byte, number)?))
-}
-
-/// `return 0;`
-fn give(alloc: Global, number: u32) -> Result<RStmt, AllocError> {
-    let label = answer(IntKind::Int, constant(alloc, 0)?);
-    line_of(alloc, numbered(alloc, label, number))
-}
-
-/// `if (getchar()) putchar(66); else putchar(67);`
-fn choosing(alloc: Global) -> Result<RStmt, AllocError> {
-    let then = nested(alloc, put(alloc, 66, 5)?)?;
-    let other = nested(alloc, put(alloc, 67, 6)?)?;
-    Ok(RStmt::If(tested(alloc, 4), then, Some(other)))
-}
-
-/// The graph of `int main(void) { if (getchar()) putchar(66); else putchar(67); return 0; }`.
-fn small_graph(alloc: Global) -> Result<Graph, Fail> {
-    let mut body = Vec::new(alloc);
-    body.push(choosing(alloc)?)?;
-    body.push(give(alloc, 7)?)?;
-    graph_of(alloc, body)
 }
 
 /// Whether the edges are those between the points, and each is found by its exit label.
@@ -86,9 +41,13 @@ const SMALL_EDGES: [(u32, u32); 8] = [
     (7, 8),
 ];
 
+/// `if (getchar()) putchar(66); else putchar(67); return 0;`
+const SMALL: &str =
+    "choose at:4 test getchar { line at:5 eval putchar 66 } { line at:6 eval putchar 67 } line at:7 return:int 0";
+
 #[test]
 fn the_numbers_of_a_small_program(rt: HostRuntime) -> Result<(), Fail> {
-    let graph = small_graph(rt.alloc())?;
+    let graph = graph_of(rt.alloc(), SMALL)?;
     assert!(rt; graph.points() == 9 && graph.edges() == 8);
     assert!(rt; has_edges(&graph, SMALL_EDGES.as_slice()));
     assert!(rt; matches!(graph.edge_at(3).exit, ExitLabel::True));
@@ -98,7 +57,7 @@ fn the_numbers_of_a_small_program(rt: HostRuntime) -> Result<(), Fail> {
     assert!(rt; graph.function_at(6) == 1 && graph.start_of(1) == 3 && graph.exit_of(1) == 8);
     assert!(rt; graph.span_at(6).start == 6);
     assert!(rt; matches!(graph.label_at(7), Label::Return(_)));
-    assert!(rt; has_place(&graph, 6, &[0, 1], 0, 0));
+    assert!(rt; has_place(&graph, 6, &[0, 1, 0], 0, 0));
     assert!(rt; graph.find(graph.name_of(1)) == Some(1));
     Ok(())
 }
@@ -114,50 +73,6 @@ fn has_place(graph: &Graph, point: u32, path: &[u32], part: u32, stage: u32) -> 
         }
         _ => false,
     }
-}
-
-/// `if (getchar()) then`
-fn when(alloc: Global, then: RStmt, number: u32) -> Result<RStmt, AllocError> {
-    let inner = nested(alloc, then)?;
-    Ok(RStmt::If(tested(alloc, number), inner, None))
-}
-
-/// `{ if (getchar()) break; if (getchar()) continue; getchar(); }`
-fn for_body(alloc: Global) -> Result<RStmt, AllocError> {
-    let mut lines = Vec::new(alloc);
-    lines.push(when(alloc, RStmt::Break, 7)?)?;
-    lines.push(when(alloc, RStmt::Continue, 8)?)?;
-    lines.push(line_of(alloc, numbered(alloc, Label::Eval(RExpr::Getchar), 9))?)?;
-    Ok(RStmt::Block(lines))
-}
-
-/// `for (putchar(65); getchar(); putchar(66))` with that body.
-fn numbered_for(alloc: Global) -> Result<RStmt, AllocError> {
-    let body = nested(alloc, for_body(alloc)?)?;
-    let first = effect(alloc, 65, 4)?;
-    let third = effect(alloc, 66, 6)?;
-    Ok(RStmt::For(first, tested(alloc, 5), third, body))
-}
-
-/// `while (getchar()) putchar(68);`
-fn numbered_while(alloc: Global) -> Result<RStmt, AllocError> {
-    let body = nested(alloc, put(alloc, 68, 11)?)?;
-    Ok(RStmt::While(tested(alloc, 10), body))
-}
-
-/// `do while (getchar()) putchar(68); while (getchar());`
-fn numbered_do(alloc: Global) -> Result<RStmt, AllocError> {
-    let body = nested(alloc, numbered_while(alloc)?)?;
-    Ok(RStmt::Do(body, tested(alloc, 12)))
-}
-
-/// The graph of a `main` of these loops and `return 0;`.
-fn loop_graph(alloc: Global) -> Result<Graph, Fail> {
-    let mut body = Vec::new(alloc);
-    body.push(numbered_for(alloc)?)?;
-    body.push(numbered_do(alloc)?)?;
-    body.push(give(alloc, 13)?)?;
-    graph_of(alloc, body)
 }
 
 // Points 0 to 2 are those of `#start`, 3 is the entry of `main`, 4 to 13 are as their places, and 14 is its exit.
@@ -188,9 +103,17 @@ const LOOP_EDGES: [(u32, u32); 18] = [
     (13, 14),
 ];
 
+/// ```c
+/// for (putchar(65); getchar(); putchar(66)) { if (getchar()) break; if (getchar()) continue; getchar(); }
+/// do while (getchar()) putchar(68); while (getchar());
+/// return 0;
+/// ```
+const LOOPS: &str =
+    "for:1:1 at:4 eval putchar 65 at:5 test getchar at:6 eval putchar 66 { if at:7 test getchar { break } if at:8 test getchar { continue } line at:9 eval getchar } do { while at:10 test getchar { line at:11 eval putchar 68 } } at:12 test getchar line at:13 return:int 0";
+
 #[test]
 fn the_edges_of_loops(rt: HostRuntime) -> Result<(), Fail> {
-    let graph = loop_graph(rt.alloc())?;
+    let graph = graph_of(rt.alloc(), LOOPS)?;
     assert!(rt; graph.points() == 15);
     for point in 4..14u32 {
         assert!(rt; graph.span_at(point).start == point);

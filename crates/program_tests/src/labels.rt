@@ -1,125 +1,26 @@
 //! Which labels have one number, and how a caller asks that counts nothing.
 ghost use Rattle.std.specs.Prelude.{◌≡◌, ◌<◌, length};
 
-use csub_core::{BinOp, CallLabel, EndRule, GlobalVar, IntKind, Label, RExpr};
+use csub_core::Label;
 use edge_label::{LabelBook, Steps};
-use program_builders::expressions::{binary, constant, constant_of, input, output};
-use program_builders::functions::{call, one_argument};
-use program_builders::objects::{declared, global, one_parameter, read};
-use program_builders::statements::{answer, evaluation};
-use std::alloc::{AllocError, Global};
+use program_words::{read_labels, read_program};
+use std::alloc::Global;
 use std::marker::Brand;
 use std::sync::ledger::{Blank, Ledger};
 use std::test::Fail;
 
-/// The label of `7 op value`, with the value as a constant of a kind.
-fn operation(alloc: Global, op: BinOp, kind: IntKind, value: i64) -> Result<Label, AllocError> {
-    let left = constant(alloc, 7)?;
-    let right = constant_of(alloc, kind, value)?;
-    Ok(evaluation(binary(alloc, op, IntKind::Int, left, right)?))
-}
-
-/// A call of a function of one parameter with one argument.
-#[derive(Clone, Copy)]
-struct Case {
-    name: u8,
-    param: u8,
-    declared: IntKind,
-    returned: Option<IntKind>,
-    arg: i64,
-    temp: Option<u32>,
-}
-
-fn call_of(alloc: Global, case: Case) -> Result<CallLabel, AllocError> {
-    let params = one_parameter(alloc, &[case.param], case.declared)?;
-    let args = one_argument(alloc, constant(alloc, case.arg)?)?;
-    let mut label = call(alloc, &[case.name], case.returned, case.temp)?;
-    label.params = params;
-    label.args = args;
-    Ok(label)
-}
-
-fn push_ends(labels: &mut Vec<Label>) -> Result<(), AllocError> {
-    for rule in [
-        EndRule::Nothing,
-        EndRule::Value,
-        EndRule::Main,
-        EndRule::Start,
-    ] {
-        labels.push(Label::Exit(rule))?;
-    }
-    Ok(())
-}
-
-fn push_plain(alloc: Global, labels: &mut Vec<Label>) -> Result<(), AllocError> {
-    labels.push(Label::Entry)?;
-    push_ends(labels)?;
-    labels.push(Label::Eval(RExpr::Getchar))?;
-    labels.push(Label::Branch(RExpr::Getchar))?;
-    labels.push(Label::Return(None))?;
-    for kind in [IntKind::Char, IntKind::Int] {
-        labels.push(answer(kind, input(alloc)?))?;
-    }
-    labels.push(evaluation(output(alloc, input(alloc)?)?))?;
-    Ok(())
-}
-
-fn push_operations(alloc: Global, labels: &mut Vec<Label>) -> Result<(), AllocError> {
-    let cases = [
-        (BinOp::Add, IntKind::Int, 1),
-        (BinOp::Sub, IntKind::Int, 1),
-        (BinOp::Add, IntKind::Unsigned, 1),
-        (BinOp::Add, IntKind::Char, 1),
-        (BinOp::Add, IntKind::Int, 0),
-        (BinOp::Add, IntKind::Int, -1),
-        (BinOp::Add, IntKind::Int, -2),
-    ];
-    for (op, kind, value) in cases {
-        labels.push(operation(alloc, op, kind, value)?)?;
-    }
-    Ok(())
-}
-
-fn push_calls(alloc: Global, labels: &mut Vec<Label>) -> Result<(), AllocError> {
-    let char = IntKind::Char;
-    let int = IntKind::Int;
-    let cases = [
-        (b'f', b'x', int, Some(int), 5, Some(1)),
-        (b'g', b'x', int, Some(int), 5, Some(1)),
-        (b'f', b'y', int, Some(int), 5, Some(1)),
-        (b'f', b'x', char, Some(int), 5, Some(1)),
-        (b'f', b'x', int, Some(char), 5, Some(1)),
-        (b'f', b'x', int, None, 5, None),
-        (b'f', b'x', int, Some(int), 6, Some(1)),
-        (b'f', b'x', int, Some(int), 5, Some(2)),
-    ];
-    for (name, param, declared, returned, arg, temp) in cases {
-        let case = Case {
-            name,
-            param,
-            declared,
-            returned,
-            arg,
-            temp,
-        };
-        labels.push(Label::Call(call_of(alloc, case)?))?;
-    }
-    Ok(())
-}
-
-/// 26 labels, each other than the ones before it.
-fn different(alloc: Global) -> Result<Vec<Label>, AllocError> {
-    let mut labels = Vec::new(alloc);
-    push_plain(alloc, &mut labels)?;
-    push_operations(alloc, &mut labels)?;
-    push_calls(alloc, &mut labels)?;
-    Ok(labels)
-}
+/// 26 labels, each other than the ones before it: those without values, those with a value or another kind, operations,
+/// and calls of a function with one parameter and one argument.
+const DIFFERENT: &str =
+    "entry end:nothing end:value end:main end:start eval getchar test getchar return return:char getchar return:int getchar eval putchar getchar \
+    eval add:int 7 1 eval sub:int 7 1 eval add:int 7 const:unsigned:1 eval add:int 7 const:char:1 eval add:int 7 0 eval add:int 7 -1 eval add:int 7 -2 \
+    call:f:int:1 member:x int value 5 call:g:int:1 member:x int value 5 call:f:int:1 member:y int value 5 call:f:int:1 member:x char value 5 \
+    call:f:char:1 member:x int value 5 call:f:void:0 member:x int value 5 call:f:int:1 member:x int value 6 call:f:int:2 member:x int value 5";
 
 /// The numbers that a book gives to a new build of these labels.
-fn numbers(alloc: Global, book: &mut LabelBook) -> Result<Vec<u32>, AllocError> {
+fn numbers(alloc: Global, book: &mut LabelBook) -> Result<Vec<u32>, Fail> {
     let mut numbers = Vec::new(alloc);
-    for label in &different(alloc)? {
+    for label in &read_labels(alloc, DIFFERENT)? {
         numbers.push(book.intern(label, &[])?)?;
     }
     Ok(numbers)
@@ -139,40 +40,28 @@ fn a_label_has_the_number_of_its_equal_and_of_no_other(rt: HostRuntime) -> Resul
     Ok(())
 }
 
-/// The label of `putchar(k);`, with `k` an `int` of file scope.
-fn naming(alloc: Global) -> Result<Label, AllocError> {
-    let value = read(alloc, global(b"k", IntKind::Int))?;
-    Ok(evaluation(output(alloc, value)?))
-}
-
-/// `int j = other;` and `int k = initial;`
-fn declarations(alloc: Global, other: i64, initial: i64) -> Result<Vec<GlobalVar>, AllocError> {
-    let mut made = Vec::new(alloc);
-    made.push(declared(alloc, global(b"j", IntKind::Int), &[other])?)?;
-    made.push(declared(alloc, global(b"k", IntKind::Int), &[initial])?)?;
-    Ok(made)
-}
-
-/// The number of a label beside these declarations.
+/// The number of `putchar(k)` beside `int j` and `int k` with these contents.
 fn number_beside(
     alloc: Global,
     book: &mut LabelBook,
     label: &Label,
     other: i64,
     initial: i64,
-) -> Result<u32, AllocError> {
-    let globals = declarations(alloc, other, initial)?;
-    book.intern(label, &globals)
+) -> Result<u32, Fail> {
+    let text = format!(in alloc; "start main {{ }} static:j:{other} int static:k:{initial} int")?;
+    let program = read_program(alloc, text.as_str())?.ok_or("refused")?;
+    Ok(book.intern(label, program.globals())?)
 }
 
 // A label holds the initial contents of the objects that it names, and of no others.
 #[test]
 fn a_label_has_the_contents_of_what_it_names(rt: HostRuntime) -> Result<(), Fail> {
     let alloc = rt.alloc();
-    let label = Box::new(alloc, naming(alloc)?)?;
+    let labels = read_labels(alloc, "eval putchar read global:k int")?;
+    let label = labels.first().ok_or("no label")?;
     let mut book = LabelBook::new(alloc);
     for (other, initial, number) in [(1, 1, 0), (1, 2, 1), (2, 1, 0), (2, 2, 1)] {
-        let given = number_beside(alloc, &mut book, &label, other, initial)?;
+        let given = number_beside(alloc, &mut book, label, other, initial)?;
         assert_eq!(rt; given, number, "with {other} and {initial}");
     }
     Ok(())

@@ -1,9 +1,7 @@
-//! Tests of programs and of what is made of them: objects of file scope, the graph, the labels. They build their programs
-//! with `program_builders`, in small functions that each make one thing.
+//! Tests of what is made of programs: the graph, and the numbers of labels. The programs are written in words
+//! (`program_words`).
 #![tactic(auto)]
 
-#[cfg(test)]
-mod globals;
 #[cfg(test)]
 mod graphs;
 #[cfg(test)]

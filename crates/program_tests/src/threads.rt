@@ -1,14 +1,14 @@
 //! Programs and graphs go between threads, and are shared among them.
 use csub_core::Program;
 use flow_graph::Graph;
-use program_builders::programs::program;
+use program_words::read_program;
 use std::alloc::Global;
 use std::test::Fail;
 use std::thread;
 
 /// The program of an empty `main`.
 fn smallest(alloc: Global) -> Option<Program> {
-    program(alloc, Vec::new(alloc)).ok()?
+    read_program(alloc, "start main { }").ok()?
 }
 
 /// Its graph.

@@ -1,0 +1,127 @@
+//! Parts of one point.
+use crate::error::Unread;
+use crate::fields::Fields;
+use crate::lists::{all, last, push};
+use crate::reading::Reading;
+use csub_core::{Answer, CallLabel, EndRule, Label, Place, RCall, RPart, Span};
+
+/// The place of what stands in no source.
+pub const NOWHERE: Span = Span { start: 0, end: 0 };
+
+impl Reading {
+    /// Reads a word of a part. `false` where it is none.
+    pub fn read_part(&mut self, name: &str, fields: &mut Fields<'_>) -> Result<bool, Unread> {
+        match name {
+            "eval" => self.read_evaluation()?,
+            "test" => self.read_test()?,
+            "switch_value" => self.read_switch_value()?,
+            "return" => self.read_return(fields)?,
+            "exit" => self.read_exit()?,
+            "init" => self.read_initialisation()?,
+            "jump" => self.push_part(Label::Goto)?,
+            "entry" => self.push_part(Label::Entry)?,
+            "end" => self.read_end(fields)?,
+            "call" => self.read_call(fields)?,
+            "at" => self.read_at(fields)?,
+            _ => return Ok(false),
+        }
+        Ok(true)
+    }
+
+    fn push_part(&mut self, label: Label) -> Result<(), Unread> {
+        let part = RPart {
+            calls: Vec::new(self.alloc),
+            main: Some(label),
+            span: NOWHERE,
+        };
+        push(&mut self.parts, part)
+    }
+
+    fn read_evaluation(&mut self) -> Result<(), Unread> {
+        let value = last(&mut self.values)?;
+        self.push_part(Label::Eval(Box::into_inner(value)))
+    }
+
+    fn read_test(&mut self) -> Result<(), Unread> {
+        let value = last(&mut self.values)?;
+        self.push_part(Label::Branch(Box::into_inner(value)))
+    }
+
+    fn read_switch_value(&mut self) -> Result<(), Unread> {
+        let value = last(&mut self.values)?;
+        self.push_part(Label::Switch(Box::into_inner(value)))
+    }
+
+    fn read_return(&mut self, fields: &mut Fields<'_>) -> Result<(), Unread> {
+        if fields.is_done() {
+            return self.push_part(Label::Return(None));
+        }
+        let kind = fields.kind()?;
+        let value = Box::into_inner(last(&mut self.values)?);
+        self.push_part(Label::Return(Some(Answer { kind, value })))
+    }
+
+    fn read_exit(&mut self) -> Result<(), Unread> {
+        let value = last(&mut self.values)?;
+        self.push_part(Label::Halt(Box::into_inner(value)))
+    }
+
+    fn read_initialisation(&mut self) -> Result<(), Unread> {
+        let place = last(&mut self.places)?;
+        let contents = last(&mut self.initialisers)?;
+        match Box::into_inner(place) {
+            Place::Var(owner, ctype) => self.push_part(Label::Init(owner, ctype, contents)),
+            _ => Err(Unread::Operand),
+        }
+    }
+
+    fn read_end(&mut self, fields: &mut Fields<'_>) -> Result<(), Unread> {
+        let rule = match fields.next()? {
+            "nothing" => EndRule::Nothing,
+            "value" => EndRule::Value,
+            "main" => EndRule::Main,
+            "start" => EndRule::Start,
+            _ => return Err(Unread::Word),
+        };
+        self.push_part(Label::Exit(rule))
+    }
+
+    fn read_call(&mut self, fields: &mut Fields<'_>) -> Result<(), Unread> {
+        let callee = fields.name(self.alloc)?;
+        let outcome = fields.outcome()?;
+        let number = fields.count()?;
+        let params = all(self.alloc, &mut self.members)?;
+        let args = all(self.alloc, &mut self.arguments)?;
+        let temp = if number == 0 { None } else { Some(number) };
+        self.push_call(CallLabel {
+            callee,
+            params,
+            result: outcome,
+            args,
+            temp,
+        })
+    }
+
+    /// Adds a part that is a call as a whole.
+    pub fn push_call(&mut self, label: CallLabel) -> Result<(), Unread> {
+        let mut calls = Vec::new(self.alloc);
+        let span = NOWHERE;
+        push(&mut calls, RCall { label, span })?;
+        let part = RPart {
+            calls,
+            main: None,
+            span,
+        };
+        push(&mut self.parts, part)
+    }
+
+    fn read_at(&mut self, fields: &mut Fields<'_>) -> Result<(), Unread> {
+        let byte = fields.count()?;
+        let part = self.parts.last_mut().ok_or(Unread::Operand)?;
+        part.span = Span {
+            start: byte,
+            end: byte,
+        };
+        Ok(())
+    }
+}
