@@ -14,14 +14,15 @@
 //! | `value VALUE`, `row PLACE` | arguments |
 //! | `eval VALUE`, `test VALUE`, `switch_value VALUE`, `return`, `return:KIND VALUE`, `exit VALUE`, `init PLACE INITIALISER`, `jump`, `entry`, `end:RULE`, `call:NAME:RESULT:TEMPORARY MEMBER.. ARGUMENT..` | parts of one point; `jump` is that of a `goto` |
 //! | `at:BYTE PART` | the part, with its place in a source |
-//! | `line PART`, `lines:COUNT PART..`, `{ STATEMENT.. }` | statements without others inside, blocks |
+//! | `line PART`, `lines:COUNT PART..`, `block BLOCK` | statements without others inside, and blocks as statements |
 //! | `if PART BLOCK`, `choose PART BLOCK BLOCK`, `while PART BLOCK`, `do BLOCK PART`, `for:COUNT:COUNT PART.. PART PART.. BLOCK`, `switch PART BLOCK`, `case:VALUE`, `default`, `break`, `continue`, `goto:NAME PART`, `mark:NAME STATEMENT` | the other statements |
 //! | `object:NAME:NUMBER TYPE` | a local |
 //! | `function:NAME:RESULT:TEMPORARIES MEMBER.. OBJECT.. BLOCK`, `main MEMBER.. OBJECT.. BLOCK`, `start` | functions; a `main` gives an `int` and has no temporaries, and `start` is `#start`, which calls it |
 //! | `static:NAME:NUMBER:.. TYPE` | an object of file scope with the contents of its cells |
 //!
-//! A `RESULT` is a kind or `void`; a `TEMPORARY` is its number, or 0 for none; a `RULE` is `nothing`, `value`, `main` or
-//! `start`. Nothing is looked at but the words: whether a program is valid says [`csub_core::Program::make`].
+//! A `BLOCK` is `{ STATEMENT.. }`; a `RESULT` is a kind or `void`; a `TEMPORARY` is its number, or 0 for none; a `RULE`
+//! is `nothing`, `value`, `main` or `start`. Nothing is looked at but the words: whether a program is valid says
+//! [`csub_core::Program::make`].
 #![tactic(auto)]
 
 mod error;
