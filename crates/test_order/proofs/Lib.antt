@@ -1,0 +1,6 @@
+mod DeterminedLemmas
+mod FirstLemmas
+mod GainLemmas
+mod OrderLemmas
+mod TurnLemmas
+mod WaitingLemmas
