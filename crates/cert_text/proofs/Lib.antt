@@ -1,0 +1,12 @@
+mod AskedLemmas
+mod CauseLemmas
+mod ItemLemmas
+mod PairLemmas
+mod PlainLemmas
+mod ReadLemmas
+mod RowLemmas
+mod ScanLemmas
+mod TextLemmas
+mod SameLemmas
+mod ValueLemmas
+mod WholeLemmas

@@ -1,0 +1,6 @@
+pub mod Lines
+pub mod Certificates
+pub mod CertificateTexts
+pub mod Rules
+pub mod Causes
+pub mod Faults
