@@ -1,5 +1,5 @@
-//! Tests of what no contract says of the crates of texts, rows, suites, histories, selections and the outside: worked
-//! texts with digests of an outside tool, each limit of a format with its next, and that calls succeed with ample
+//! Tests of what no contract says of the crates of texts, rows, suites, histories, selections, orders and the outside:
+//! worked texts with digests of an outside tool, each limit of a format with its next, and that calls succeed with ample
 //! memory. They stand here since a crate's tests are proved together with the whole crate.
 #![tactic(auto)]
 
@@ -17,6 +17,8 @@ mod history_version_2;
 mod known_history;
 #[cfg(test)]
 mod numbers;
+#[cfg(test)]
+mod orders;
 #[cfg(test)]
 mod outside;
 #[cfg(test)]

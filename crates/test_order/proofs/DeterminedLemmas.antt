@@ -7,6 +7,7 @@ use Rattle.test_select.specs.declared.choice.Choice.{Choice}
 use Rattle.test_order.specs.declared.placed.Placed.{Placed}
 use Rattle.test_order.specs.Orders.{is_selected_at, is_placed, is_waiting, IsNext, IsOrder, OrderIsDetermined}
 
+-- a place is its test and its gain
 same_place : (one other : Placed) → one.at ≡ other.at → one.gain ≡ other.gain → one ≡ other
 same_place one other at gain =
     let first : one ≡ record { at = other.at; gain = one.gain } = ap (λ (n : ℕ). let place : Placed = record { at = n; gain = one.gain } in place) at in

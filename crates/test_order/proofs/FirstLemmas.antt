@@ -8,6 +8,7 @@ use Rattle.test_order.specs.declared.placed.Placed.{Placed}
 use Rattle.test_order.specs.Orders.{IsNotBehind}
 use Rattle.test_order.specs.Counts.{IsFirstOf}
 
+-- a place that isn't behind a second one isn't behind what the second isn't behind
 pub not_behind_both : (a b : Placed) (gain other : ℕ) → IsNotBehind a b.gain b.at → IsNotBehind b gain other → IsNotBehind a gain other
 not_behind_both a b gain other first second = (omega arith, λ same. omega (arith, first.1, second.1))
 
@@ -90,11 +91,11 @@ first_of_chunks places size parts first some enough each held =
 
 -- the first of each chunk of tests, and of these the first: the first of all
 pub first_of_test_chunks : (place : ℕ → Placed) (tests : List ℕ) (size chunks : ℕ) (parts told : List Placed) (first : Placed) → 0 < size → told ≡ parts → length told ≡ chunks
-    → chunks ≡ length tests / size + min 1 (length tests % size) → ((n : ℕ) (d : Placed) → n < length parts → IsFirstOf (map place (slice_chunk tests size n)) (get_or parts n d))
-    → IsFirstOf told first → IsFirstOf (map place tests) first
+    → chunks ≡ length tests / size + min 1 (length tests % size)
+    → ((n : ℕ) (d : Placed) → n < length parts → (chunk : List ℕ) × (chunk ≡ slice_chunk tests size n) × IsFirstOf (map place chunk) (get_or parts n d)) → IsFirstOf told first → IsFirstOf (map place tests) first
 first_of_test_chunks place tests size chunks parts told first some is_told long count each held =
     let same : (n : ℕ) → map place (slice_chunk tests size n) ≡ slice_chunk (map place tests) size n =
     λ n. sym (take-map place size (drop (n * size) tests)) ∙ ap (take size) (sym (drop-map place (n * size) tests)) in
     let enough : length tests ≤ length parts * size = enough_chunks (length tests) size (length parts) some (ap length (sym is_told) ∙ long ∙ count) in
     first_of_chunks (map place tests) size parts first some (omega (arith, length-map tests place, enough))
-    (λ n d below. subst (λ chunk. IsFirstOf chunk (get_or parts n d)) (same n) (each n d below)) (subst (λ places. IsFirstOf places first) is_told held)
+    (λ n d below. let chunk = each n d below in subst (λ places. IsFirstOf places (get_or parts n d)) (ap (map place) chunk.1 ∙ same n) chunk.2) (subst (λ places. IsFirstOf places first) is_told held)

@@ -27,6 +27,7 @@ pub gain_is : (entries : List EntryParts) (edges test : ℕ) (seen : List Bool) 
 gain_is entries edges test seen placed rows stands same =
     ap (λ set. gain_beyond entries set test) (same ∙ ap (λ bound. covered entries bound placed) (sym (row_bound entries edges test rows stands)))
 
+-- `or` with nothing more
 pub or_none : (a : Bool) → (a || false) ≡ a
 or_none true = refl
 or_none false = refl
@@ -50,6 +51,7 @@ covered_more entries edges d seen placed next rows stands same =
 
 -- ---- a gain never grows
 
+-- a test that passes only where another does counts no more
 one_le : (a b : Bool) → (a ≡ true → b ≡ true) → cond a 1 0 ≤ cond b 1 0
 one_le true b more = let same : b ≡ true = more refl in rw same (omega arith)
 one_le false b more = omega arith
@@ -59,6 +61,7 @@ count_map_le one other more [] = omega arith
 count_map_le one other more (edge ∷ edges) =
     omega (arith, sum_by-cons (λ b. cond b 1 0) (one edge) (map one edges), sum_by-cons (λ b. cond b 1 0) (other edge) (map other edges), one_le (one edge) (other edge) (more edge), count_map_le one other more edges)
 
+-- the numbers below a bound that pass a narrower test are not more
 size_below_le : (bound : ℕ) (one other : ℕ → Bool) → ((edge : ℕ) → one edge ≡ true → other edge ≡ true) → size (below bound one) ≤ size (below bound other)
 unfolding below
 size_below_le bound one other more = count_map_le one other more (range_with_len 0 bound)
@@ -78,6 +81,7 @@ covered_stays entries bound placed next edge held = at (cases_lt edge bound)
     at (inr past) =
         absurd (true≢false (sym held ∙ has_past (covered entries bound placed) edge (omega (arith, length-below bound (λ e. list_any (λ (place : Placed). has (row_of entries place.at) e) placed)))))
 
+-- so one more test before a test takes gain from it, or leaves it
 pub gain_falls : (entries : List EntryParts) (placed : List Placed) (next : Placed) (test : ℕ) → gain_after entries (placed ++ next ∷ []) test ≤ gain_after entries placed test
 gain_falls entries placed next test =
     let bound : ℕ = length (row_of entries test) in

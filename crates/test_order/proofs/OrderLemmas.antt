@@ -20,6 +20,7 @@ pub record IsBegun (entries : List EntryParts) (choices : List Choice) (placed :
   pub each : (k : ℕ) (d : Placed) → k < length placed → IsNext entries choices (take k placed) (get_or placed k d)
   pub waiting : AreWaiting choices placed tests
 
+-- before the first place
 pub begun_none : (entries : List EntryParts) (choices : List Choice) (waiting : List ℕ) → AreWaiting choices [] waiting → IsBegun entries choices [] waiting
 begun_none entries choices waiting waits = record {
   stand = λ k d below. absurd (omega arith);
@@ -83,6 +84,7 @@ counted_greatest entries seen tests place other first among =
     let same : get_or (map (counted entries seen) tests) k place ≡ counted entries seen other = get_or-map (counted entries seen) tests k 0 place below ∙ ap (counted entries seen) test in
     subst (λ (p : Placed). IsNotBehind place p.gain p.at) same (first.greatest k place inside)
 
+-- so it comes next
 pub comes_next : (entries : List EntryParts) (choices : List Choice) (edges : ℕ) (seen : List Bool) (placed : List Placed) (waiting : List ℕ) (next : Placed) → HaveRows edges entries
     → length choices ≡ length entries → seen ≡ covered entries edges placed → AreWaiting choices placed waiting → IsFirstOfTests entries seen waiting next → IsNext entries choices placed next
 comes_next entries choices edges seen placed waiting next rows long same waits first =

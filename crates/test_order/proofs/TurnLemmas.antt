@@ -18,6 +18,7 @@ use Rattle.test_order.proofs.GainLemmas.{covered_more}
 use Rattle.test_order.proofs.WaitingLemmas.{waiting_less, without_shorter}
 use Rattle.test_order.proofs.OrderLemmas.{IsBegun, begun_none, begun_more, order_all, waits_within, counted_among, comes_next, rest_placed, none_adds}
 
+-- what holds of the places holds of an `Ok` that has them
 pub ok_placed : (P : List Placed → Type 0) (places : List Placed) (result : Result (Vec Placed Global) AllocError) → IfOk result (λ all. all.items ≡ places) → P places → IfOk result (λ all. P all.items)
 ok_placed P places (Ok all) same held = subst P (sym same) held
 ok_placed P places (Err e) same held = tt

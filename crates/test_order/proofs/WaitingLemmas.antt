@@ -34,6 +34,7 @@ pub record AreSelected (choices : List Choice) (place : ℕ) (tests : List ℕ) 
   pub under : All (λ test. test < place) tests
   pub rising : AllPairs (λ test later. test < later) tests
 
+-- no choice yet
 pub selected_none : (choices : List Choice) → AreSelected choices 0 []
 selected_none choices = record {
   members = λ test. let none : ltb test 0 ≡ false = le-ltb test 0 (omega arith) in rw none refl;
@@ -41,6 +42,7 @@ selected_none choices = record {
   rising = λ i j d before below. absurd (omega arith);
 }
 
+-- whether a test is among the selected ones below one more place, where that place is taken or left
 member_more : (s a : Bool) (test place : ℕ) → a ≡ (ltb test place && s) → (test ≡ place → s ≡ true) → (a || ((place == test) || false)) ≡ (ltb test (place + 1) && s)
 member_more s a test place held here = at (cases_order test place)
   where
@@ -78,6 +80,7 @@ member_left s test place here = at (cases_order test place)
         let over : ltb test (place + 1) ≡ false = le-ltb test (place + 1) (omega arith) in
         rw (under, over) refl
 
+-- one more choice: selected
 pub selected_more : (choices : List Choice) (place : ℕ) (tests : List ℕ) → AreSelected choices place tests → is_selected_at choices place ≡ true → AreSelected choices (place + 1) (tests ++ place ∷ [])
 selected_more choices place tests held chosen = record {
   members = λ test. list_any-append (λ one. one == test) tests (place ∷ []) ∙ member_more (is_selected_at choices test) (is_among tests test) test place (held.members test) (λ same. ap (is_selected_at choices) same ∙ chosen);
@@ -85,6 +88,7 @@ selected_more choices place tests held chosen = record {
   rising = all_pairs_push (λ test later. test < later) tests place held.rising held.under;
 }
 
+-- one more choice: left
 pub selected_less : (choices : List Choice) (place : ℕ) (tests : List ℕ) → AreSelected choices place tests → is_selected_at choices place ≡ false → AreSelected choices (place + 1) tests
 selected_less choices place tests held left = record {
   members = λ test. held.members test ∙ member_left (is_selected_at choices test) test place (λ same. ap (is_selected_at choices) same ∙ left);
@@ -110,6 +114,7 @@ selected_all choices place tests held end = record {
 among_filter : (p : ℕ → Bool) (tests : List ℕ) (test : ℕ) → is_among (filter p tests) test ≡ (p test && is_among tests test)
 among_filter p tests test = any-filter_same (λ one. one == test) p (p test) (λ one same. ap p (eqb-true one test same)) tests
 
+-- the test that was just placed waits no more
 placed_anyway : (p s : Bool) → false ≡ (not (p || true) && s)
 placed_anyway true s = refl
 placed_anyway false s = refl
@@ -124,6 +129,7 @@ member_less placed s gone test = at placed (cases_eq test gone)
         let second : (gone == test) ≡ false = ne_eqb gone test (λ same. other (sym same)) in
         rw (first, second, or_none p) refl
 
+-- the others wait on
 pub waiting_less : (choices : List Choice) (placed : List Placed) (waiting : List ℕ) (next : Placed) → AreWaiting choices placed waiting → AreWaiting choices (placed ++ next ∷ []) (without next.at waiting)
 waiting_less choices placed waiting next held = record {
   members = λ test.
@@ -164,6 +170,7 @@ first_least test tests other rising among =
     at zero d below is = omega (arith, is)
     at (suc k) d below is = omega (arith, is, rising 0 (suc k) d (omega arith) below)
 
+-- nothing goes where all stand later
 without_same : (test : ℕ) (tests : List ℕ) → All (λ later. test < later) tests → without test tests ≡ tests
 without_same test [] later = refl
 without_same test (one ∷ tests) later =
