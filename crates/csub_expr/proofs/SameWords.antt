@@ -1,5 +1,5 @@
 -- Marks and keywords that the comparison takes for one are one.
-use Rattle.std.proofs.Common.{◌≡◌, ℕ, zero, suc, true, refl, sym, ap, ◌∙◌}
+use Rattle.std.proofs.Common.{◌≡◌, List, [], ◌∷◌, get_or, true, refl, sym, ap, ◌∙◌}
 use Rattle.std.proofs.lemmas.Bool.{eqb-true}
 use Rattle.csub_lex.specs.declared.token.Key.{Key}
 use Rattle.csub_lex.specs.declared.token.Key.TheVariants as keys
@@ -7,54 +7,19 @@ use Rattle.csub_lex.specs.declared.token.Mark.{Mark}
 use Rattle.csub_lex.specs.declared.token.Mark.TheVariants as marks
 use Rattle.csub_expr.specs.Looks.{same_mark, same_key, mark_code, key_code}
 
-mark_back : ℕ → Mark
-mark_back zero = marks.OpenBrace
-mark_back (suc zero) = marks.CloseBrace
-mark_back (suc (suc zero)) = marks.OpenParen
-mark_back (suc (suc (suc zero))) = marks.CloseParen
-mark_back (suc (suc (suc (suc zero)))) = marks.OpenBracket
-mark_back (suc (suc (suc (suc (suc zero))))) = marks.CloseBracket
-mark_back (suc (suc (suc (suc (suc (suc zero)))))) = marks.Semicolon
-mark_back (suc (suc (suc (suc (suc (suc (suc zero))))))) = marks.Comma
-mark_back (suc (suc (suc (suc (suc (suc (suc (suc zero)))))))) = marks.Colon
-mark_back (suc (suc (suc (suc (suc (suc (suc (suc (suc zero))))))))) = marks.Question
-mark_back (suc (suc (suc (suc (suc (suc (suc (suc (suc (suc zero)))))))))) = marks.Dot
-mark_back (suc (suc (suc (suc (suc (suc (suc (suc (suc (suc (suc zero))))))))))) = marks.Tilde
-mark_back (suc (suc (suc (suc (suc (suc (suc (suc (suc (suc (suc (suc zero)))))))))))) = marks.Plus
-mark_back (suc (suc (suc (suc (suc (suc (suc (suc (suc (suc (suc (suc (suc zero))))))))))))) = marks.Minus
-mark_back (suc (suc (suc (suc (suc (suc (suc (suc (suc (suc (suc (suc (suc (suc zero)))))))))))))) = marks.Star
-mark_back (suc (suc (suc (suc (suc (suc (suc (suc (suc (suc (suc (suc (suc (suc (suc zero))))))))))))))) = marks.Slash
-mark_back (suc (suc (suc (suc (suc (suc (suc (suc (suc (suc (suc (suc (suc (suc (suc (suc zero)))))))))))))))) = marks.Percent
-mark_back (suc (suc (suc (suc (suc (suc (suc (suc (suc (suc (suc (suc (suc (suc (suc (suc (suc zero))))))))))))))))) = marks.Ampersand
-mark_back (suc (suc (suc (suc (suc (suc (suc (suc (suc (suc (suc (suc (suc (suc (suc (suc (suc (suc zero)))))))))))))))))) = marks.Bar
-mark_back (suc (suc (suc (suc (suc (suc (suc (suc (suc (suc (suc (suc (suc (suc (suc (suc (suc (suc (suc zero))))))))))))))))))) = marks.Caret
-mark_back (suc (suc (suc (suc (suc (suc (suc (suc (suc (suc (suc (suc (suc (suc (suc (suc (suc (suc (suc (suc zero)))))))))))))))))))) = marks.Bang
-mark_back (suc (suc (suc (suc (suc (suc (suc (suc (suc (suc (suc (suc (suc (suc (suc (suc (suc (suc (suc (suc (suc zero))))))))))))))))))))) = marks.Less
-mark_back (suc (suc (suc (suc (suc (suc (suc (suc (suc (suc (suc (suc (suc (suc (suc (suc (suc (suc (suc (suc (suc (suc zero)))))))))))))))))))))) = marks.Greater
-mark_back (suc (suc (suc (suc (suc (suc (suc (suc (suc (suc (suc (suc (suc (suc (suc (suc (suc (suc (suc (suc (suc (suc (suc zero))))))))))))))))))))))) = marks.Equal
-mark_back (suc (suc (suc (suc (suc (suc (suc (suc (suc (suc (suc (suc (suc (suc (suc (suc (suc (suc (suc (suc (suc (suc (suc (suc zero)))))))))))))))))))))))) = marks.PlusPlus
-mark_back (suc (suc (suc (suc (suc (suc (suc (suc (suc (suc (suc (suc (suc (suc (suc (suc (suc (suc (suc (suc (suc (suc (suc (suc (suc zero))))))))))))))))))))))))) = marks.MinusMinus
-mark_back (suc (suc (suc (suc (suc (suc (suc (suc (suc (suc (suc (suc (suc (suc (suc (suc (suc (suc (suc (suc (suc (suc (suc (suc (suc (suc zero)))))))))))))))))))))))))) = marks.ShiftLeft
-mark_back (suc (suc (suc (suc (suc (suc (suc (suc (suc (suc (suc (suc (suc (suc (suc (suc (suc (suc (suc (suc (suc (suc (suc (suc (suc (suc (suc zero))))))))))))))))))))))))))) = marks.ShiftRight
-mark_back (suc (suc (suc (suc (suc (suc (suc (suc (suc (suc (suc (suc (suc (suc (suc (suc (suc (suc (suc (suc (suc (suc (suc (suc (suc (suc (suc (suc zero)))))))))))))))))))))))))))) = marks.LessEqual
-mark_back (suc (suc (suc (suc (suc (suc (suc (suc (suc (suc (suc (suc (suc (suc (suc (suc (suc (suc (suc (suc (suc (suc (suc (suc (suc (suc (suc (suc (suc zero))))))))))))))))))))))))))))) = marks.GreaterEqual
-mark_back (suc (suc (suc (suc (suc (suc (suc (suc (suc (suc (suc (suc (suc (suc (suc (suc (suc (suc (suc (suc (suc (suc (suc (suc (suc (suc (suc (suc (suc (suc zero)))))))))))))))))))))))))))))) = marks.EqualEqual
-mark_back (suc (suc (suc (suc (suc (suc (suc (suc (suc (suc (suc (suc (suc (suc (suc (suc (suc (suc (suc (suc (suc (suc (suc (suc (suc (suc (suc (suc (suc (suc (suc zero))))))))))))))))))))))))))))))) = marks.BangEqual
-mark_back (suc (suc (suc (suc (suc (suc (suc (suc (suc (suc (suc (suc (suc (suc (suc (suc (suc (suc (suc (suc (suc (suc (suc (suc (suc (suc (suc (suc (suc (suc (suc (suc zero)))))))))))))))))))))))))))))))) = marks.AndAnd
-mark_back (suc (suc (suc (suc (suc (suc (suc (suc (suc (suc (suc (suc (suc (suc (suc (suc (suc (suc (suc (suc (suc (suc (suc (suc (suc (suc (suc (suc (suc (suc (suc (suc (suc zero))))))))))))))))))))))))))))))))) = marks.BarBar
-mark_back (suc (suc (suc (suc (suc (suc (suc (suc (suc (suc (suc (suc (suc (suc (suc (suc (suc (suc (suc (suc (suc (suc (suc (suc (suc (suc (suc (suc (suc (suc (suc (suc (suc (suc zero)))))))))))))))))))))))))))))))))) = marks.PlusEqual
-mark_back (suc (suc (suc (suc (suc (suc (suc (suc (suc (suc (suc (suc (suc (suc (suc (suc (suc (suc (suc (suc (suc (suc (suc (suc (suc (suc (suc (suc (suc (suc (suc (suc (suc (suc (suc zero))))))))))))))))))))))))))))))))))) = marks.MinusEqual
-mark_back (suc (suc (suc (suc (suc (suc (suc (suc (suc (suc (suc (suc (suc (suc (suc (suc (suc (suc (suc (suc (suc (suc (suc (suc (suc (suc (suc (suc (suc (suc (suc (suc (suc (suc (suc (suc zero)))))))))))))))))))))))))))))))))))) = marks.StarEqual
-mark_back (suc (suc (suc (suc (suc (suc (suc (suc (suc (suc (suc (suc (suc (suc (suc (suc (suc (suc (suc (suc (suc (suc (suc (suc (suc (suc (suc (suc (suc (suc (suc (suc (suc (suc (suc (suc (suc zero))))))))))))))))))))))))))))))))))))) = marks.SlashEqual
-mark_back (suc (suc (suc (suc (suc (suc (suc (suc (suc (suc (suc (suc (suc (suc (suc (suc (suc (suc (suc (suc (suc (suc (suc (suc (suc (suc (suc (suc (suc (suc (suc (suc (suc (suc (suc (suc (suc (suc zero)))))))))))))))))))))))))))))))))))))) = marks.PercentEqual
-mark_back (suc (suc (suc (suc (suc (suc (suc (suc (suc (suc (suc (suc (suc (suc (suc (suc (suc (suc (suc (suc (suc (suc (suc (suc (suc (suc (suc (suc (suc (suc (suc (suc (suc (suc (suc (suc (suc (suc (suc zero))))))))))))))))))))))))))))))))))))))) = marks.AmpersandEqual
-mark_back (suc (suc (suc (suc (suc (suc (suc (suc (suc (suc (suc (suc (suc (suc (suc (suc (suc (suc (suc (suc (suc (suc (suc (suc (suc (suc (suc (suc (suc (suc (suc (suc (suc (suc (suc (suc (suc (suc (suc (suc zero)))))))))))))))))))))))))))))))))))))))) = marks.BarEqual
-mark_back (suc (suc (suc (suc (suc (suc (suc (suc (suc (suc (suc (suc (suc (suc (suc (suc (suc (suc (suc (suc (suc (suc (suc (suc (suc (suc (suc (suc (suc (suc (suc (suc (suc (suc (suc (suc (suc (suc (suc (suc (suc zero))))))))))))))))))))))))))))))))))))))))) = marks.CaretEqual
-mark_back (suc (suc (suc (suc (suc (suc (suc (suc (suc (suc (suc (suc (suc (suc (suc (suc (suc (suc (suc (suc (suc (suc (suc (suc (suc (suc (suc (suc (suc (suc (suc (suc (suc (suc (suc (suc (suc (suc (suc (suc (suc (suc zero)))))))))))))))))))))))))))))))))))))))))) = marks.ShiftLeftEqual
-mark_back (suc (suc (suc (suc (suc (suc (suc (suc (suc (suc (suc (suc (suc (suc (suc (suc (suc (suc (suc (suc (suc (suc (suc (suc (suc (suc (suc (suc (suc (suc (suc (suc (suc (suc (suc (suc (suc (suc (suc (suc (suc (suc (suc n))))))))))))))))))))))))))))))))))))))))))) = marks.ShiftRightEqual
+-- all marks, each at the place of its number
+all_marks : List Mark
+all_marks =
+    marks.OpenBrace ∷ marks.CloseBrace ∷ marks.OpenParen ∷ marks.CloseParen ∷ marks.OpenBracket ∷ marks.CloseBracket ∷
+    marks.Semicolon ∷ marks.Comma ∷ marks.Colon ∷ marks.Question ∷ marks.Dot ∷ marks.Tilde ∷ marks.Plus ∷ marks.Minus ∷
+    marks.Star ∷ marks.Slash ∷ marks.Percent ∷ marks.Ampersand ∷ marks.Bar ∷ marks.Caret ∷ marks.Bang ∷ marks.Less ∷
+    marks.Greater ∷ marks.Equal ∷ marks.PlusPlus ∷ marks.MinusMinus ∷ marks.ShiftLeft ∷ marks.ShiftRight ∷
+    marks.LessEqual ∷ marks.GreaterEqual ∷ marks.EqualEqual ∷ marks.BangEqual ∷ marks.AndAnd ∷ marks.BarBar ∷
+    marks.PlusEqual ∷ marks.MinusEqual ∷ marks.StarEqual ∷ marks.SlashEqual ∷ marks.PercentEqual ∷ marks.AmpersandEqual ∷
+    marks.BarEqual ∷ marks.CaretEqual ∷ marks.ShiftLeftEqual ∷ marks.ShiftRightEqual ∷ []
 
-mark_again : (m : Mark) → mark_back (mark_code m) ≡ m
-unfolding mark_back
+mark_again : (m : Mark) → get_or all_marks (mark_code m) marks.OpenBrace ≡ m
+unfolding all_marks
 mark_again marks.OpenBrace = refl
 mark_again marks.CloseBrace = refl
 mark_again marks.OpenParen = refl
@@ -101,56 +66,20 @@ mark_again marks.ShiftLeftEqual = refl
 mark_again marks.ShiftRightEqual = refl
 
 pub same_mark_is : (a b : Mark) → same_mark a b ≡ true → a ≡ b
-same_mark_is a b e = sym (mark_again a) ∙ ap mark_back (eqb-true (mark_code a) (mark_code b) e) ∙ mark_again b
+same_mark_is a b e = sym (mark_again a) ∙ ap (λ n. get_or all_marks n marks.OpenBrace) (eqb-true (mark_code a) (mark_code b) e) ∙ mark_again b
 
-key_back : ℕ → Key
-key_back zero = keys.Auto
-key_back (suc zero) = keys.Break
-key_back (suc (suc zero)) = keys.Case
-key_back (suc (suc (suc zero))) = keys.Char
-key_back (suc (suc (suc (suc zero)))) = keys.Const
-key_back (suc (suc (suc (suc (suc zero))))) = keys.Continue
-key_back (suc (suc (suc (suc (suc (suc zero)))))) = keys.Default
-key_back (suc (suc (suc (suc (suc (suc (suc zero))))))) = keys.Do
-key_back (suc (suc (suc (suc (suc (suc (suc (suc zero)))))))) = keys.Double
-key_back (suc (suc (suc (suc (suc (suc (suc (suc (suc zero))))))))) = keys.Else
-key_back (suc (suc (suc (suc (suc (suc (suc (suc (suc (suc zero)))))))))) = keys.Enum
-key_back (suc (suc (suc (suc (suc (suc (suc (suc (suc (suc (suc zero))))))))))) = keys.Extern
-key_back (suc (suc (suc (suc (suc (suc (suc (suc (suc (suc (suc (suc zero)))))))))))) = keys.Float
-key_back (suc (suc (suc (suc (suc (suc (suc (suc (suc (suc (suc (suc (suc zero))))))))))))) = keys.For
-key_back (suc (suc (suc (suc (suc (suc (suc (suc (suc (suc (suc (suc (suc (suc zero)))))))))))))) = keys.Goto
-key_back (suc (suc (suc (suc (suc (suc (suc (suc (suc (suc (suc (suc (suc (suc (suc zero))))))))))))))) = keys.If
-key_back (suc (suc (suc (suc (suc (suc (suc (suc (suc (suc (suc (suc (suc (suc (suc (suc zero)))))))))))))))) = keys.Inline
-key_back (suc (suc (suc (suc (suc (suc (suc (suc (suc (suc (suc (suc (suc (suc (suc (suc (suc zero))))))))))))))))) = keys.Int
-key_back (suc (suc (suc (suc (suc (suc (suc (suc (suc (suc (suc (suc (suc (suc (suc (suc (suc (suc zero)))))))))))))))))) = keys.Long
-key_back (suc (suc (suc (suc (suc (suc (suc (suc (suc (suc (suc (suc (suc (suc (suc (suc (suc (suc (suc zero))))))))))))))))))) = keys.Register
-key_back (suc (suc (suc (suc (suc (suc (suc (suc (suc (suc (suc (suc (suc (suc (suc (suc (suc (suc (suc (suc zero)))))))))))))))))))) = keys.Restrict
-key_back (suc (suc (suc (suc (suc (suc (suc (suc (suc (suc (suc (suc (suc (suc (suc (suc (suc (suc (suc (suc (suc zero))))))))))))))))))))) = keys.Return
-key_back (suc (suc (suc (suc (suc (suc (suc (suc (suc (suc (suc (suc (suc (suc (suc (suc (suc (suc (suc (suc (suc (suc zero)))))))))))))))))))))) = keys.Short
-key_back (suc (suc (suc (suc (suc (suc (suc (suc (suc (suc (suc (suc (suc (suc (suc (suc (suc (suc (suc (suc (suc (suc (suc zero))))))))))))))))))))))) = keys.Signed
-key_back (suc (suc (suc (suc (suc (suc (suc (suc (suc (suc (suc (suc (suc (suc (suc (suc (suc (suc (suc (suc (suc (suc (suc (suc zero)))))))))))))))))))))))) = keys.Sizeof
-key_back (suc (suc (suc (suc (suc (suc (suc (suc (suc (suc (suc (suc (suc (suc (suc (suc (suc (suc (suc (suc (suc (suc (suc (suc (suc zero))))))))))))))))))))))))) = keys.Static
-key_back (suc (suc (suc (suc (suc (suc (suc (suc (suc (suc (suc (suc (suc (suc (suc (suc (suc (suc (suc (suc (suc (suc (suc (suc (suc (suc zero)))))))))))))))))))))))))) = keys.Struct
-key_back (suc (suc (suc (suc (suc (suc (suc (suc (suc (suc (suc (suc (suc (suc (suc (suc (suc (suc (suc (suc (suc (suc (suc (suc (suc (suc (suc zero))))))))))))))))))))))))))) = keys.Switch
-key_back (suc (suc (suc (suc (suc (suc (suc (suc (suc (suc (suc (suc (suc (suc (suc (suc (suc (suc (suc (suc (suc (suc (suc (suc (suc (suc (suc (suc zero)))))))))))))))))))))))))))) = keys.Typedef
-key_back (suc (suc (suc (suc (suc (suc (suc (suc (suc (suc (suc (suc (suc (suc (suc (suc (suc (suc (suc (suc (suc (suc (suc (suc (suc (suc (suc (suc (suc zero))))))))))))))))))))))))))))) = keys.Union
-key_back (suc (suc (suc (suc (suc (suc (suc (suc (suc (suc (suc (suc (suc (suc (suc (suc (suc (suc (suc (suc (suc (suc (suc (suc (suc (suc (suc (suc (suc (suc zero)))))))))))))))))))))))))))))) = keys.Unsigned
-key_back (suc (suc (suc (suc (suc (suc (suc (suc (suc (suc (suc (suc (suc (suc (suc (suc (suc (suc (suc (suc (suc (suc (suc (suc (suc (suc (suc (suc (suc (suc (suc zero))))))))))))))))))))))))))))))) = keys.Void
-key_back (suc (suc (suc (suc (suc (suc (suc (suc (suc (suc (suc (suc (suc (suc (suc (suc (suc (suc (suc (suc (suc (suc (suc (suc (suc (suc (suc (suc (suc (suc (suc (suc zero)))))))))))))))))))))))))))))))) = keys.Volatile
-key_back (suc (suc (suc (suc (suc (suc (suc (suc (suc (suc (suc (suc (suc (suc (suc (suc (suc (suc (suc (suc (suc (suc (suc (suc (suc (suc (suc (suc (suc (suc (suc (suc (suc zero))))))))))))))))))))))))))))))))) = keys.While
-key_back (suc (suc (suc (suc (suc (suc (suc (suc (suc (suc (suc (suc (suc (suc (suc (suc (suc (suc (suc (suc (suc (suc (suc (suc (suc (suc (suc (suc (suc (suc (suc (suc (suc (suc zero)))))))))))))))))))))))))))))))))) = keys.Alignas
-key_back (suc (suc (suc (suc (suc (suc (suc (suc (suc (suc (suc (suc (suc (suc (suc (suc (suc (suc (suc (suc (suc (suc (suc (suc (suc (suc (suc (suc (suc (suc (suc (suc (suc (suc (suc zero))))))))))))))))))))))))))))))))))) = keys.Alignof
-key_back (suc (suc (suc (suc (suc (suc (suc (suc (suc (suc (suc (suc (suc (suc (suc (suc (suc (suc (suc (suc (suc (suc (suc (suc (suc (suc (suc (suc (suc (suc (suc (suc (suc (suc (suc (suc zero)))))))))))))))))))))))))))))))))))) = keys.Atomic
-key_back (suc (suc (suc (suc (suc (suc (suc (suc (suc (suc (suc (suc (suc (suc (suc (suc (suc (suc (suc (suc (suc (suc (suc (suc (suc (suc (suc (suc (suc (suc (suc (suc (suc (suc (suc (suc (suc zero))))))))))))))))))))))))))))))))))))) = keys.Bool
-key_back (suc (suc (suc (suc (suc (suc (suc (suc (suc (suc (suc (suc (suc (suc (suc (suc (suc (suc (suc (suc (suc (suc (suc (suc (suc (suc (suc (suc (suc (suc (suc (suc (suc (suc (suc (suc (suc (suc zero)))))))))))))))))))))))))))))))))))))) = keys.Complex
-key_back (suc (suc (suc (suc (suc (suc (suc (suc (suc (suc (suc (suc (suc (suc (suc (suc (suc (suc (suc (suc (suc (suc (suc (suc (suc (suc (suc (suc (suc (suc (suc (suc (suc (suc (suc (suc (suc (suc (suc zero))))))))))))))))))))))))))))))))))))))) = keys.Generic
-key_back (suc (suc (suc (suc (suc (suc (suc (suc (suc (suc (suc (suc (suc (suc (suc (suc (suc (suc (suc (suc (suc (suc (suc (suc (suc (suc (suc (suc (suc (suc (suc (suc (suc (suc (suc (suc (suc (suc (suc (suc zero)))))))))))))))))))))))))))))))))))))))) = keys.Imaginary
-key_back (suc (suc (suc (suc (suc (suc (suc (suc (suc (suc (suc (suc (suc (suc (suc (suc (suc (suc (suc (suc (suc (suc (suc (suc (suc (suc (suc (suc (suc (suc (suc (suc (suc (suc (suc (suc (suc (suc (suc (suc (suc zero))))))))))))))))))))))))))))))))))))))))) = keys.Noreturn
-key_back (suc (suc (suc (suc (suc (suc (suc (suc (suc (suc (suc (suc (suc (suc (suc (suc (suc (suc (suc (suc (suc (suc (suc (suc (suc (suc (suc (suc (suc (suc (suc (suc (suc (suc (suc (suc (suc (suc (suc (suc (suc (suc zero)))))))))))))))))))))))))))))))))))))))))) = keys.StaticAssert
-key_back (suc (suc (suc (suc (suc (suc (suc (suc (suc (suc (suc (suc (suc (suc (suc (suc (suc (suc (suc (suc (suc (suc (suc (suc (suc (suc (suc (suc (suc (suc (suc (suc (suc (suc (suc (suc (suc (suc (suc (suc (suc (suc (suc n))))))))))))))))))))))))))))))))))))))))))) = keys.ThreadLocal
+-- all keywords, each at the place of its number
+all_keys : List Key
+all_keys =
+    keys.Auto ∷ keys.Break ∷ keys.Case ∷ keys.Char ∷ keys.Const ∷ keys.Continue ∷ keys.Default ∷ keys.Do ∷ keys.Double ∷
+    keys.Else ∷ keys.Enum ∷ keys.Extern ∷ keys.Float ∷ keys.For ∷ keys.Goto ∷ keys.If ∷ keys.Inline ∷ keys.Int ∷
+    keys.Long ∷ keys.Register ∷ keys.Restrict ∷ keys.Return ∷ keys.Short ∷ keys.Signed ∷ keys.Sizeof ∷ keys.Static ∷
+    keys.Struct ∷ keys.Switch ∷ keys.Typedef ∷ keys.Union ∷ keys.Unsigned ∷ keys.Void ∷ keys.Volatile ∷ keys.While ∷
+    keys.Alignas ∷ keys.Alignof ∷ keys.Atomic ∷ keys.Bool ∷ keys.Complex ∷ keys.Generic ∷ keys.Imaginary ∷ keys.Noreturn ∷
+    keys.StaticAssert ∷ keys.ThreadLocal ∷ []
 
-key_again : (m : Key) → key_back (key_code m) ≡ m
-unfolding key_back
+key_again : (m : Key) → get_or all_keys (key_code m) keys.Auto ≡ m
+unfolding all_keys
 key_again keys.Auto = refl
 key_again keys.Break = refl
 key_again keys.Case = refl
@@ -197,4 +126,4 @@ key_again keys.StaticAssert = refl
 key_again keys.ThreadLocal = refl
 
 pub same_key_is : (a b : Key) → same_key a b ≡ true → a ≡ b
-same_key_is a b e = sym (key_again a) ∙ ap key_back (eqb-true (key_code a) (key_code b) e) ∙ key_again b
+same_key_is a b e = sym (key_again a) ∙ ap (λ n. get_or all_keys n keys.Auto) (eqb-true (key_code a) (key_code b) e) ∙ key_again b

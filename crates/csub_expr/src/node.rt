@@ -37,13 +37,22 @@ pub fn is_unary(e: &Expr) -> bool
     }
 }
 
+/// The expression in a box. All are boxed here, since a call of a generic function at a type of many forms takes long to
+/// prove.
+fn boxed(alloc: Global, e: Expr) -> Result<Box<Expr>, Stop>
+    ensures ok { IfOk result (λ made. made.value ≡ e) }
+    ensures err { IfErr result (λ stop. stop ≡ Memory) }
+{
+    Ok(Box::new(alloc, e)?)
+}
+
 /// The node of an expression in parentheses, from the opening one to the closing one (C11 6.5.1). An `Err` is want of memory.
 pub fn paren_node(alloc: Global, start: u32, inner: Expr, end: u32) -> Result<Expr, Stop>
     ensures ok { IfOk result (λ e. expr_tree e ≡ joins (tree.Paren (expr_tree inner)) start end) }
     ensures err { IfErr result (λ e. e ≡ Memory) }
 {
     let span = Span { start, end };
-    let kind = ExprKind::Paren(Box::new(alloc, inner)?);
+    let kind = ExprKind::Paren(boxed(alloc, inner)?);
     Ok(Expr { kind, span })
 }
 
@@ -56,7 +65,7 @@ pub fn cast_node(alloc: Global, start: u32, base: TypeName, inner: Expr) -> Resu
         start,
         end: inner.span.end,
     };
-    let kind = ExprKind::Cast(base, Box::new(alloc, inner)?);
+    let kind = ExprKind::Cast(base, boxed(alloc, inner)?);
     Ok(Expr { kind, span })
 }
 
@@ -69,7 +78,7 @@ pub fn prefix_node(alloc: Global, start: u32, sign: Sign, inner: Expr) -> Result
         start,
         end: inner.span.end,
     };
-    let operand = Box::new(alloc, inner)?;
+    let operand = boxed(alloc, inner)?;
     match sign {
         Sign::Unary(op) => Ok(Expr {
             kind: ExprKind::Unary(op, operand),
@@ -91,8 +100,8 @@ pub fn joined_node(alloc: Global, joint: Joint, left: Expr, right: Expr) -> Resu
         start: left.span.start,
         end: right.span.end,
     };
-    let left = Box::new(alloc, left)?;
-    let right = Box::new(alloc, right)?;
+    let left = boxed(alloc, left)?;
+    let right = boxed(alloc, right)?;
     match joint {
         Joint::Binary(op) => Ok(Expr {
             kind: ExprKind::Binary(op, left, right),
@@ -118,7 +127,7 @@ pub fn assign_node(alloc: Global, op: Option<BinOp>, left: Expr, right: Expr) ->
         start: left.span.start,
         end: right.span.end,
     };
-    let kind = ExprKind::Assign(op, Box::new(alloc, left)?, Box::new(alloc, right)?);
+    let kind = ExprKind::Assign(op, boxed(alloc, left)?, boxed(alloc, right)?);
     Ok(Expr { kind, span })
 }
 
@@ -132,9 +141,9 @@ pub fn choice_node(alloc: Global, test: Expr, left: Expr, right: Expr) -> Result
         end: right.span.end,
     };
     let kind = ExprKind::Choose(
-        Box::new(alloc, test)?,
-        Box::new(alloc, left)?,
-        Box::new(alloc, right)?,
+        boxed(alloc, test)?,
+        boxed(alloc, left)?,
+        boxed(alloc, right)?,
     );
     Ok(Expr { kind, span })
 }
@@ -148,7 +157,7 @@ pub fn index_node(alloc: Global, array: Expr, index: Expr, end: u32) -> Result<E
         start: array.span.start,
         end,
     };
-    let kind = ExprKind::Index(Box::new(alloc, array)?, Box::new(alloc, index)?);
+    let kind = ExprKind::Index(boxed(alloc, array)?, boxed(alloc, index)?);
     Ok(Expr { kind, span })
 }
 
@@ -161,7 +170,7 @@ pub fn member_node(alloc: Global, object: Expr, name: Name) -> Result<Expr, Stop
         start: object.span.start,
         end: name.span.end,
     };
-    let kind = ExprKind::Member(Box::new(alloc, object)?, name);
+    let kind = ExprKind::Member(boxed(alloc, object)?, name);
     Ok(Expr { kind, span })
 }
 
@@ -174,7 +183,7 @@ pub fn step_node(alloc: Global, op: StepOp, operand: Expr, end: u32) -> Result<E
         start: operand.span.start,
         end,
     };
-    let kind = ExprKind::Step(op, Box::new(alloc, operand)?);
+    let kind = ExprKind::Step(op, boxed(alloc, operand)?);
     Ok(Expr { kind, span })
 }
 
