@@ -1,0 +1,7 @@
+mod ClaimLemmas
+mod EdgeLemmas
+mod ExactLemmas
+mod LawLemmas
+mod MadeLemmas
+mod SearchLemmas
+mod VerdictLemmas

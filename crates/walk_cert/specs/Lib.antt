@@ -1,0 +1,4 @@
+pub mod Pairs
+pub mod Claims
+pub mod Verdicts
+pub mod Made

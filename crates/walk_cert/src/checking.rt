@@ -1,0 +1,136 @@
+// The check of a claim.
+ghost use Rattle.std.specs.Prelude.{◌≡◌, ◌<◌, ℕ, All, length, slice_get, Some, Contains, IfOk, MatchOption};
+ghost use Rattle.csub_semantics.specs.Points.{entry};
+ghost use Rattle.csub_semantics.specs.Flows.{start_name};
+ghost use Rattle.csub_semantics.specs.Syntax.{ProgramTree};
+ghost use Rattle.flow_graph.specs.Graph.{IsGraphOf, point_count, edge_count};
+ghost use Rattle.dual_walk.specs.LabelRows.{AreLabelled};
+ghost use Rattle.cert_text.specs.Certificates.{Rise};
+ghost use Rattle.walk_cert.specs.Claims.{IsClosedClaim};
+ghost use Rattle.walk_cert.specs.Verdicts.{AreBelow, IsKept, IsBreakAt, IsVerdict};
+
+use crate::alike::are_alike;
+use crate::answer::Verdict;
+use crate::exits::first_way_out;
+use crate::search::has_pair;
+use cert_text::{Certificate, Pair};
+use dual_walk::{Both, callee_at, number_labels};
+use edge_label::{LabelBook, Steps};
+use edge_trace::EdgeRow;
+use flow_graph::Graph;
+use std::alloc::{AllocError, Global};
+use std::marker::Brand;
+use std::sync::ledger::{Blank, Ledger};
+
+/// Whether the claim of a certificate of two graphs is closed, and else its first break: the start, and then for each pair in
+/// order its label, its callee and its edges in order. An `Err` is want of memory.
+///
+/// Each label of both programs is numbered once. For each pair it compares two numbers and two names, looks functions up by
+/// their name at a call, and for each edge of the old point looks its exit label up at the new point; a pair is looked for by
+/// a logarithm of their number.
+pub fn check(
+    alloc: Global,
+    old: &Graph,
+    new: &Graph,
+    certificate: &Certificate,
+) -> Result<Verdict, AllocError>
+    requires row { length certificate.now.danger ≡ edge_count old.now }
+    requires below { AreBelow old.now new.now certificate.now.pairs }
+    requires rise { Rise certificate.now.pairs }
+    ensures verdict { (P P' : ProgramTree) → IsGraphOf old.now P → IsGraphOf new.now P' →
+        IfOk result (IsVerdict P P' certificate.now.danger certificate.now.pairs) }
+    // no break is found of a closed claim
+    ensures closed { (P P' : ProgramTree) → IsGraphOf old.now P → IsGraphOf new.now P' →
+        IsClosedClaim P P' certificate.now.danger certificate.now.pairs → IfOk result (λ verdict. verdict ≡ Verdict.Closed) }
+{
+    check_counted::<Brand>(alloc, old, new, certificate, Blank::new(1))
+}
+
+// The same, whose comparisons of labels are counted in the ledger of `blank`.
+fn check_counted<L: Ledger>(
+    alloc: Global,
+    old: &Graph,
+    new: &Graph,
+    certificate: &Certificate,
+    blank: Blank,
+) -> Result<Verdict, AllocError>
+    requires name { blank.name ≡ L.name }
+    requires parts { blank.parts ≡ L.parts }
+    requires some { 0 < blank.parts }
+    requires row { length certificate.now.danger ≡ edge_count old.now }
+    requires below { AreBelow old.now new.now certificate.now.pairs }
+    requires rise { Rise certificate.now.pairs }
+    ensures { (P P' : ProgramTree) → IsGraphOf old.now P → IsGraphOf new.now P' → IfOk result (IsVerdict P P' certificate.now.danger certificate.now.pairs) }
+{
+    let mut steps: Steps<L> = Steps::new(blank);
+    let mut book = LabelBook::new(alloc);
+    let old_labels = number_labels(alloc, old, &mut book)?;
+    let new_labels = number_labels(alloc, new, &mut book)?;
+    let both = Both {
+        old,
+        new,
+        book: &book,
+        old_labels: &old_labels,
+        new_labels: &new_labels,
+    };
+    Ok(verdict_of(&both, certificate.danger(), certificate.pairs(), &mut steps))
+}
+
+// What is found of a claim.
+fn verdict_of<L: Ledger>(
+    both: &Both<'_>,
+    danger: &EdgeRow,
+    pairs: &[Pair],
+    steps: &mut Steps<L>,
+) -> Verdict
+    requires labels { AreLabelled both.now }
+    requires row { length danger.now ≡ edge_count both.now.old.now }
+    requires below { AreBelow both.now.old.now both.now.new.now pairs.now }
+    requires rise { Rise pairs.now }
+    ensures { (P P' : ProgramTree) → IsGraphOf both.now.old.now P → IsGraphOf both.now.new.now P' → IsVerdict P P' danger.now pairs.now result }
+{
+    // the points 0 are those at which both programs begin
+    if !has_pair(pairs, 0, 0) {
+        return Verdict::NoStart;
+    }
+    for pair in pairs {
+        if let Some(found) = break_at(both, danger, pairs, *pair, steps) {
+            return found;
+        }
+    }
+    Verdict::Closed
+}
+
+// The first break at a pair.
+fn break_at<L: Ledger>(
+    both: &Both<'_>,
+    danger: &EdgeRow,
+    pairs: &[Pair],
+    pair: Pair,
+    steps: &mut Steps<L>,
+) -> Option<Verdict>
+    requires labels { AreLabelled both.now }
+    requires row { length danger.now ≡ edge_count both.now.old.now }
+    requires old { pair.old < point_count both.now.old.now }
+    requires new { pair.new < point_count both.now.new.now }
+    requires rise { Rise pairs.now }
+    ensures { (P P' : ProgramTree) → IsGraphOf both.now.old.now P → IsGraphOf both.now.new.now P' →
+        MatchOption result (IsKept P P' danger.now pairs.now pair) (IsBreakAt P P' danger.now pairs.now pair) }
+{
+    if !are_alike(both, pair, steps) {
+        return Some(Verdict::Label(pair));
+    }
+    let Some(callee) = callee_at(both.old, both.new, pair.old) else {
+        let edge = first_way_out(both.old, both.new, danger, pairs, pair)?;
+        return Some(Verdict::Exit(pair, edge));
+    };
+    if !has_pair(pairs, callee.entry.old, callee.entry.new) {
+        return Some(Verdict::Callee(pair));
+    }
+    // where the callee doesn't come back, no edge is crossed
+    if !has_pair(pairs, callee.exit.old, callee.exit.new) {
+        return None;
+    }
+    let edge = first_way_out(both.old, both.new, danger, pairs, pair)?;
+    Some(Verdict::Exit(pair, edge))
+}
