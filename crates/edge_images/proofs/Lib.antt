@@ -1,0 +1,7 @@
+mod Once
+pub mod LawsLeading
+mod Crossing
+mod Saying
+mod Leaving
+mod Noting
+mod Whole
