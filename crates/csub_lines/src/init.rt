@@ -8,6 +8,7 @@ ghost use Rattle.csub_tree.specs.Declarations.{Listed, init_tree, inits_of};
 ghost use Rattle.csub_resolution.specs.Contents.{init_calls, init_count, init_value, init_values, inits_calls, inits_count};
 ghost use Rattle.csub_lines.specs.Numbers.{AllNumbers, AreNumbers};
 
+use crate::boxes::boxed_init;
 use csub_lower::{Known, lower_number};
 use csub_scopes::Scope;
 use csub_semantics::{RCall, RExpr, RInit};
@@ -19,7 +20,7 @@ use std::alloc::{AllocError, Global};
 fn one_value(alloc: Global, value: Box<RExpr>) -> Result<Box<RInit>, AllocError>
     ensures { IfOk result (λ made. made_tree made.value ≡ one_value (value_tree value.value)) }
 {
-    let made = Box::new(alloc, RInit::One(Box::into_inner(value)))?;
+    let made = boxed_init(alloc, RInit::One(Box::into_inner(value)))?;
     Ok(made)
 }
 
@@ -27,7 +28,7 @@ fn one_value(alloc: Global, value: Box<RExpr>) -> Result<Box<RInit>, AllocError>
 fn list_value(alloc: Global, values: Vec<RInit>) -> Result<Box<RInit>, AllocError>
     ensures { IfOk result (λ made. made_tree made.value ≡ listed (made_list (map made_tree values.items))) }
 {
-    let made = Box::new(alloc, RInit::List(values))?;
+    let made = boxed_init(alloc, RInit::List(values))?;
     Ok(made)
 }
 

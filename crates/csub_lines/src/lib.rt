@@ -7,6 +7,7 @@
 //! the cells), save for a hash of each name, and fail for want of memory, or a full count, alone.
 #![tactic(auto)]
 
+mod boxes;
 mod init;
 pub mod initial_numbers;
 pub mod local;

@@ -20,6 +20,7 @@ ghost use Rattle.csub_resolution.specs.Positions.{first_token};
 ghost use Rattle.csub_rules.specs.Words.{word_goto, word_return};
 ghost use Rattle.csub_lines.specs.Numbers.{AreNumbers, part_of_object};
 
+use crate::boxes::{boxed_label, boxed_part};
 use crate::init::lower_init;
 use csub_check::first_bytes;
 use csub_lower::{Known, exits_with, first_token, is_own_call, lower, lower_number};
@@ -59,7 +60,7 @@ fn own_part(
     ensures { IfOk result (λ part. part_tree part.value ≡ map call_stage calls.items ++ own (label_tree label.value) span) }
 {
     let main = Some(Box::into_inner(label));
-    let part = Box::new(alloc, RPart { calls, main, span })?;
+    let part = boxed_part(alloc, RPart { calls, main, span })?;
     Ok(part)
 }
 
@@ -68,7 +69,7 @@ fn calls_part(alloc: Global, calls: Vec<RCall>, span: Span) -> Result<Box<RPart>
     ensures { IfOk result (λ part. part_tree part.value ≡ map call_stage calls.items) }
 {
     let main = None;
-    let part = Box::new(alloc, RPart { calls, main, span })?;
+    let part = boxed_part(alloc, RPart { calls, main, span })?;
     Ok(part)
 }
 
@@ -76,7 +77,7 @@ fn calls_part(alloc: Global, calls: Vec<RCall>, span: Span) -> Result<Box<RPart>
 fn eval_label(alloc: Global, value: Box<RExpr>) -> Result<Box<Label>, AllocError>
     ensures { IfOk result (λ label. label_tree label.value ≡ evaluates (value_tree value.value)) }
 {
-    let label = Box::new(alloc, Label::Eval(Box::into_inner(value)))?;
+    let label = boxed_label(alloc, Label::Eval(Box::into_inner(value)))?;
     Ok(label)
 }
 
@@ -84,7 +85,7 @@ fn eval_label(alloc: Global, value: Box<RExpr>) -> Result<Box<Label>, AllocError
 fn halt_label(alloc: Global, value: Box<RExpr>) -> Result<Box<Label>, AllocError>
     ensures { IfOk result (λ label. label_tree label.value ≡ halts (value_tree value.value)) }
 {
-    let label = Box::new(alloc, Label::Halt(Box::into_inner(value)))?;
+    let label = boxed_label(alloc, Label::Halt(Box::into_inner(value)))?;
     Ok(label)
 }
 
@@ -92,7 +93,7 @@ fn halt_label(alloc: Global, value: Box<RExpr>) -> Result<Box<Label>, AllocError
 fn branch_label(alloc: Global, value: Box<RExpr>) -> Result<Box<Label>, AllocError>
     ensures { IfOk result (λ label. label_tree label.value ≡ branches (value_tree value.value)) }
 {
-    let label = Box::new(alloc, Label::Branch(Box::into_inner(value)))?;
+    let label = boxed_label(alloc, Label::Branch(Box::into_inner(value)))?;
     Ok(label)
 }
 
@@ -100,7 +101,7 @@ fn branch_label(alloc: Global, value: Box<RExpr>) -> Result<Box<Label>, AllocErr
 fn switch_label(alloc: Global, value: Box<RExpr>) -> Result<Box<Label>, AllocError>
     ensures { IfOk result (λ label. label_tree label.value ≡ switches (value_tree value.value)) }
 {
-    let label = Box::new(alloc, Label::Switch(Box::into_inner(value)))?;
+    let label = boxed_label(alloc, Label::Switch(Box::into_inner(value)))?;
     Ok(label)
 }
 
@@ -125,7 +126,7 @@ fn return_label(
 ) -> Result<Box<Label>, AllocError>
     ensures { IfOk result (λ label. label_tree label.value ≡ returns (option_map (λ kind. record { kind = kind; value = value_tree value.value }) result_kind)) }
 {
-    let label = Box::new(alloc, Label::Return(answer_of(result_kind, value)))?;
+    let label = boxed_label(alloc, Label::Return(answer_of(result_kind, value)))?;
     Ok(label)
 }
 
@@ -142,7 +143,7 @@ fn init_label(
     let text = name.text.copy()?;
     let ctype = copy_type(ctype)?;
     let owner = Owner::Local(text, number);
-    let label = Box::new(alloc, Label::Init(owner, ctype, Box::into_inner(value)))?;
+    let label = boxed_label(alloc, Label::Init(owner, ctype, Box::into_inner(value)))?;
     Ok(label)
 }
 
@@ -217,7 +218,7 @@ pub fn test_part(alloc: Global, known: Known, e: &Expr) -> Result<Box<RPart>, Al
 fn always_label(alloc: Global) -> Result<Box<Label>, AllocError>
     ensures { IfOk result (λ label. label_tree label.value ≡ branches (constant Int (pos 1))) }
 {
-    let label = Box::new(alloc, Label::Branch(RExpr::Const(IntKind::Int, 1)))?;
+    let label = boxed_label(alloc, Label::Branch(RExpr::Const(IntKind::Int, 1)))?;
     Ok(label)
 }
 
@@ -292,7 +293,7 @@ fn answer_part(
 fn end_part(alloc: Global, span: Span) -> Result<Box<RPart>, AllocError>
     ensures { IfOk result (λ part. part_tree part.value ≡ own (returns None) (word_return span)) }
 {
-    let label = Box::new(alloc, Label::Return(None))?;
+    let label = boxed_label(alloc, Label::Return(None))?;
     own_part(alloc, Vec::new(alloc), label, first_bytes(6, span))
 }
 
@@ -317,7 +318,7 @@ pub fn return_part(
 pub fn goto_part(alloc: Global, span: Span) -> Result<Box<RPart>, AllocError>
     ensures { IfOk result (λ part. part_tree part.value ≡ own jumps (word_goto span)) }
 {
-    let label = Box::new(alloc, Label::Goto)?;
+    let label = boxed_label(alloc, Label::Goto)?;
     own_part(alloc, Vec::new(alloc), label, first_bytes(4, span))
 }
 

@@ -13,6 +13,7 @@ ghost use Rattle.csub_resolution.specs.Lines.{exit_argument, exits_with, is_call
 ghost use Rattle.csub_resolution.specs.Values.{no_place, params_in, result_value};
 ghost use Rattle.csub_lower.specs.Made.{made_place, made_sort, made_value};
 
+use crate::boxes::boxed_value;
 use crate::definitions::Definitions;
 use crate::made::Made;
 use csub_check::{Callee, callee_of};
@@ -129,7 +130,7 @@ fn result_node<'t>(
     match gives {
         None => Ok(Made::Void),
         Some(kind) => {
-            let value = Box::new(alloc, RExpr::Temp(number, kind))?;
+            let value = boxed_value(alloc, RExpr::Temp(number, kind))?;
             Ok(Made::Value(value, kind))
         }
     }

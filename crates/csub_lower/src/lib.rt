@@ -7,6 +7,7 @@
 #![tactic(auto)]
 
 mod argument;
+mod boxes;
 mod call;
 pub mod definitions;
 pub mod expression;

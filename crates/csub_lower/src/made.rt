@@ -6,6 +6,7 @@ ghost use Rattle.csub_rules.specs.Sorts.{a_place, element_of, has_elements, has_
 ghost use Rattle.csub_rules.specs.Callees.{takes};
 ghost use Rattle.csub_lower.specs.Made.{made_argument, made_place, made_sort, made_value};
 
+use crate::boxes::boxed_value;
 use csub_objects::{CType, element_type, member_type};
 use csub_semantics::{Place, RArg, RExpr};
 use csub_types::IntKind;
@@ -54,7 +55,7 @@ fn read_number(alloc: Global, place: Box<Place>, kind: IntKind) -> Result<Number
     ensures kind { IfOk result (λ n. n.kind ≡ kind) }
     ensures value { IfOk result (λ n. value_tree n.value.value ≡ reading (place_tree place.value)) }
 {
-    let value = Box::new(alloc, RExpr::Read(Box::into_inner(place)))?;
+    let value = boxed_value(alloc, RExpr::Read(Box::into_inner(place)))?;
     Ok(Number { value, kind })
 }
 

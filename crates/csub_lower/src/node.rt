@@ -10,6 +10,7 @@ ghost use Rattle.csub_rules.specs.ExprSorts.{named_kind, number_literal_kind, op
 ghost use Rattle.csub_resolution.specs.Values.{assigned, first_value, no_place};
 ghost use Rattle.csub_lower.specs.Made.{made_place, made_sort, made_value};
 
+use crate::boxes::{boxed_place, boxed_value};
 use crate::made::{Made, Number, to_array, to_number_place, to_struct};
 use csub_check::{binary_kind, named_kind, number_literal_kind, operation_kind, unary_kind};
 use csub_objects::{CType, copy_type};
@@ -29,7 +30,7 @@ pub(crate) fn constant_node<'t>(
     ensures place { IfOk result (λ m. made_place m ≡ no_place) }
     ensures value { IfOk result (λ m. made_value m ≡ constant kind number) }
 {
-    let value = Box::new(alloc, RExpr::Const(kind, number))?;
+    let value = boxed_value(alloc, RExpr::Const(kind, number))?;
     Ok(Made::Value(value, kind))
 }
 
@@ -60,7 +61,7 @@ pub(crate) fn object_node<'t>(
     ensures place { IfOk result (λ m. made_place m ≡ variable (object (owner_tree owner) (type_tree ctype.now))) }
     ensures value { IfOk result (λ m. made_value m ≡ reading (variable (object (owner_tree owner) (type_tree ctype.now)))) }
 {
-    let place = Box::new(alloc, Place::Var(owner, copy_type(ctype)?))?;
+    let place = boxed_place(alloc, Place::Var(owner, copy_type(ctype)?))?;
     Ok(Made::Place(place, ctype))
 }
 
@@ -71,7 +72,7 @@ pub(crate) fn unary_node<'t>(alloc: Global, op: UnaryOp, a: Number) -> Result<Ma
     ensures value { IfOk result (λ m. made_value m ≡ unary_operation op (promote a.kind) (value_tree a.value.value)) }
 {
     let kind = promote(a.kind);
-    let value = Box::new(alloc, RExpr::Unary(op, kind, a.value))?;
+    let value = boxed_value(alloc, RExpr::Unary(op, kind, a.value))?;
     Ok(Made::Value(value, unary_kind(op, kind)))
 }
 
@@ -82,7 +83,7 @@ pub(crate) fn cast_node<'t>(alloc: Global, to: &TypeName, a: Number) -> Result<M
     ensures value { IfOk result (λ m. made_value m ≡ conversion (named_kind to.now) (value_tree a.value.value)) }
 {
     let kind = named_kind(to);
-    let value = Box::new(alloc, RExpr::Cast(kind, a.value))?;
+    let value = boxed_value(alloc, RExpr::Cast(kind, a.value))?;
     Ok(Made::Value(value, kind))
 }
 
@@ -94,7 +95,7 @@ pub(crate) fn step_node<'t>(alloc: Global, op: StepOp, a: Made) -> Result<Made<'
     ensures value { IfOk result (λ m. made_value m ≡ stepping op (made_place a.entry)) }
 {
     let (place, kind) = to_number_place(a);
-    let value = Box::new(alloc, RExpr::Step(op, Box::into_inner(place)))?;
+    let value = boxed_value(alloc, RExpr::Step(op, Box::into_inner(place)))?;
     Ok(Made::Value(value, kind))
 }
 
@@ -110,7 +111,7 @@ pub(crate) fn binary_node<'t>(
     ensures value { IfOk result (λ m. made_value m ≡ operation op (operation_kind op a.kind b.kind) (value_tree a.value.value) (value_tree b.value.value)) }
 {
     let kind = operation_kind(op, a.kind, b.kind);
-    let value = Box::new(alloc, RExpr::Binary(op, kind, a.value, b.value))?;
+    let value = boxed_value(alloc, RExpr::Binary(op, kind, a.value, b.value))?;
     Ok(Made::Value(value, binary_kind(op, kind)))
 }
 
@@ -120,7 +121,7 @@ pub(crate) fn and_node<'t>(alloc: Global, a: Number, b: Number) -> Result<Made<'
     ensures place { IfOk result (λ m. made_place m ≡ no_place) }
     ensures value { IfOk result (λ m. made_value m ≡ conjunction (value_tree a.value.value) (value_tree b.value.value)) }
 {
-    let value = Box::new(alloc, RExpr::And(a.value, b.value))?;
+    let value = boxed_value(alloc, RExpr::And(a.value, b.value))?;
     Ok(Made::Value(value, IntKind::Int))
 }
 
@@ -130,7 +131,7 @@ pub(crate) fn or_node<'t>(alloc: Global, a: Number, b: Number) -> Result<Made<'t
     ensures place { IfOk result (λ m. made_place m ≡ no_place) }
     ensures value { IfOk result (λ m. made_value m ≡ disjunction (value_tree a.value.value) (value_tree b.value.value)) }
 {
-    let value = Box::new(alloc, RExpr::Or(a.value, b.value))?;
+    let value = boxed_value(alloc, RExpr::Or(a.value, b.value))?;
     Ok(Made::Value(value, IntKind::Int))
 }
 
@@ -146,7 +147,7 @@ pub(crate) fn choice_node<'t>(
     ensures value { IfOk result (λ m. made_value m ≡ choice (common a.kind b.kind) (value_tree c.value.value) (value_tree a.value.value) (value_tree b.value.value)) }
 {
     let kind = common(a.kind, b.kind);
-    let value = Box::new(alloc, RExpr::Choose(kind, c.value, a.value, b.value))?;
+    let value = boxed_value(alloc, RExpr::Choose(kind, c.value, a.value, b.value))?;
     Ok(Made::Value(value, kind))
 }
 
@@ -162,10 +163,10 @@ fn assigned(
 {
     let place = Box::into_inner(place);
     match op {
-        None => Ok(Box::new(alloc, RExpr::Assign(place, b.value))?),
+        None => boxed_value(alloc, RExpr::Assign(place, b.value)),
         Some(op) => {
             let joint = operation_kind(op, kind, b.kind);
-            Ok(Box::new(alloc, RExpr::Update(place, op, joint, b.value))?)
+            boxed_value(alloc, RExpr::Update(place, op, joint, b.value))
         }
     }
 }
@@ -194,7 +195,7 @@ pub(crate) fn index_node<'t>(alloc: Global, a: Made<'t>, i: Number) -> Result<Ma
     ensures value { IfOk result (λ m. made_value m ≡ reading (element_place tt (made_place a.entry) (value_tree i.value.value))) }
 {
     let (array, element) = to_array(a);
-    let place = Box::new(alloc, Place::Index(array, i.value))?;
+    let place = boxed_place(alloc, Place::Index(array, i.value))?;
     Ok(Made::Place(place, element))
 }
 
@@ -206,7 +207,7 @@ pub(crate) fn member_node<'t>(alloc: Global, a: Made<'t>, m: &Name) -> Result<Ma
     ensures value { IfOk result (λ found. made_value found ≡ reading (member_place m.now.text (made_place a.entry))) }
 {
     let (whole, ctype) = to_struct(a, m.text.bytes());
-    let place = Box::new(alloc, Place::Member(whole, m.text.copy()?))?;
+    let place = boxed_place(alloc, Place::Member(whole, m.text.copy()?))?;
     Ok(Made::Place(place, ctype))
 }
 
@@ -216,7 +217,7 @@ pub(crate) fn input_node<'t>(alloc: Global) -> Result<Made<'t>, AllocError>
     ensures place { IfOk result (λ m. made_place m ≡ no_place) }
     ensures value { IfOk result (λ m. made_value m ≡ input_byte) }
 {
-    let value = Box::new(alloc, RExpr::Getchar)?;
+    let value = boxed_value(alloc, RExpr::Getchar)?;
     Ok(Made::Value(value, IntKind::Int))
 }
 
@@ -227,8 +228,8 @@ pub(crate) fn output_node<'t>(alloc: Global, mut values: Vec<RExpr>) -> Result<M
     ensures place { IfOk result (λ m. made_place m ≡ no_place) }
     ensures value { IfOk result (λ m. made_value m ≡ output_byte (first_value (exprs_of (map value_tree values.items)))) }
 {
-    let byte = Box::new(alloc, values.remove(0))?;
-    let value = Box::new(alloc, RExpr::Putchar(byte))?;
+    let byte = boxed_value(alloc, values.remove(0))?;
+    let value = boxed_value(alloc, RExpr::Putchar(byte))?;
     Ok(Made::Value(value, IntKind::Int))
 }
 
@@ -242,6 +243,6 @@ pub(crate) fn formatted_node<'t>(
     ensures place { IfOk result (λ m. made_place m ≡ no_place) }
     ensures value { IfOk result (λ m. made_value m ≡ formatted pieces.items (exprs_of (map value_tree values.items))) }
 {
-    let value = Box::new(alloc, RExpr::Printf(pieces, values))?;
+    let value = boxed_value(alloc, RExpr::Printf(pieces, values))?;
     Ok(Made::Value(value, IntKind::Int))
 }
