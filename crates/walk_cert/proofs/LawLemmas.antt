@@ -77,7 +77,7 @@ in_edges (false ∷ row) (y ∷ xs) (suc k) x e marked = in_edges row xs k x e m
 
 -- ---- the same over equal sets
 
-closed_over : (F F' : Flow) (C D : Claim) (E G : Edges) → ((f : Name) (p p' : PointTree) → C f p p' → D f p p') → ((f : Name) (p p' : PointTree) → D f p p' → C f p p') → ((f : Name) (p : PointTree) (x : ExitTree) → E f p x → G f p x)
+pub closed_over : (F F' : Flow) (C D : Claim) (E G : Edges) → ((f : Name) (p p' : PointTree) → C f p p' → D f p p') → ((f : Name) (p p' : PointTree) → D f p p' → C f p p') → ((f : Name) (p : PointTree) (x : ExitTree) → E f p x → G f p x)
     → Closed F F' C E → Closed F F' D G
 closed_over F F' C D E G to from edges h = record {
   starts = to _ _ _ h.starts;

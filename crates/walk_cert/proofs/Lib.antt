@@ -5,3 +5,4 @@ mod LawLemmas
 mod MadeLemmas
 mod SearchLemmas
 mod VerdictLemmas
+mod WalkLemmas

@@ -4,7 +4,7 @@
 //! (`specs/Claims.antt` has the claim by names, `specs/Verdicts.antt` what each answer says). What a closed claim is good for
 //! stands in the contract of [`laws::closed_claim`]: a run of the old program that crosses no edge of the claim has the same
 //! output, status and number of turns on the new one. [`read_certificate`] reads the certificate of two graphs by the rules
-//! of `cert_text`, and [`certificate_of`] gives the certificate of a walk (`specs/Made.antt`).
+//! of `cert_text`, and [`certificate_of`] gives the certificate of a walk (`specs/Made.antt`), whose claim is closed.
 #![tactic(auto)]
 
 mod alike;

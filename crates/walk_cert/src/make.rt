@@ -4,10 +4,12 @@ ghost use Rattle.csub_semantics.specs.Syntax.{ProgramTree};
 ghost use Rattle.flow_graph.specs.Graph.{IsGraphOf};
 ghost use Rattle.call_walk.specs.Walks.{IsWalk};
 ghost use Rattle.sha2.specs.Sha256.{sha256};
+ghost use Rattle.walk_cert.specs.Claims.{IsClosedClaim};
 ghost use Rattle.walk_cert.specs.Made.{IsOfWalk, tuple_of};
 
 use crate::search::comes_after;
 use call_walk::WalkResult;
+use call_walk::laws::reached_is_closed;
 use cert_text::{Certificate, Pair};
 use dual_walk::Fact;
 use flow_graph::Graph;
@@ -15,7 +17,7 @@ use sha2::{Digest, Sha256};
 use std::alloc::{AllocError, Global};
 
 /// The certificate of the walk of two graphs: the digests of both sources, the dangerous edges, and the reached pairs, each
-/// once, in rising order. An `Err` is want of memory. It sorts the pairs.
+/// once, in rising order. Its claim is closed. An `Err` is want of memory. It sorts the pairs.
 pub fn certificate_of(
     alloc: Global,
     _old: &Graph,
@@ -29,7 +31,12 @@ pub fn certificate_of(
     ensures new { IfOk result (λ certificate. certificate.new ≡ sha256 new_source.now) }
     ensures danger { IfOk result (λ certificate. certificate.danger ≡ walked.now.danger) }
     ensures pairs { IfOk result (λ certificate. IsOfWalk walked.now.facts.items certificate.pairs) }
+    // no break is found of it
+    ensures closed { (P P' : ProgramTree) → IsGraphOf _old.now P → IsGraphOf _new.now P' →
+        IfOk result (λ certificate. IsClosedClaim P P' certificate.danger certificate.pairs) }
 {
+    // the law from which the clause `closed` follows
+    reached_is_closed();
     let pairs = rising_pairs(alloc, &walked.facts)?;
     Ok(Certificate::new(
         Sha256::digest(old_source),
