@@ -29,11 +29,19 @@ use csub_tree::{Declare, Expr, Name};
 use csub_types::{IntKind, convert};
 use std::alloc::{AllocError, Global};
 
+/// A statement in a box. All are boxed here, since a call of a generic function at a type of many forms takes long to prove.
+fn boxed(alloc: Global, made: RStmt) -> Result<Box<RStmt>, AllocError>
+    ensures { IfOk result (λ there. there.value ≡ made) }
+{
+    let there = Box::new(alloc, made)?;
+    Ok(there)
+}
+
 /// A statement of these parts.
 pub(crate) fn parts_node(alloc: Global, row: Vec<RPart>) -> Result<Box<RStmt>, AllocError>
     ensures { IfOk result (λ made. made_tree made.value ≡ parts (map part_tree row.items)) }
 {
-    let made = Box::new(alloc, RStmt::Parts(row))?;
+    let made = boxed(alloc, RStmt::Parts(row))?;
     Ok(made)
 }
 
@@ -87,7 +95,7 @@ pub(crate) fn return_node(
 pub(crate) fn block_node(alloc: Global, lines: Vec<RStmt>) -> Result<Box<RStmt>, AllocError>
     ensures { IfOk result (λ made. made_tree made.value ≡ block (made_lines (map made_tree lines.items))) }
 {
-    let made = Box::new(alloc, RStmt::Block(lines))?;
+    let made = boxed(alloc, RStmt::Block(lines))?;
     Ok(made)
 }
 
@@ -100,7 +108,7 @@ pub(crate) fn if_node(
 ) -> Result<Box<RStmt>, AllocError>
     ensures { IfOk result (λ made. made_tree made.value ≡ conditional (part_tree test.value) (made_tree then.value) (else_of (option_map (λ s. made_tree s.value) other))) }
 {
-    let made = Box::new(alloc, RStmt::If(Box::into_inner(test), then, other))?;
+    let made = boxed(alloc, RStmt::If(Box::into_inner(test), then, other))?;
     Ok(made)
 }
 
@@ -112,7 +120,7 @@ pub(crate) fn while_node(
 ) -> Result<Box<RStmt>, AllocError>
     ensures { IfOk result (λ made. made_tree made.value ≡ while_loop (part_tree test.value) (made_tree body.value)) }
 {
-    let made = Box::new(alloc, RStmt::While(Box::into_inner(test), body))?;
+    let made = boxed(alloc, RStmt::While(Box::into_inner(test), body))?;
     Ok(made)
 }
 
@@ -124,7 +132,7 @@ pub(crate) fn do_node(
 ) -> Result<Box<RStmt>, AllocError>
     ensures { IfOk result (λ made. made_tree made.value ≡ do_loop (made_tree body.value) (part_tree test.value)) }
 {
-    let made = Box::new(alloc, RStmt::Do(body, Box::into_inner(test)))?;
+    let made = boxed(alloc, RStmt::Do(body, Box::into_inner(test)))?;
     Ok(made)
 }
 
@@ -165,7 +173,7 @@ pub(crate) fn for_node(
     ensures { IfOk result (λ made. made_tree made.value ≡ for_loop (map part_tree head.first.items) (part_tree head.test.value) (map part_tree head.third.items) (made_tree body.value)) }
 {
     let test = Box::into_inner(head.test);
-    let made = Box::new(alloc, RStmt::For(head.first, test, head.third, body))?;
+    let made = boxed(alloc, RStmt::For(head.first, test, head.third, body))?;
     Ok(made)
 }
 
@@ -177,7 +185,7 @@ pub(crate) fn switch_node(
 ) -> Result<Box<RStmt>, AllocError>
     ensures { IfOk result (λ made. made_tree made.value ≡ switch_on (part_tree part.value) (made_lines (map made_tree lines.items))) }
 {
-    let made = Box::new(alloc, RStmt::Switch(Box::into_inner(part), lines))?;
+    let made = boxed(alloc, RStmt::Switch(Box::into_inner(part), lines))?;
     Ok(made)
 }
 
@@ -197,7 +205,7 @@ pub(crate) fn case_node(
 ) -> Result<Box<RStmt>, AllocError>
     ensures { IfOk result (λ made. made_tree made.value ≡ case_label (case_value kind (scope_of scope.now) (expr_tree e.now))) }
 {
-    let made = Box::new(alloc, RStmt::Case(case_value(kind, scope, e)))?;
+    let made = boxed(alloc, RStmt::Case(case_value(kind, scope, e)))?;
     Ok(made)
 }
 
@@ -205,7 +213,7 @@ pub(crate) fn case_node(
 pub(crate) fn default_node(alloc: Global) -> Result<Box<RStmt>, AllocError>
     ensures { IfOk result (λ made. made_tree made.value ≡ default_label) }
 {
-    let made = Box::new(alloc, RStmt::Default)?;
+    let made = boxed(alloc, RStmt::Default)?;
     Ok(made)
 }
 
@@ -213,7 +221,7 @@ pub(crate) fn default_node(alloc: Global) -> Result<Box<RStmt>, AllocError>
 pub(crate) fn break_node(alloc: Global) -> Result<Box<RStmt>, AllocError>
     ensures { IfOk result (λ made. made_tree made.value ≡ breaks) }
 {
-    let made = Box::new(alloc, RStmt::Break)?;
+    let made = boxed(alloc, RStmt::Break)?;
     Ok(made)
 }
 
@@ -221,7 +229,7 @@ pub(crate) fn break_node(alloc: Global) -> Result<Box<RStmt>, AllocError>
 pub(crate) fn continue_node(alloc: Global) -> Result<Box<RStmt>, AllocError>
     ensures { IfOk result (λ made. made_tree made.value ≡ continues) }
 {
-    let made = Box::new(alloc, RStmt::Continue)?;
+    let made = boxed(alloc, RStmt::Continue)?;
     Ok(made)
 }
 
@@ -231,7 +239,7 @@ pub(crate) fn goto_node(alloc: Global, x: &Name, span: Span) -> Result<Box<RStmt
 {
     let name = x.text.copy()?;
     let part = goto_part(alloc, span)?;
-    let made = Box::new(alloc, RStmt::Goto(name, Box::into_inner(part)))?;
+    let made = boxed(alloc, RStmt::Goto(name, Box::into_inner(part)))?;
     Ok(made)
 }
 
@@ -244,7 +252,7 @@ pub(crate) fn mark_node(
     ensures { IfOk result (λ made. made_tree made.value ≡ marked x.now.text (made_tree inner.value)) }
 {
     let name = x.text.copy()?;
-    let made = Box::new(alloc, RStmt::Mark(name, inner))?;
+    let made = boxed(alloc, RStmt::Mark(name, inner))?;
     Ok(made)
 }
 

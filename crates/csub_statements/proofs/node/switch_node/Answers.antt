@@ -5,5 +5,5 @@ use Rattle.csub_statements.proofs.node.switch_node.Goals as goal
 
 pub returns : goal.returns
 returns c =
-    ap stmt_tree c.in_ok-made.ensures.ok ∙ stmt_tree-Switch c.into_inner.result c.args.lines
+    ap stmt_tree c.in_ok-made.ensures ∙ stmt_tree-Switch c.into_inner.result c.args.lines
     ∙ ap (λ p. switch_on (part_tree p) (stmts_of (map stmt_tree c.args.lines.items))) c.into_inner.ensures
