@@ -1,8 +1,10 @@
-//! Tests of what no contract says of the crates of texts, rows, suites, histories, selections, orders and the outside:
-//! worked texts with digests of an outside tool, each limit of a format with its next, and that calls succeed with ample
-//! memory. They stand here since a crate's tests are proved together with the whole crate.
+//! Tests of what no contract says of the crates of texts, rows, certificates, suites, histories, selections, orders and the
+//! outside: worked texts with digests of an outside tool, each limit of a format with its next, and that calls succeed with
+//! ample memory. They stand here since a crate's tests are proved together with the whole crate.
 #![tactic(auto)]
 
+#[cfg(test)]
+mod certificates;
 #[cfg(test)]
 mod histories;
 #[cfg(test)]

@@ -42,7 +42,7 @@ const SMALL_EDGES: [(u32, u32); 8] = [
 ];
 
 /// `if (getchar()) putchar(66); else putchar(67); return 0;`
-const SMALL: &str =
+pub const SMALL: &str =
     "choose at:4 test getchar { line at:5 eval putchar 66 } { line at:6 eval putchar 67 } line at:7 return:int 0";
 
 #[test]

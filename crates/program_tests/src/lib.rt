@@ -1,7 +1,9 @@
-//! Tests of what is made of programs: the graph, and the numbers of labels. The programs are written in words
-//! (`program_words`).
+//! Tests of what is made of programs: the graph, the numbers of labels, and what is found of the claims of two versions. The
+//! programs are written in words (`program_words`).
 #![tactic(auto)]
 
+#[cfg(test)]
+mod claims;
 #[cfg(test)]
 mod graphs;
 #[cfg(test)]

@@ -1,0 +1,185 @@
+//! Certificates that are read and written. The sums were taken by Python's hashlib; the digests of `abc` and of no bytes are
+//! the examples of FIPS 180-4.
+use cert_text::{Bounds, CertificateError, read_text, write_certificate};
+use line_text::{cut_line, read_digest};
+use std::alloc::{AllocError, Global};
+use std::test::Fail;
+
+const OLD: &[u8] = b"abc";
+
+const NEW: &[u8] = b"";
+
+const OLD_DIGEST: &[u8] = b"ba7816bf8f01cfea414140de5dae2223b00361a396177a9cb410ff61f20015ad";
+
+const NEW_DIGEST: &[u8] = b"e3b0c44298fc1c149afbf4c8996fb92427ae41e4649b934ca495991b7852b855";
+
+/// A certificate of 16 lines. Point 7 of each program is in no pair.
+const TEXT: &[u8] = b"dejavu certificate 1\n\
+    old ba7816bf8f01cfea414140de5dae2223b00361a396177a9cb410ff61f20015ad\n\
+    new e3b0c44298fc1c149afbf4c8996fb92427ae41e4649b934ca495991b7852b855\n\
+    dangerous 1\n\
+    edge 5\n\
+    pairs 9\n\
+    pair 0 0\n\
+    pair 1 1\n\
+    pair 2 2\n\
+    pair 3 3\n\
+    pair 4 4\n\
+    pair 5 5\n\
+    pair 6 6\n\
+    pair 8 8\n\
+    pair 9 9\n\
+    end 5f2272f9c47d2ce57c4199a490c12239caaef7044401914210f0beac57e2c40b\n";
+
+/// The sum of `TEXT`, and it with another first digit.
+const SUM: &[u8] = b"5f2272f9c47d2ce57c4199a490c12239caaef7044401914210f0beac57e2c40b";
+
+const OTHER_SUM: &[u8] = b"6f2272f9c47d2ce57c4199a490c12239caaef7044401914210f0beac57e2c40b";
+
+const OTHER_END: &[u8] = b"end 6f2272f9c47d2ce57c4199a490c12239caaef7044401914210f0beac57e2c40b\n";
+
+const BOUNDS: Bounds = Bounds {
+    edges: 9,
+    old_points: 10,
+    new_points: 12,
+};
+
+/// Why a text is refused as a certificate of these sources.
+fn refusal_of(alloc: Global, text: &[u8], old: &[u8], new: &[u8]) -> Option<CertificateError> {
+    read_text(alloc, text, old, new, BOUNDS).err()
+}
+
+/// The lines of `TEXT` before its line `number`, and then these bytes.
+fn after_lines(alloc: Global, number: u32, bytes: &[u8]) -> Result<Vec<u8>, AllocError> {
+    let mut out = Vec::new(alloc);
+    let mut rest = TEXT;
+    for _ in 1..number {
+        let Some(line) = cut_line(rest) else {
+            break;
+        };
+        out.extend_from_slice(line.bytes)?;
+        out.push(b'\n')?;
+        rest = line.rest;
+    }
+    out.extend_from_slice(bytes)?;
+    Ok(out)
+}
+
+#[test]
+fn a_certificate_is_written_and_read_as_it_was(rt: HostRuntime) -> Result<(), Fail> {
+    let certificate = read_text(rt.alloc(), TEXT, OLD, NEW, BOUNDS)?;
+    let danger = certificate.danger();
+    assert!(rt; danger.edges() == 9 && danger.count() == 1);
+    assert!(rt; danger.has(5));
+    let points = [0, 1, 2, 3, 4, 5, 6, 8, 9];
+    assert_eq!(rt; certificate.pairs().len(), 9);
+    for (pair, point) in certificate.pairs().iter().zip(points) {
+        assert!(rt; (pair.old, pair.new) == (point, point), "{point}");
+    }
+    let text = write_certificate(rt.alloc(), &certificate)?;
+    assert!(rt; text.as_slice() == TEXT);
+    Ok(())
+}
+
+#[test]
+fn each_cause_has_its_certificate(rt: HostRuntime) -> Result<(), Fail> {
+    let alloc = rt.alloc();
+    let old = read_digest(OLD_DIGEST).expect(&rt, "digits");
+    let new = read_digest(NEW_DIGEST).expect(&rt, "digits");
+    let sum = read_digest(SUM).expect(&rt, "digits");
+    let other = read_digest(OTHER_SUM).expect(&rt, "digits");
+    let changed = after_lines(alloc, 16, OTHER_END)?;
+    let shorter = after_lines(alloc, 16, b"")?;
+    let longer = after_lines(alloc, 17, b"x\n")?;
+    // a line's rule comes before the sum, the sum before the sources, and the old source before the new one
+    let cases: [(&[u8], &[u8], &[u8], CertificateError); 8] = [
+        (&shorter, OLD, NEW, CertificateError::Malformed(16, 8)),
+        (&shorter, NEW, OLD, CertificateError::Malformed(16, 8)),
+        (&longer, OLD, NEW, CertificateError::Malformed(17, 9)),
+        (&changed, OLD, NEW, CertificateError::Sum(other, sum)),
+        (&changed, NEW, OLD, CertificateError::Sum(other, sum)),
+        (TEXT, NEW, OLD, CertificateError::Old(old, new)),
+        (TEXT, NEW, NEW, CertificateError::Old(old, new)),
+        (TEXT, OLD, OLD, CertificateError::New(new, old)),
+    ];
+    for (place, (text, old, new, want)) in cases.iter().enumerate() {
+        assert!(rt; refusal_of(alloc, text, old, new) == Some(*want), "{place}");
+    }
+    Ok(())
+}
+
+/// Lines behind those of `TEXT` before a number, the line that is refused, and its rule.
+const REFUSED: &[(u32, &str, u32, u8)] = &[
+    // the first three lines
+    (1, "", 1, 1),
+    (1, "dejavu certificate 1", 1, 1),
+    (1, "dejavu certificate 2\n", 1, 1),
+    (1, "dejavu certificate 01\n", 1, 1),
+    (1, "dejavu history 1\n", 1, 1),
+    (2, "", 2, 2),
+    (2, "old ba78\n", 2, 2),
+    (
+        2,
+        "old Ba7816bf8f01cfea414140de5dae2223b00361a396177a9cb410ff61f20015ad\n",
+        2,
+        2,
+    ),
+    (
+        2,
+        "new ba7816bf8f01cfea414140de5dae2223b00361a396177a9cb410ff61f20015ad\n",
+        2,
+        2,
+    ),
+    (3, "", 3, 3),
+    (3, "new -\n", 3, 3),
+    (
+        3,
+        "new  e3b0c44298fc1c149afbf4c8996fb92427ae41e4649b934ca495991b7852b855\n",
+        3,
+        3,
+    ),
+    // the edges
+    (4, "", 4, 4),
+    (4, "dangerous 10\n", 4, 4),
+    (4, "dangerous 01\n", 4, 4),
+    (4, "dangerous 9\n", 5, 5),
+    (4, "dangerous 1\nedge 9\n", 5, 5),
+    (4, "dangerous 2\nedge 3\nedge 3\n", 6, 5),
+    (4, "dangerous 2\nedge 3\nedge 2\n", 6, 5),
+    (4, "dangerous 2\nedge 3\nedge 8\n", 7, 6),
+    // the pairs
+    (4, "dangerous 0\npairs 100000001\n", 5, 6),
+    (4, "dangerous 0\npairs 100000000\n", 6, 7),
+    (4, "dangerous 0\npairs 1\npair 10 0\n", 6, 7),
+    (4, "dangerous 0\npairs 1\npair 0 12\n", 6, 7),
+    (4, "dangerous 0\npairs 1\npair 0 11\n", 7, 8),
+    (4, "dangerous 0\npairs 1\npair 0\n", 6, 7),
+    (4, "dangerous 0\npairs 1\npair 0  1\n", 6, 7),
+    (4, "dangerous 0\npairs 1\npair 0 1 \n", 6, 7),
+    (4, "dangerous 0\npairs 2\npair 1 1\npair 1 1\n", 7, 7),
+    (4, "dangerous 0\npairs 2\npair 1 1\npair 1 0\n", 7, 7),
+    (4, "dangerous 0\npairs 2\npair 1 1\npair 0 2\n", 7, 7),
+    (4, "dangerous 0\npairs 2\npair 1 1\npair 2 0\n", 8, 8),
+    // the end
+    (16, "", 16, 8),
+    (16, "end -\n", 16, 8),
+    (17, "x\n", 17, 9),
+    (17, "x", 17, 9),
+];
+
+/// Whether a text is refused for this line and its rule.
+fn is_malformed(alloc: Global, text: &[u8], line: u32, rule: u8) -> bool {
+    refusal_of(alloc, text, OLD, NEW) == Some(CertificateError::Malformed(line, rule))
+}
+
+#[test]
+fn every_line_has_a_rule(rt: HostRuntime) -> Result<(), Fail> {
+    for (number, bytes, line, rule) in REFUSED {
+        let text = after_lines(rt.alloc(), *number, bytes.as_bytes())?;
+        assert!(rt;
+            is_malformed(rt.alloc(), &text, *line, *rule),
+            "line {number}: {bytes}"
+        );
+    }
+    Ok(())
+}
