@@ -1,0 +1,4 @@
+mod StayLemmas
+mod MoveLemmas
+mod LayLemmas
+mod RecordLemmas
