@@ -68,7 +68,7 @@ fn words_of(alloc: Global, verdict: Verdict) -> Result<String, AllocError> {
 }
 
 /// The walk of two graphs, whose questions are counted in the ledger of `blank`.
-fn walk_counted<L: Ledger>(
+pub fn walk_counted<L: Ledger>(
     alloc: Global,
     old: &Graph,
     new: &Graph,
