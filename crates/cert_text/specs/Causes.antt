@@ -36,7 +36,8 @@ HasCause bounds text old new (read.TooLong bytes) = (bytes ≡ length text) × (
 HasCause bounds text old new (read.Malformed n rule) = (length text ≤ most_certificate_bytes) × IsFirstFault bounds text n rule
 -- no line breaks a rule, and the sum on the line `end` is not that of what stands before
 HasCause bounds text old new (read.Sum found computed) = (length text ≤ most_certificate_bytes)
-    × (certificate : CertificateParts) × SaysCertificate bounds text certificate found × (computed ≡ sha256 (text_before_end certificate)) × (found ≢ computed)
+    × (certificate : CertificateParts) × SaysCertificate bounds text certificate found
+    × (computed ≡ sha256 (text_before_end certificate)) × (found ≢ computed)
 -- the text is right, and is of another old source
 HasCause bounds text old new (read.Old found computed) = (length text ≤ most_certificate_bytes)
     × (certificate : CertificateParts) × IsTextOf bounds text certificate

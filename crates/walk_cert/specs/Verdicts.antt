@@ -20,11 +20,13 @@ AreBelow g g' pairs = All (λ pair. (pair.old < point_count g) × (pair.new < po
 
 -- the entries of what is called at a pair are claimed
 abbrev pub Enters : ProgramTree → ProgramTree → List Pair → Pair → Type 0
-Enters P P' pairs pair = (f g : Name) (p p' : PointTree) → AreAt P P' pair.old pair.new f p p' → CallsAt (flow_of P) f p g → IsClaimed P P' pairs g entry entry
+Enters P P' pairs pair =
+    (f g : Name) (p p' : PointTree) → AreAt P P' pair.old pair.new f p p' → CallsAt (flow_of P) f p g → IsClaimed P P' pairs g entry entry
 
 -- the exits of what is called at a pair are claimed together
 abbrev pub ComesBack : ProgramTree → ProgramTree → List Pair → Pair → Type 0
-ComesBack P P' pairs pair = (f g : Name) (p p' : PointTree) → AreAt P P' pair.old pair.new f p p' → CallsAt (flow_of P) f p g → IsClaimed P P' pairs g exit exit
+ComesBack P P' pairs pair =
+    (f g : Name) (p p' : PointTree) → AreAt P P' pair.old pair.new f p p' → CallsAt (flow_of P) f p g → IsClaimed P P' pairs g exit exit
 
 -- the edge with this number leaves the old point of a pair, and where it leads
 pub record IsWayOut (P P' : ProgramTree) (pair : Pair) (e : ℕ) : Type 0 where
