@@ -1,7 +1,6 @@
 mod MomentLemmas
 mod EdgeLemmas
 mod RowLemmas
-mod Once
 mod WholeLemmas
 mod WayLemmas
 mod Turns

@@ -7,12 +7,9 @@ use Rattle.csub_semantics.specs.Syntax.{ProgramTree}
 use Rattle.csub_semantics.specs.Flows.{Edge, edge_list}
 use Rattle.csub_semantics.specs.Numbers.{edge_at, IsCrossed}
 use Rattle.csub_semantics.specs.Runs.{crossing}
+use Rattle.flow_graph.proofs.LawsOnce.{Once}
 use Rattle.csub_machine.specs.Crossed.{edge_eq, is_among, crossed_row}
 use Rattle.csub_machine.proofs.EdgeLemmas.{edge_true, edge_same, edge_other}
-
--- each edge of a list stands there once
-abbrev pub Once : List Edge → Type 0
-Once xs = (i j : ℕ) (d : Edge) → slice_get xs i ≡ Some d → slice_get xs j ≡ Some d → i ≡ j
 
 once_tail : (x : Edge) (xs : List Edge) → Once (x ∷ xs) → Once xs
 once_tail x xs h i j d e g = let k = h (suc i) (suc j) d e g in cc

@@ -1,4 +1,3 @@
-mod Once
 pub mod LawsLeading
 mod Crossing
 mod Saying

@@ -13,7 +13,7 @@ use Rattle.edge_images.specs.declared.image.Image.{Image}
 use Rattle.edge_images.specs.declared.image.Image.TheVariants.{Absent}
 use Rattle.edge_images.specs.Images.{Says}
 use Rattle.edge_images.specs.Partly.{IsImageBy, IsImageBefore, IsImageUpto, Answers, with_edge, Notes}
-use Rattle.edge_images.proofs.Once.{Once}
+use Rattle.flow_graph.proofs.LawsOnce.{Once}
 use Rattle.edge_images.proofs.Saying.{says_same, says_with}
 
 pub by_leaves : (P P' : ProgramTree) (c : Fact) (e i : ℕ) → IsImageBy P P' c e i → LeavesFrom P e c.old

@@ -1,4 +1,5 @@
 pub mod LawsLists
+pub mod LawsOnce
 pub mod LawsPlaces
 pub mod LawsThreads
 mod Rows

@@ -6,8 +6,8 @@
 //! number, in the words of the record `flow_of` between a program and all that runs or walks it. A point's edges have
 //! numbers that follow one another, so a caller takes them from the graph and keeps no list of its own.
 //!
-//! Proofs above cite `proofs/LawsPlaces`, where points stand, `proofs/LawsLists`, lists read by place, and
-//! `proofs/LawsThreads`: a graph may cross threads.
+//! Proofs above cite `proofs/LawsPlaces`, where points stand, `proofs/LawsOnce`, that an edge has one number,
+//! `proofs/LawsLists`, lists read by place, and `proofs/LawsThreads`: a graph may cross threads.
 #![tactic(auto)]
 
 mod begin;

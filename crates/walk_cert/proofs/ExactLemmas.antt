@@ -14,7 +14,7 @@ use Rattle.walk_cert.specs.Claims.{IsClaimed, IsInRow, IsClosedClaim}
 use Rattle.walk_cert.specs.Verdicts.{ComesBack, IsWayOut, Stays, IsVerdict}
 use Rattle.walk_cert.specs.declared.answer.Verdict.{Verdict}
 use Rattle.walk_cert.specs.declared.answer.Verdict.TheVariants as verdict
-use Rattle.walk_cert.proofs.EdgeLemmas.{edges_once}
+use Rattle.flow_graph.proofs.LawsOnce.{edges_once}
 
 module _ (P P' : ProgramTree) (valid : IsValid P) (row : List Bool) (pairs : List Pair) (h : IsClosedClaim P P' row pairs) where
   -- an edge of a claimed pair stays, where what is called comes back

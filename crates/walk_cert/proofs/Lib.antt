@@ -1,5 +1,4 @@
 mod ClaimLemmas
-mod EdgeLemmas
 mod ExactLemmas
 mod LawLemmas
 mod MadeLemmas

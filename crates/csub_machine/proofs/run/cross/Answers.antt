@@ -4,7 +4,7 @@ use Rattle.csub_semantics.specs.Runs.{crossing}
 use Rattle.csub_semantics.specs.Syntax.{program_tree}
 use Rattle.csub_machine.specs.Crossed.{crossed_row, edge_of}
 use Rattle.csub_machine.specs.Standings.{IsOfProgram}
-use Rattle.csub_machine.proofs.Once.{edges_once}
+use Rattle.flow_graph.proofs.LawsOnce.{edges_once}
 use Rattle.csub_machine.proofs.RowLemmas.{row_crossed}
 use Rattle.csub_machine.proofs.run.cross.Goals as goal
 

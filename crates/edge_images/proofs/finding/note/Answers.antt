@@ -2,7 +2,7 @@ use Rattle.std.proofs.Common.{◌≡◌, ℕ, ◌+◌, ◌<◌, length, sym, ap,
 use Rattle.std.specs.declared.ops.Range.{Range}
 use Rattle.dual_walk.proofs.LawsNumbers.{own_leaves, leaves_own}
 use Rattle.edge_images.specs.Partly.{IsImageUpto, Answers}
-use Rattle.edge_images.proofs.Once.{edges_once}
+use Rattle.flow_graph.proofs.LawsOnce.{edges_once}
 use Rattle.edge_images.proofs.Noting.{upto_first, upto_last, noted_on}
 use Rattle.edge_images.proofs.finding.note.Goals as goal
 
