@@ -7,7 +7,7 @@ use Rattle.csub_semantics.specs.Syntax.{ProgramTree}
 use Rattle.csub_semantics.specs.Successors.{Way}
 use Rattle.csub_semantics.specs.Flows.{PlacedNode, point_list, Edge, edges_from, edge_list}
 use Rattle.csub_semantics.specs.Numbers.{Site, site, site_of}
-use Rattle.csub_validity.specs.Valid.{IsValid}
+use Rattle.csub_core.specs.Valid.{IsValid}
 use Rattle.program_laws.proofs.LawsWays.{ExitsOnce, ways_differ}
 use Rattle.flow_graph.proofs.LawsLists.{slice_get_cases_append, made_of}
 use Rattle.flow_graph.proofs.LawsPlaces.{point_placed, points_once}
