@@ -1,8 +1,8 @@
 -- What clap answers.
-use Rattle.std.proofs.Common.{◌≡◌, ◌≢◌, ◌∙◌, ℕ, inl, inr, Bool, true, false, cond, List, [], ◌∷◌, Option, Some, None, codes, refl, sym, ap, ap₂, unwrap_or}
-use Rattle.std.specs.Prelude.{String}
-use Rattle.std.specs.Option.{option_and_then, option_to_list}
-use Rattle.std.specs.Str.{bytes_eq}
+use Rattle.std.proofs.Common.{◌≡◌, ◌≢◌, ◌∙◌, ℕ, inl, inr, Bool, true, false, cond, List, [], ◌∷◌, Option, Some, None, codes, length, refl, sym, ap, ap₂, unwrap_or}
+use Rattle.std.specs.Prelude.{String, nat_eq}
+use Rattle.std.proofs.Math.Dec.{eqb-suc-zero}
+use Rattle.std.specs.Option.{option_map, option_and_then, option_to_list}
 use Rattle.std.specs.declared.alloc.Global.{Global}
 use Rattle.clap.specs.Kinds.{HasKind, Kinds}
 use Rattle.clap.specs.Matches.{found_of}
@@ -14,7 +14,8 @@ use Rattle.clap.specs.declared.error.Error.{Error}
 use Rattle.clap.specs.declared.error.kind.ErrorKind.TheVariants.{OutOfMemory}
 use Rattle.clap.specs.declared.parser.matches.ArgMatches.{ArgMatches}
 use Rattle.clap.proofs.WalkLemmas.{first_value-rows, raw_values-rows}
-use Rattle.command_words.specs.Words.{Command, Rest, rest_of, texts_of, workers_of, record_with, record_of, walk_with, walk_of, select_with, select_of, rerun_with, rerun_of, explain_with, explain_of, gen_with, gen_of, command_of}
+use Rattle.command_words.specs.Words.{Command, Rest, rest_of, texts_of, workers_of, record_of, migrate_of, walk_of, select_of, rerun_of, explain_of, carry_of, order_of, certify_of, check_of, gen_of}
+use Rattle.command_words.specs.Words.{plain_alone, two_alone, three_alone, three_with, two_plain, three_plain, command_of}
 use Rattle.command_words.specs.Matches.{rest_app, rest_shown, HasNoNumber}
 use Rattle.command_words.proofs.Cuts.{rest_in}
 use Rattle.command_words.proofs.Walks.{clap_reads}
@@ -35,65 +36,45 @@ refused_is words e h other = (clap_reads words).refuses (some_kind _ e h other)
 
 -- ---- a rest with no number of workers is that of no command
 
-counted_none : (f : ℕ → Option Command) (workers : List (List ℕ)) → workers_of workers ≡ None → option_and_then f (workers_of workers) ≡ None
-counted_none f workers bad = ap (option_and_then f) bad
+abbrev NeedsNumber : {A : Type 0} → (Rest → Option A) → Type 0
+NeedsNumber f = (rest : Rest) → workers_of rest.workers ≡ None → f rest ≡ None
 
 -- where no word is given for it there is one worker
-is_given : (workers : List (List ℕ)) → workers_of workers ≡ None → workers ≢ []
-is_given [] bad e = cc
-is_given (word ∷ more) bad e = cc
+alone_none : NeedsNumber plain_alone
+alone_none rest bad = go rest.workers bad
+  where
+    go : (workers : List (List ℕ)) → workers_of workers ≡ None → cond (nat_eq (length workers) 0) (Some rest.plain) None ≡ None
+    go [] bad = cc
+    go (word ∷ more) bad = rw (eqb-suc-zero (length more)) refl
 
-walk_takes_none : (plain workers : List (List ℕ)) → workers ≢ [] → walk_with plain workers ≡ None
-walk_takes_none plain [] given = absurd (given refl)
-walk_takes_none [] (word ∷ more) given = refl
-walk_takes_none (a ∷ []) (word ∷ more) given = refl
-walk_takes_none (a ∷ b ∷ []) (word ∷ more) given = refl
-walk_takes_none (a ∷ b ∷ c ∷ rest) (word ∷ more) given = refl
+two_none : NeedsNumber two_alone
+two_none rest bad = ap (option_and_then two_plain) (alone_none rest bad)
 
-select_takes_none : (plain workers : List (List ℕ)) → workers ≢ [] → select_with plain workers ≡ None
-select_takes_none plain [] given = absurd (given refl)
-select_takes_none [] (word ∷ more) given = refl
-select_takes_none (a ∷ []) (word ∷ more) given = refl
-select_takes_none (a ∷ b ∷ []) (word ∷ more) given = refl
-select_takes_none (a ∷ b ∷ c ∷ []) (word ∷ more) given = refl
-select_takes_none (a ∷ b ∷ c ∷ d ∷ rest) (word ∷ more) given = refl
+three_none : NeedsNumber three_alone
+three_none rest bad = ap (option_and_then three_plain) (alone_none rest bad)
 
-explain_takes_none : (plain workers : List (List ℕ)) → workers ≢ [] → explain_with plain workers ≡ None
-explain_takes_none plain [] given = absurd (given refl)
-explain_takes_none [] (word ∷ more) given = refl
-explain_takes_none (a ∷ []) (word ∷ more) given = refl
-explain_takes_none (a ∷ b ∷ []) (word ∷ more) given = refl
-explain_takes_none (a ∷ b ∷ c ∷ []) (word ∷ more) given = refl
-explain_takes_none (a ∷ b ∷ c ∷ d ∷ []) (word ∷ more) given = refl
-explain_takes_none (a ∷ b ∷ c ∷ d ∷ e ∷ rest) (word ∷ more) given = refl
-
-gen_takes_none : (plain workers : List (List ℕ)) → workers ≢ [] → gen_with plain workers ≡ None
-gen_takes_none plain [] given = absurd (given refl)
-gen_takes_none [] (word ∷ more) given = refl
-gen_takes_none (a ∷ []) (word ∷ more) given = refl
-gen_takes_none (a ∷ b ∷ []) (word ∷ more) given = refl
-gen_takes_none (a ∷ b ∷ c ∷ rest) (word ∷ more) given = refl
+with_none : NeedsNumber three_with
+with_none rest bad = ap (option_and_then _) bad
 
 -- whatever the name
 pub no_command : (name : List ℕ) (more : List (List ℕ)) → HasNoNumber (rest_of more) → command_of (name ∷ more) ≡ None
 no_command name more bad =
-    go (rest_of more) (bytes_eq name (codes "record")) (bytes_eq name (codes "select")) (bytes_eq name (codes "walk")) (bytes_eq name (codes "rerun"))
-    (bytes_eq name (codes "explain")) (bytes_eq name (codes "gen")) bad
+    named _ record_of (λ rest none. ap (option_and_then _) none)
+    (named _ migrate_of (λ rest none. ap (option_map _) (two_none rest none))
+    (named _ walk_of (λ rest none. ap (option_map _) (two_none rest none))
+    (named _ select_of (λ rest none. ap (option_map _) (three_none rest none))
+    (named _ rerun_of (λ rest none. ap (option_map _) (with_none rest none))
+    (named _ explain_of (λ rest none. ap (option_and_then _) (alone_none rest none))
+    (named _ carry_of (λ rest none. ap (option_map _) (with_none rest none))
+    (named _ order_of (λ rest none. ap (option_map _) (with_none rest none))
+    (named _ certify_of (λ rest none. ap (option_map _) (two_none rest none))
+    (named _ check_of (λ rest none. ap (option_map _) (three_none rest none))
+    (named _ gen_of (λ rest none. ap (option_and_then _) (two_none rest none)) refl))))))))))
   where
-    go : (o : Option Rest) (a b c d e f : Bool) → HasNoNumber o → cond a (option_and_then record_of o)
-        (cond b (option_and_then select_of o) (cond c (option_and_then walk_of o) (cond d (option_and_then rerun_of o)
-        (cond e (option_and_then explain_of o) (cond f (option_and_then gen_of o) None))))) ≡ None
-    go None true b c d e f bad = refl
-    go None false true c d e f bad = refl
-    go None false false true d e f bad = refl
-    go None false false false true e f bad = refl
-    go None false false false false true f bad = refl
-    go None false false false false false true bad = refl
-    go None false false false false false false bad = refl
-    go (Some rest) true b c d e f bad = counted_none (record_with rest.plain) rest.workers bad
-    go (Some rest) false true c d e f bad = select_takes_none rest.plain rest.workers (is_given rest.workers bad)
-    go (Some rest) false false true d e f bad = walk_takes_none rest.plain rest.workers (is_given rest.workers bad)
-    go (Some rest) false false false true e f bad = counted_none (rerun_with rest.plain) rest.workers bad
-    go (Some rest) false false false false true f bad = explain_takes_none rest.plain rest.workers (is_given rest.workers bad)
-    go (Some rest) false false false false false true bad = gen_takes_none rest.plain rest.workers (is_given rest.workers bad)
-    go (Some rest) false false false false false false bad = refl
+    of_rest : (f : Rest → Option Command) → NeedsNumber f → (o : Option Rest) → HasNoNumber o → option_and_then f o ≡ None
+    of_rest f needs None bad = refl
+    of_rest f needs (Some rest) bad = needs rest bad
+
+    named : (is : Bool) (f : Rest → Option Command) → NeedsNumber f → {other : Option Command} → other ≡ None → cond is (option_and_then f (rest_of more)) other ≡ None
+    named true f needs e = of_rest f needs (rest_of more) bad
+    named false f needs e = e

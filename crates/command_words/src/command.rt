@@ -12,6 +12,13 @@ pub enum Command<'a> {
         /// How many workers run the tests, from 1 to 64.
         workers: usize,
     },
+    /// `migrate OLD HISTORY`
+    Migrate {
+        /// The old source's file.
+        old: &'a str,
+        /// The file of the history of the old source.
+        history: &'a str,
+    },
     /// `walk OLD NEW`
     Walk {
         /// The old source's file.
@@ -49,6 +56,44 @@ pub enum Command<'a> {
         history: &'a str,
         /// The name of the test.
         test: &'a str,
+    },
+    /// `carry OLD NEW HISTORY`
+    Carry {
+        /// The old source's file.
+        old: &'a str,
+        /// The new source's file.
+        new: &'a str,
+        /// The file of the history of the old source.
+        history: &'a str,
+        /// How many workers run the tests, from 1 to 64.
+        workers: usize,
+    },
+    /// `order OLD NEW HISTORY`
+    Order {
+        /// The old source's file.
+        old: &'a str,
+        /// The new source's file.
+        new: &'a str,
+        /// The file of the history of the old source.
+        history: &'a str,
+        /// How many workers count the tests' edges, from 1 to 64.
+        workers: usize,
+    },
+    /// `certify OLD NEW`
+    Certify {
+        /// The old source's file.
+        old: &'a str,
+        /// The new source's file.
+        new: &'a str,
+    },
+    /// `check OLD NEW CERTIFICATE`
+    Check {
+        /// The old source's file.
+        old: &'a str,
+        /// The new source's file.
+        new: &'a str,
+        /// The certificate's file.
+        certificate: &'a str,
     },
     /// `gen SEED SIZE`
     Gen {

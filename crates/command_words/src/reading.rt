@@ -1,10 +1,10 @@
 //! The reading of words.
-ghost use Rattle.std.specs.Prelude.{◌≡◌, ◌<◌, ◌≤◌, ◌∷◌, [], ℕ, List, Some, IfOk, IfSome, map};
-ghost use Rattle.std.specs.Option.{option_map, option_to_list};
-ghost use Rattle.command_words.specs.Words.{command_of, record_of, walk_of, select_of, rerun_of, explain_of, gen_of, rest_of, texts_of, most_workers};
-ghost use Rattle.command_words.specs.Words.{record_with, walk_with, select_with, rerun_with, explain_with, gen_with};
+ghost use Rattle.std.specs.Prelude.{◌≡◌, ◌∷◌, [], ℕ, List, Some, IfOk, IfSome};
+ghost use Rattle.std.specs.Option.{option_map};
+ghost use Rattle.command_words.specs.Words.{command_of, record_of, migrate_of, walk_of, select_of, rerun_of, explain_of, carry_of, order_of, certify_of, check_of, gen_of};
+ghost use Rattle.command_words.specs.Words.{two_plain, three_plain, plain_alone, two_alone, three_alone, three_with, explain_with, rest_of, texts_of};
 ghost use Rattle.command_words.specs.Matches.{rest_shown};
-ghost use Rattle.command_words.specs.Shown.{command_shown, HasNumbers};
+ghost use Rattle.command_words.specs.Shown.{command_shown, HasNumbers, AreWorkers};
 
 use crate::command::Command;
 use crate::numbers::{number_in, workers_of};
@@ -21,12 +21,24 @@ const SIZES: u32 = 400;
 
 /// The command that the words are, and `None` where they are none. An `Err` is want of memory.
 ///
-/// The first word is the command's name: `record`, `walk`, `select`, `rerun`, `explain` or `gen`. Behind it `record`, `walk` and
-/// `gen` take two plain words, `select` and `rerun` three, `explain` four. The last of `explain` is the name of a test (rule
-/// S4), those of `gen` are decimal numbers from 0 to 65,535 and from 1 to 400. `record` and `rerun` also take `--workers N`
-/// or `--workers=N`, anywhere before a word `--`: once at most, with N from 1 to 64; where it isn't given there is one
-/// worker. No number has a sign or a leading zero. The first `--` is left out, and each word behind it is plain; the word
-/// `-` is always plain.
+/// The first word is the command's name, and plain words follow it:
+///
+/// - `record SOURCE SUITE`
+/// - `migrate OLD HISTORY`
+/// - `walk OLD NEW`
+/// - `select OLD NEW HISTORY`
+/// - `rerun OLD NEW HISTORY`
+/// - `explain OLD NEW HISTORY TEST`
+/// - `carry OLD NEW HISTORY`
+/// - `order OLD NEW HISTORY`
+/// - `certify OLD NEW`
+/// - `check OLD NEW CERTIFICATE`
+/// - `gen SEED SIZE`
+///
+/// `TEST` is the name of a test (rule S4), `SEED` and `SIZE` are decimal numbers from 0 to 65,535 and from 1 to 400.
+/// `record`, `rerun`, `carry` and `order` also take `--workers N` or `--workers=N`, anywhere before a word `--`: once at
+/// most, with N from 1 to 64; where it isn't given there is one worker. No number has a sign or a leading zero. The first
+/// `--` is left out, and each word behind it is plain; the word `-` is always plain.
 ///
 /// The words are no command where the first is no such name or lacks, where there are fewer or more plain ones or one isn't
 /// as said, where there is another option, or where `--workers` stands behind another command, stands twice or has no such
@@ -52,10 +64,15 @@ fn command_by<'a>(name: &str, rest: &ArgMatches<'a>) -> Option<Command<'a>>
 {
     match name {
         "record" => record_words(rest),
+        "migrate" => migrate_words(rest),
         "walk" => walk_words(rest),
         "select" => select_words(rest),
         "rerun" => rerun_words(rest),
         "explain" => explain_words(rest),
+        "carry" => carry_words(rest),
+        "order" => order_words(rest),
+        "certify" => certify_words(rest),
+        "check" => check_words(rest),
         "gen" => gen_words(rest),
         _ => None,
     }
@@ -67,7 +84,21 @@ fn record_words<'a>(rest: &ArgMatches<'a>) -> Option<Command<'a>>
     ensures numbers { IfSome result HasNumbers }
 {
     let workers = workers_of(workers_word(rest))?;
-    record_files(plain_words(rest)?, workers)
+    let (source, suite) = two_plain(rest)?;
+    Some(Command::Record {
+        source,
+        suite,
+        workers,
+    })
+}
+
+/// `migrate` with the words behind it: `OLD HISTORY`.
+fn migrate_words<'a>(rest: &ArgMatches<'a>) -> Option<Command<'a>>
+    ensures command { option_map command_shown result ≡ migrate_of (rest_shown rest.now) }
+    ensures numbers { IfSome result HasNumbers }
+{
+    let (old, history) = two_alone(rest)?;
+    Some(Command::Migrate { old, history })
 }
 
 /// `walk` with the words behind it: `OLD NEW`.
@@ -75,7 +106,8 @@ fn walk_words<'a>(rest: &ArgMatches<'a>) -> Option<Command<'a>>
     ensures command { option_map command_shown result ≡ walk_of (rest_shown rest.now) }
     ensures numbers { IfSome result HasNumbers }
 {
-    walk_files(plain_words(rest)?, workers_word(rest))
+    let (old, new) = two_alone(rest)?;
+    Some(Command::Walk { old, new })
 }
 
 /// `select` with the words behind it: `OLD NEW HISTORY`.
@@ -83,7 +115,8 @@ fn select_words<'a>(rest: &ArgMatches<'a>) -> Option<Command<'a>>
     ensures command { option_map command_shown result ≡ select_of (rest_shown rest.now) }
     ensures numbers { IfSome result HasNumbers }
 {
-    select_files(plain_words(rest)?, workers_word(rest))
+    let (old, new, history) = three_alone(rest)?;
+    Some(Command::Select { old, new, history })
 }
 
 /// `rerun` with the words behind it: `OLD NEW HISTORY [--workers N]`.
@@ -91,8 +124,13 @@ fn rerun_words<'a>(rest: &ArgMatches<'a>) -> Option<Command<'a>>
     ensures command { option_map command_shown result ≡ rerun_of (rest_shown rest.now) }
     ensures numbers { IfSome result HasNumbers }
 {
-    let workers = workers_of(workers_word(rest))?;
-    rerun_files(plain_words(rest)?, workers)
+    let (old, new, history, workers) = three_with(rest)?;
+    Some(Command::Rerun {
+        old,
+        new,
+        history,
+        workers,
+    })
 }
 
 /// `explain` with the words behind it: `OLD NEW HISTORY TEST`.
@@ -100,84 +138,9 @@ fn explain_words<'a>(rest: &ArgMatches<'a>) -> Option<Command<'a>>
     ensures command { option_map command_shown result ≡ explain_of (rest_shown rest.now) }
     ensures numbers { IfSome result HasNumbers }
 {
-    explain_files(plain_words(rest)?, workers_word(rest))
-}
-
-/// `gen` with the words behind it: `SEED SIZE`.
-fn gen_words<'a>(rest: &ArgMatches<'a>) -> Option<Command<'a>>
-    ensures command { option_map command_shown result ≡ gen_of (rest_shown rest.now) }
-    ensures numbers { IfSome result HasNumbers }
-{
-    gen_numbers(plain_words(rest)?, workers_word(rest))
-}
-
-/// `SOURCE SUITE`, with the number of workers.
-fn record_files<'a>(plain: &[&'a str], workers: usize) -> Option<Command<'a>>
-    requires some { 0 < workers }
-    requires most { workers ≤ most_workers }
-    ensures command { option_map command_shown result ≡ record_with (map (λ word. word.now) plain.now) workers }
-    ensures numbers { IfSome result HasNumbers }
-{
-    match plain {
-        [source, suite] => Some(Command::Record {
-            source,
-            suite,
-            workers,
-        }),
-        _ => None,
-    }
-}
-
-/// `OLD NEW`, with no word for a number of workers.
-fn walk_files<'a>(plain: &[&'a str], workers: Option<&str>) -> Option<Command<'a>>
-    ensures command { option_map command_shown result
-        ≡ walk_with (map (λ word. word.now) plain.now) (option_to_list (option_map (λ word. word.now) workers.entry)) }
-    ensures numbers { IfSome result HasNumbers }
-{
-    match (plain, workers) {
-        ([old, new], None) => Some(Command::Walk { old, new }),
-        _ => None,
-    }
-}
-
-/// `OLD NEW HISTORY`, with no word for a number of workers.
-fn select_files<'a>(plain: &[&'a str], workers: Option<&str>) -> Option<Command<'a>>
-    ensures command { option_map command_shown result
-        ≡ select_with (map (λ word. word.now) plain.now) (option_to_list (option_map (λ word. word.now) workers.entry)) }
-    ensures numbers { IfSome result HasNumbers }
-{
-    match (plain, workers) {
-        ([old, new, history], None) => Some(Command::Select { old, new, history }),
-        _ => None,
-    }
-}
-
-/// `OLD NEW HISTORY`, with the number of workers.
-fn rerun_files<'a>(plain: &[&'a str], workers: usize) -> Option<Command<'a>>
-    requires some { 0 < workers }
-    requires most { workers ≤ most_workers }
-    ensures command { option_map command_shown result ≡ rerun_with (map (λ word. word.now) plain.now) workers }
-    ensures numbers { IfSome result HasNumbers }
-{
-    match plain {
-        [old, new, history] => Some(Command::Rerun {
-            old,
-            new,
-            history,
-            workers,
-        }),
-        _ => None,
-    }
-}
-
-/// `OLD NEW HISTORY TEST`, with no word for a number of workers.
-fn explain_files<'a>(plain: &[&'a str], workers: Option<&str>) -> Option<Command<'a>>
-    ensures command { option_map command_shown result
-        ≡ explain_with (map (λ word. word.now) plain.now) (option_to_list (option_map (λ word. word.now) workers.entry)) }
-    ensures numbers { IfSome result HasNumbers }
-{
-    match (plain, workers) {
-        ([old, new, history, test], None) => explain_test(old, new, history, test),
+    let alone = without_workers(rest)?;
+    match plain_words(alone)? {
+        [old, new, history, test] => explain_test(old, new, history, test),
         _ => None,
     }
 }
@@ -189,7 +152,7 @@ fn explain_test<'a>(
     history: &'a str,
     test: &'a str,
 ) -> Option<Command<'a>>
-    ensures command { option_map command_shown result ≡ explain_with (old.now ∷ new.now ∷ history.now ∷ test.now ∷ []) [] }
+    ensures command { option_map command_shown result ≡ explain_with (old.now ∷ new.now ∷ history.now ∷ test.now ∷ []) }
     ensures numbers { IfSome result HasNumbers }
 {
     if is_test_name(test.as_bytes()) {
@@ -204,24 +167,117 @@ fn explain_test<'a>(
     }
 }
 
-/// `SEED SIZE`, with no word for a number of workers.
-fn gen_numbers<'a>(plain: &[&'a str], workers: Option<&str>) -> Option<Command<'a>>
-    ensures command { option_map command_shown result
-        ≡ gen_with (map (λ word. word.now) plain.now) (option_to_list (option_map (λ word. word.now) workers.entry)) }
+/// `carry` with the words behind it: `OLD NEW HISTORY [--workers N]`.
+fn carry_words<'a>(rest: &ArgMatches<'a>) -> Option<Command<'a>>
+    ensures command { option_map command_shown result ≡ carry_of (rest_shown rest.now) }
     ensures numbers { IfSome result HasNumbers }
 {
-    match (plain, workers) {
-        ([seed, size], None) => gen_by(seed, size),
+    let (old, new, history, workers) = three_with(rest)?;
+    Some(Command::Carry {
+        old,
+        new,
+        history,
+        workers,
+    })
+}
+
+/// `order` with the words behind it: `OLD NEW HISTORY [--workers N]`.
+fn order_words<'a>(rest: &ArgMatches<'a>) -> Option<Command<'a>>
+    ensures command { option_map command_shown result ≡ order_of (rest_shown rest.now) }
+    ensures numbers { IfSome result HasNumbers }
+{
+    let (old, new, history, workers) = three_with(rest)?;
+    Some(Command::Order {
+        old,
+        new,
+        history,
+        workers,
+    })
+}
+
+/// `certify` with the words behind it: `OLD NEW`.
+fn certify_words<'a>(rest: &ArgMatches<'a>) -> Option<Command<'a>>
+    ensures command { option_map command_shown result ≡ certify_of (rest_shown rest.now) }
+    ensures numbers { IfSome result HasNumbers }
+{
+    let (old, new) = two_alone(rest)?;
+    Some(Command::Certify { old, new })
+}
+
+/// `check` with the words behind it: `OLD NEW CERTIFICATE`.
+fn check_words<'a>(rest: &ArgMatches<'a>) -> Option<Command<'a>>
+    ensures command { option_map command_shown result ≡ check_of (rest_shown rest.now) }
+    ensures numbers { IfSome result HasNumbers }
+{
+    let (old, new, certificate) = three_alone(rest)?;
+    Some(Command::Check {
+        old,
+        new,
+        certificate,
+    })
+}
+
+/// `gen` with the words behind it: `SEED SIZE`.
+fn gen_words<'a>(rest: &ArgMatches<'a>) -> Option<Command<'a>>
+    ensures command { option_map command_shown result ≡ gen_of (rest_shown rest.now) }
+    ensures numbers { IfSome result HasNumbers }
+{
+    let (seed, size) = two_alone(rest)?;
+    let seed = number_in(seed.as_bytes(), 0, SEEDS)?;
+    let size = number_in(size.as_bytes(), 1, SIZES)?;
+    Some(Command::Gen { seed, size })
+}
+
+/// The plain words, where they are two and no word is given for a number of workers.
+fn two_alone<'a>(rest: &ArgMatches<'a>) -> Option<(&'a str, &'a str)>
+    ensures { option_map (λ files. (files.0.now, files.1.now)) result ≡ two_alone (rest_shown rest.now) }
+{
+    two_plain(without_workers(rest)?)
+}
+
+/// The plain words, where they are three and no word is given for a number of workers.
+fn three_alone<'a>(rest: &ArgMatches<'a>) -> Option<(&'a str, &'a str, &'a str)>
+    ensures { option_map (λ files. (files.0.now, files.1.now, files.2.now)) result ≡ three_alone (rest_shown rest.now) }
+{
+    three_plain(without_workers(rest)?)
+}
+
+/// The plain words, where they are three, with the number of workers.
+fn three_with<'a>(rest: &ArgMatches<'a>) -> Option<(&'a str, &'a str, &'a str, usize)>
+    ensures words { option_map (λ files. (files.0.now, files.1.now, files.2.now, files.3)) result ≡ three_with (rest_shown rest.now) }
+    ensures numbers { IfSome result (λ files. AreWorkers files.3) }
+{
+    let workers = workers_of(workers_word(rest))?;
+    let (old, new, history) = three_plain(rest)?;
+    Some((old, new, history, workers))
+}
+
+/// The words that are read, where none is given for a number of workers.
+fn without_workers<'m, 'a>(rest: &'m ArgMatches<'a>) -> Option<&'m ArgMatches<'a>>
+    ensures { option_map (λ alone. (rest_shown alone.now).plain) result ≡ plain_alone (rest_shown rest.now) }
+{
+    match workers_word(rest) {
+        None => Some(rest),
+        Some(_) => None,
+    }
+}
+
+/// The plain words, where they are two.
+fn two_plain<'a>(rest: &ArgMatches<'a>) -> Option<(&'a str, &'a str)>
+    ensures { option_map (λ files. (files.0.now, files.1.now)) result ≡ two_plain (rest_shown rest.now).plain }
+{
+    match plain_words(rest)? {
+        [first, second] => Some((first, second)),
         _ => None,
     }
 }
 
-/// The same, if the words spell numbers within their limits.
-fn gen_by<'a>(seed: &str, size: &str) -> Option<Command<'a>>
-    ensures command { option_map command_shown result ≡ gen_with (seed.now ∷ size.now ∷ []) [] }
-    ensures numbers { IfSome result HasNumbers }
+/// The plain words, where they are three.
+fn three_plain<'a>(rest: &ArgMatches<'a>) -> Option<(&'a str, &'a str, &'a str)>
+    ensures { option_map (λ files. (files.0.now, files.1.now, files.2.now)) result ≡ three_plain (rest_shown rest.now).plain }
 {
-    let seed = number_in(seed.as_bytes(), 0, SEEDS)?;
-    let size = number_in(size.as_bytes(), 1, SIZES)?;
-    Some(Command::Gen { seed, size })
+    match plain_words(rest)? {
+        [first, second, third] => Some((first, second, third)),
+        _ => None,
+    }
 }

@@ -1,4 +1,4 @@
-use Rattle.std.proofs.Common.{sym, arith, ◌∙◌, ◌-◌}
+use Rattle.std.proofs.Common.{sym, arith, ◌∙◌}
 use Rattle.command_words.proofs.NumberLemmas.{number_in-none, number_in-below, number_in-some}
 use Rattle.command_words.proofs.numbers.number_in.Goals as goal
 
