@@ -1,4 +1,5 @@
--- What is told of a file that a command can't use: why a source isn't accepted, a suite is none, and a history is none of its source.
+-- What is told of a file that a command can't use: why a source isn't accepted, a suite is none, a history is none of its source,
+-- and a certificate none of its sources.
 use Rattle.std.specs.Prelude.{ℕ, ◌==◌, if◌then◌else◌, List, ◌++◌, Option, Some, None, codes}
 use Rattle.std.specs.Fmt.{decimal}
 use Rattle.hex.specs.Hex.{encode_lower}
@@ -10,6 +11,8 @@ use Rattle.test_suite.specs.declared.error.SuiteError.{SuiteError}
 use Rattle.test_suite.specs.declared.error.SuiteError.TheVariants as suites
 use Rattle.test_history.specs.declared.error.HistoryError.{HistoryError}
 use Rattle.test_history.specs.declared.error.HistoryError.TheVariants as histories
+use Rattle.cert_text.specs.declared.error.CertificateError.{CertificateError}
+use Rattle.cert_text.specs.declared.error.CertificateError.TheVariants as certificates
 use Rattle.source_place.specs.declared.place.Place.{Place}
 use Rattle.source_place.specs.Places.{place_of, place_text}
 use Rattle.command_refusals.specs.declared.source.SourceCause.{SourceCause}
@@ -18,6 +21,18 @@ use Rattle.command_refusals.specs.declared.suite.SuiteCause.{SuiteCause}
 use Rattle.command_refusals.specs.declared.suite.SuiteCause.TheVariants as suite
 use Rattle.command_refusals.specs.declared.history.HistoryCause.{HistoryCause}
 use Rattle.command_refusals.specs.declared.history.HistoryCause.TheVariants as history
+use Rattle.command_refusals.specs.declared.certificate.CertificateCause.{CertificateCause}
+use Rattle.command_refusals.specs.declared.certificate.CertificateCause.TheVariants as certificate
+
+-- ---- lines and digests
+
+-- a line breaks a rule, whose number stands behind the letter of its format
+abbrev pub rule_text : ℕ → List ℕ → ℕ → List ℕ
+rule_text n letter rule = codes " line " ++ decimal n ++ codes " rule " ++ letter ++ decimal rule
+
+-- behind a word the digest that the text has, and the one that was computed
+abbrev pub digests_text : List ℕ → List ℕ → List ℕ → List ℕ
+digests_text word found computed = word ++ encode_lower found ++ codes " " ++ encode_lower computed
 
 -- ---- sources
 
@@ -69,7 +84,7 @@ suite_cause suites.Memory = None
 -- what stands behind the word `suite`
 abbrev pub suite_text : SuiteCause → List ℕ
 suite_text suite.TooLong = codes " too long"
-suite_text (suite.Line n rule) = codes " line " ++ decimal n ++ codes " rule S" ++ decimal rule
+suite_text (suite.Line n rule) = rule_text n (codes "S") rule
 suite_text (suite.Tests count) = codes " tests " ++ decimal count
 suite_text (suite.Twice n) = codes " line " ++ decimal n ++ codes " twice"
 
@@ -89,7 +104,26 @@ history_cause histories.Memory = None
 abbrev pub history_text : HistoryCause → List ℕ
 history_text history.TooLong = codes " too long"
 history_text (history.Version number) = codes " version " ++ decimal number
-history_text (history.Line n rule) = codes " line " ++ decimal n ++ codes " rule H" ++ decimal rule
-history_text (history.Sum found computed) = codes " sum " ++ encode_lower found ++ codes " " ++ encode_lower computed
-history_text (history.Source found computed) = codes " source " ++ encode_lower found ++ codes " " ++ encode_lower computed
+history_text (history.Line n rule) = rule_text n (codes "H") rule
+history_text (history.Sum found computed) = digests_text (codes " sum ") found computed
+history_text (history.Source found computed) = digests_text (codes " source ") found computed
 history_text (history.Edges found real) = codes " edges " ++ decimal found ++ codes " " ++ decimal real
+
+-- ---- certificates
+
+-- what is told of an error of a certificate, as of one of a history
+abbrev pub certificate_cause : CertificateError → Option CertificateCause
+certificate_cause (certificates.TooLong n) = Some certificate.TooLong
+certificate_cause (certificates.Malformed n rule) = Some (certificate.Line n rule)
+certificate_cause (certificates.Sum found computed) = Some (certificate.Sum found computed)
+certificate_cause (certificates.Old found computed) = Some (certificate.Old found computed)
+certificate_cause (certificates.New found computed) = Some (certificate.New found computed)
+certificate_cause certificates.Memory = None
+
+-- what stands behind the word `certificate`
+abbrev pub certificate_text : CertificateCause → List ℕ
+certificate_text certificate.TooLong = codes " too long"
+certificate_text (certificate.Line n rule) = rule_text n (codes "C") rule
+certificate_text (certificate.Sum found computed) = digests_text (codes " sum ") found computed
+certificate_text (certificate.Old found computed) = digests_text (codes " old ") found computed
+certificate_text (certificate.New found computed) = digests_text (codes " new ") found computed

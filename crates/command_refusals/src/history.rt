@@ -1,9 +1,9 @@
 //! Why a text is no history of a source, as it is told.
-ghost use Rattle.std.specs.Prelude.{◌≡◌, ◌++◌, OnOk, codes};
-ghost use Rattle.hex.specs.Hex.{encode_lower};
+ghost use Rattle.std.specs.Prelude.{◌≡◌, ◌++◌, OnOk};
 ghost use Rattle.command_refusals.specs.Causes.{history_cause, history_text};
 
-use line_text::{push_decimal, push_hex};
+use crate::words::{push_digests, push_rule};
+use line_text::push_decimal;
 use std::alloc::AllocError;
 use test_history::HistoryError;
 
@@ -39,16 +39,6 @@ pub fn history_cause(error: HistoryError) -> Option<HistoryCause>
     }
 }
 
-/// Appends two digests, each behind a space.
-fn push_digests(line: &mut Vec<u8>, found: &[u8; 32], computed: &[u8; 32]) -> Result<(), AllocError>
-    ensures { OnOk result (line.new.items ≡ line.old.items ++ codes " " ++ encode_lower found.now ++ codes " " ++ encode_lower computed.now) }
-{
-    line.push(b' ')?;
-    push_hex(line, found)?;
-    line.push(b' ')?;
-    push_hex(line, computed)
-}
-
 /// Appends what is told of a history.
 pub(crate) fn push_history(line: &mut Vec<u8>, cause: HistoryCause) -> Result<(), AllocError>
     ensures { OnOk result (line.new.items ≡ line.old.items ++ history_text cause) }
@@ -59,20 +49,9 @@ pub(crate) fn push_history(line: &mut Vec<u8>, cause: HistoryCause) -> Result<()
             line.extend_from_slice(b" version ")?;
             push_decimal(line, u64::from(number))
         }
-        HistoryCause::Line(place, rule) => {
-            line.extend_from_slice(b" line ")?;
-            push_decimal(line, u64::from(place))?;
-            line.extend_from_slice(b" rule H")?;
-            push_decimal(line, u64::from(rule))
-        }
-        HistoryCause::Sum(found, computed) => {
-            line.extend_from_slice(b" sum")?;
-            push_digests(line, &found, &computed)
-        }
-        HistoryCause::Source(found, computed) => {
-            line.extend_from_slice(b" source")?;
-            push_digests(line, &found, &computed)
-        }
+        HistoryCause::Line(place, rule) => push_rule(line, place, b"H", rule),
+        HistoryCause::Sum(found, computed) => push_digests(line, b" sum ", &found, &computed),
+        HistoryCause::Source(found, computed) => push_digests(line, b" source ", &found, &computed),
         HistoryCause::Edges(found, real) => {
             line.extend_from_slice(b" edges ")?;
             push_decimal(line, u64::from(found))?;

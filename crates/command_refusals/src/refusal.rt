@@ -1,7 +1,8 @@
 //! Refusals and their lines.
 ghost use Rattle.std.specs.Prelude.{◌≡◌, ◌++◌, IfOk, OnOk};
-ghost use Rattle.command_refusals.specs.Refusals.{refusal_line, role_word, told};
+ghost use Rattle.command_refusals.specs.Refusals.{product_word, refusal_line, role_word, told};
 
+use crate::certificate::{CertificateCause, push_certificate};
 use crate::history::{HistoryCause, push_history};
 use crate::source::{SourceCause, push_source};
 use crate::suite::{SuiteCause, push_suite};
@@ -14,10 +15,19 @@ use std::alloc::{AllocError, Global};
 pub enum Role {
     /// The source of `record`.
     Source,
-    /// The version on which the tests were recorded.
+    /// The version on which the tests were recorded, or from which a walk begins.
     Old,
     /// The changed version.
     New,
+}
+
+/// What a command makes that may have too many bytes.
+#[derive(Clone, Copy, Debug, PartialEq, Eq)]
+pub enum Product {
+    /// The history of `record`, `migrate` and `carry`.
+    History,
+    /// The certificate of `certify`.
+    Certificate,
 }
 
 /// Why a command isn't done.
@@ -31,14 +41,16 @@ pub enum Refusal {
     Suite(SuiteCause),
     /// The history's text is none of the source.
     History(HistoryCause),
+    /// The certificate's text is none of the two sources.
+    Certificate(CertificateCause),
     /// The history has no test of this name.
     NoTest(Text),
     /// A file could not be read.
     ReadFault,
     /// Want of memory.
     Memory,
-    /// The history would have so many bytes, more than a history may have.
-    TooMuch(u64),
+    /// What the command makes would have so many bytes, more than the 134,217,728 that it may have.
+    TooMuch(Product, u64),
 }
 
 /// The line for want of memory, which is there without memory.
@@ -51,6 +63,15 @@ fn role_word(role: Role) -> &'static [u8]
         Role::Source => b"source",
         Role::Old => b"old",
         Role::New => b"new",
+    }
+}
+
+fn product_word(product: Product) -> &'static [u8]
+    ensures { result.now ≡ product_word product }
+{
+    match product {
+        Product::History => b"history",
+        Product::Certificate => b"certificate",
     }
 }
 
@@ -72,14 +93,19 @@ fn push_told(line: &mut Vec<u8>, refusal: &Refusal) -> Result<(), AllocError>
             line.extend_from_slice(b"history")?;
             push_history(line, *cause)
         }
+        Refusal::Certificate(cause) => {
+            line.extend_from_slice(b"certificate")?;
+            push_certificate(line, *cause)
+        }
         Refusal::NoTest(name) => {
             line.extend_from_slice(b"history no test ")?;
             line.extend_from_slice(name.bytes())
         }
         Refusal::ReadFault => line.extend_from_slice(b"read fault"),
         Refusal::Memory => line.extend_from_slice(b"memory"),
-        Refusal::TooMuch(bytes) => {
-            line.extend_from_slice(b"history too much ")?;
+        Refusal::TooMuch(product, bytes) => {
+            line.extend_from_slice(product_word(*product))?;
+            line.extend_from_slice(b" too much ")?;
             push_decimal(line, *bytes)
         }
     }

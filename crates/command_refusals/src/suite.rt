@@ -2,6 +2,7 @@
 ghost use Rattle.std.specs.Prelude.{◌≡◌, ◌++◌, OnOk};
 ghost use Rattle.command_refusals.specs.Causes.{suite_cause, suite_text};
 
+use crate::words::push_rule;
 use line_text::push_decimal;
 use std::alloc::AllocError;
 use test_suite::SuiteError;
@@ -38,12 +39,7 @@ pub(crate) fn push_suite(line: &mut Vec<u8>, cause: SuiteCause) -> Result<(), Al
 {
     match cause {
         SuiteCause::TooLong => line.extend_from_slice(b" too long"),
-        SuiteCause::Line(place, rule) => {
-            line.extend_from_slice(b" line ")?;
-            push_decimal(line, u64::from(place))?;
-            line.extend_from_slice(b" rule S")?;
-            push_decimal(line, u64::from(rule))
-        }
+        SuiteCause::Line(place, rule) => push_rule(line, place, b"S", rule),
         SuiteCause::Tests(count) => {
             line.extend_from_slice(b" tests ")?;
             push_decimal(line, u64::from(count))

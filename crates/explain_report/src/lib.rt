@@ -19,6 +19,7 @@ mod shown;
 mod told;
 mod trimming;
 
+pub use edge::push_exit;
 pub use explain::explain_text;
 pub use report::walk_text;
 pub use trimming::trim;
