@@ -12,10 +12,12 @@ use Rattle.test_select.specs.declared.choice.Choice.{Choice}
 use Rattle.explain_report.specs.Explanations.{IsExplainText}
 use Rattle.command_refusals.specs.declared.refusal.Refusal.{Refusal}
 use Rattle.command_refusals.specs.declared.refusal.Refusal.TheVariants as refusal
-use Rattle.dejavu_cli.specs.Select.{IsChoice}
+use Rattle.test_history.specs.declared.version.Version.TheVariants.{Third}
+use Rattle.command_files.specs.Choices.{IsChoice}
+use Rattle.command_files.specs.Steps.{HasChosen, IsOnlyHistory, IsHistoryCause}
 use Rattle.dejavu_cli.specs.Explain.{IsTestAt, HasTest, IsExplained, HasNoTest}
-use Rattle.dejavu_cli.specs.Steps.{HasChosen, IsOnlyHistory, IsHistoryCause, IsTestCause, IsNoTestOf}
-use Rattle.dejavu_cli.proofs.ChoiceLemmas.{as_many_choices}
+use Rattle.dejavu_cli.specs.Steps.{IsTestCause, IsNoTestOf}
+use Rattle.command_files.proofs.LawsChoices.{many_choices}
 
 -- what stands at a place
 item_at : {A : Type 0} (xs : List A) (i : ℕ) → i < length xs → (x : A) × (slice_get xs i ≡ Some x)
@@ -57,7 +59,7 @@ module _ (P P' : ProgramTree) (old new bytes test : List ℕ) (history : History
   explained (Err e) has at told = tt
   explained (Ok text) has at told =
       let within = slice_get_within history.entries place at.entry at.stands in
-      let many : length choices ≡ length history.entries = as_many_choices (IsChoice P P') history.entries choices has.chosen.chosen in
+      let many : length choices ≡ length history.entries = many_choices (IsChoice P P') history.entries choices has.chosen.chosen in
       let found = item_at choices place (omega (arith, within, many)) in
       record { history = history; choices = choices; chosen = has.chosen; place = place; at = at; choice = found.0; made = found.1; is = told found.0 found.1 }
 
@@ -65,18 +67,13 @@ module _ (P P' : ProgramTree) (old new bytes test : List ℕ) (history : History
 
 module _ (source bytes : List ℕ) (P : ProgramTree) (test : List ℕ) where
   -- the bytes are no history
-  pub no_history_told : (r : Refusal) → IsHistoryCause source bytes P r → IsTestCause source bytes P test r
-  no_history_told refusal.Usage cause = absurd cause
-  no_history_told (refusal.Source which why) cause = absurd cause
-  no_history_told (refusal.Suite why) cause = absurd cause
+  pub no_history_told : (r : Refusal) → IsHistoryCause Third source bytes P r → IsTestCause source bytes P test r
   no_history_told (refusal.History why) cause = cause
-  no_history_told (refusal.NoTest name) cause = absurd cause
-  no_history_told refusal.ReadFault cause = absurd cause
   no_history_told refusal.Memory cause = tt
-  no_history_told (refusal.TooMuch m) cause = absurd cause
+  no_history_told r cause = absurd cause
 
   -- a history without the test lacks it, since there is no other
-  pub lacks_test : (history : HistoryParts) → IsOnlyHistory source bytes P history → (HasTest history.entries test → ⊥) → HasNoTest source bytes P test
+  pub lacks_test : (history : HistoryParts) → IsOnlyHistory Third source bytes P history → (HasTest history.entries test → ⊥) → HasNoTest source bytes P test
   lacks_test history read none = record {
     history = history;
     reads = read.file;
@@ -84,11 +81,6 @@ module _ (source bytes : List ℕ) (P : ProgramTree) (test : List ℕ) where
   }
 
   pub no_test_told : (r : Refusal) → IsNoTestOf test r → HasNoTest source bytes P test → IsTestCause source bytes P test r
-  no_test_told refusal.Usage told lacks = absurd told
-  no_test_told (refusal.Source which why) told lacks = absurd told
-  no_test_told (refusal.Suite why) told lacks = absurd told
-  no_test_told (refusal.History why) told lacks = absurd told
   no_test_told (refusal.NoTest name) told lacks = (told, lacks)
-  no_test_told refusal.ReadFault told lacks = absurd told
   no_test_told refusal.Memory told lacks = tt
-  no_test_told (refusal.TooMuch m) told lacks = absurd told
+  no_test_told r told lacks = absurd told

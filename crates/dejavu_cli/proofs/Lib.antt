@@ -1,11 +1,5 @@
-mod AnswerLemmas
-mod ChoiceLemmas
 mod CompleteLemmas
 mod ExplainLemmas
-mod FileLemmas
+mod OpenLemmas
 mod RerunLemmas
-mod RunLemmas
-mod Safety
-mod SourceLemmas
 mod TopLemmas
-mod VersionLemmas

@@ -19,9 +19,10 @@ use Rattle.rerun_report.specs.RerunTexts.{rerun_text}
 use Rattle.rerun_report.specs.declared.text.RerunText.{RerunText}
 use Rattle.rerun_report.proofs.LawsReruns.{differ_none}
 use Rattle.suite_run.specs.Entries.{IsEntry}
-use Rattle.dejavu_cli.specs.Select.{BehavesTheSame}
+use Rattle.command_files.specs.Choices.{BehavesTheSame}
+use Rattle.command_files.specs.Steps.{HasChosen}
 use Rattle.dejavu_cli.specs.Rerun.{IsRerun, IsFaithful, selected_tests}
-use Rattle.dejavu_cli.specs.Steps.{HasChosen, HasReran}
+use Rattle.dejavu_cli.specs.Steps.{HasReran}
 
 -- ---- the selected tests
 

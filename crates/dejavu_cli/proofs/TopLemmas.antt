@@ -1,11 +1,16 @@
 -- What is read off the answer of the whole call.
-use Rattle.std.proofs.Common.{◌≡◌, ℕ, Bool, true, false, List, ◌++◌, Option, Some, None, option_map, sym, ap, ◌∙◌, inl, inr}
+use Rattle.std.proofs.Common.{◌≡◌, ℕ, List, ◌++◌, Option, Some, None, option_map, refl, sym, ap, ◌∙◌, subst, inl, inr}
 use Rattle.dv_outside.specs.Outside.{Files}
 use Rattle.command_words.specs.Words.{Command, command_of}
 use Rattle.command_refusals.specs.Refusals.{refusal_line}
 use Rattle.command_refusals.specs.declared.refusal.Refusal.{Refusal}
 use Rattle.command_refusals.specs.declared.refusal.Refusal.TheVariants as refusal
-use Rattle.dejavu_cli.specs.Answers.{HasTextOf, HasCause, Says, Refuses, IsHeadline, status_of, done_as}
+use Rattle.dejavu_cli.specs.Texts.{HasTextOf}
+use Rattle.dejavu_cli.specs.Causes.{HasCause}
+use Rattle.dejavu_cli.specs.Statuses.{done_as, status_of}
+use Rattle.dejavu_cli.specs.Answers.{Says, Refuses, IsHeadline}
+use Rattle.dejavu_cli.specs.declared.answer.End.{End}
+use Rattle.dejavu_cli.specs.declared.answer.End.TheVariants.{Whole, Differs, Open}
 use Rattle.dejavu_cli.specs.declared.status.Status8.{Status8}
 use Rattle.dejavu_cli.specs.declared.status.Status8.TheVariants as status
 use Rattle.dejavu_cli.proofs.CompleteLemmas.{told_text}
@@ -14,30 +19,36 @@ use Rattle.dejavu_cli.proofs.CompleteLemmas.{told_text}
 added : (b n : Option (List ℕ)) (text written : List ℕ) → n ≡ option_map (λ held. held ++ text) b → b ≡ Some written → n ≡ Some (written ++ text)
 added b n text written is told = is ∙ ap (option_map (λ held. held ++ text)) told
 
+-- each end has a status of its own
+one_end : (a b : End) → done_as a ≡ done_as b → a ≡ b
+one_end Whole Whole is = refl
+one_end Differs Differs is = refl
+one_end Open Open is = refl
+one_end a b is = absurd (cc)
+
+-- and it is no failed write, nor a fault of usage
+no_fault : (end : End) → status.WriteFault ≡ done_as end → ⊥
+no_fault Whole is = cc
+no_fault end is = cc
+
+no_usage_fault : (end : End) → done_as end ≡ status.Usage → ⊥
+no_usage_fault Whole is = cc
+no_usage_fault end is = cc
+
 module _ (words : List (List ℕ)) (told : Option Files) (b n : Option (List ℕ)) (fb fn : ℕ) (answer : Status8) where
-  pub headline_is : (differs : Bool) (s : Status8) (text : List ℕ) (oc : Option Command) → command_of words ≡ oc → HasTextOf oc told differs text → Says b n fb fn s text answer
-      → (status.WriteFault ≡ s → ⊥) → answer ≡ s → IsHeadline words told b n differs
-  headline_is differs s text None is has says other done = absurd has
-  headline_is differs s text (Some c) is has (inl h) other done = λ files at written held. (c, is, text, told_text c told differs text has files at, added b n text written h.1 held)
-  headline_is differs s text (Some c) is has (inr h) other done = absurd (other (sym h.0 ∙ done))
-
-  pub done_is : (differs : Bool) (text : List ℕ) (oc : Option Command) → command_of words ≡ oc → HasTextOf oc told differs text → Says b n fb fn (done_as differs) text answer
-      → answer ≡ status.Done → IsHeadline words told b n false
-  done_is false text oc is has says done = headline_is false status.Done text oc is has says (λ h. cc) done
-  done_is true text oc is has (inl h) done = let other : status.Differs ≡ status.Done = sym h.0 ∙ done in absurd (cc)
-  done_is true text oc is has (inr h) done = let other : status.WriteFault ≡ status.Done = sym h.0 ∙ done in absurd (cc)
-
-  pub differs_is : (differs : Bool) (text : List ℕ) (oc : Option Command) → command_of words ≡ oc → HasTextOf oc told differs text → Says b n fb fn (done_as differs) text answer
-      → answer ≡ status.Differs → IsHeadline words told b n true
-  differs_is true text oc is has says done = headline_is true status.Differs text oc is has says (λ h. cc) done
-  differs_is false text oc is has (inl h) done = let other : status.Done ≡ status.Differs = sym h.0 ∙ done in absurd (cc)
-  differs_is false text oc is has (inr h) done = let other : status.WriteFault ≡ status.Differs = sym h.0 ∙ done in absurd (cc)
+  pub headline_is : (wanted end : End) (text : List ℕ) (oc : Option Command) → command_of words ≡ oc → HasTextOf oc told end text → Says b n fb fn (done_as end) text answer
+      → answer ≡ done_as wanted → IsHeadline words told b n wanted
+  headline_is wanted end text None is has says done = absurd has
+  headline_is wanted end text (Some c) is has (inl h) done =
+      let same : end ≡ wanted = one_end end wanted (sym h.0 ∙ done) in
+      let here : HasTextOf (Some c) told wanted text = subst (λ (e : End). HasTextOf (Some c) told e text) same has in
+      λ files at written held. (c, is, text, told_text c told wanted text here files at, added b n text written h.1 held)
+  headline_is wanted end text (Some c) is has (inr h) done = absurd (no_fault wanted (sym h.0 ∙ done))
 
   -- a command that is done is no fault of usage
-  pub no_usage : (differs : Bool) (text : List ℕ) → Says b n fb fn (done_as differs) text answer → answer ≡ status.Usage → command_of words ≡ None
-  no_usage true text (inl h) is = let other : status.Differs ≡ status.Usage = sym h.0 ∙ is in absurd (cc)
-  no_usage false text (inl h) is = let other : status.Done ≡ status.Usage = sym h.0 ∙ is in absurd (cc)
-  no_usage differs text (inr h) is = let other : status.WriteFault ≡ status.Usage = sym h.0 ∙ is in absurd (cc)
+  pub no_usage : (end : End) (text : List ℕ) → Says b n fb fn (done_as end) text answer → answer ≡ status.Usage → command_of words ≡ None
+  no_usage end text (inl h) is = absurd (no_usage_fault end (sym h.0 ∙ is))
+  no_usage end text (inr h) is = let other : status.WriteFault ≡ status.Usage = sym h.0 ∙ is in absurd (cc)
 
   never : (s : Status8) (text : List ℕ) → (s ≡ status.Usage → ⊥) → Says b n fb fn s text answer → answer ≡ status.Usage → ⊥
   never s text other (inl h) is = other (sym h.0 ∙ is)
@@ -52,13 +63,7 @@ module _ (words : List (List ℕ)) (told : Option Files) (b n : Option (List ℕ
 
   no_other : (before now : List ℕ → ℕ) (c : Command) (r : Refusal) → HasCause (Some c) told before now r → status_of r ≡ status.Usage → ⊥
   no_other before now c refusal.Usage cause is = cause
-  no_other before now c (refusal.Source which why) cause is = cc
-  no_other before now c (refusal.Suite why) cause is = cc
-  no_other before now c (refusal.History why) cause is = cc
-  no_other before now c (refusal.NoTest name) cause is = cc
-  no_other before now c refusal.ReadFault cause is = cc
-  no_other before now c refusal.Memory cause is = cc
-  no_other before now c (refusal.TooMuch bytes) cause is = cc
+  no_other before now c r cause is = cc
 
   pub usage_is : (before now : List ℕ → ℕ) (r : Refusal) (oc : Option Command) → command_of words ≡ oc → HasCause oc told before now r
       → Refuses b n fb fn r answer → answer ≡ status.Usage → command_of words ≡ None

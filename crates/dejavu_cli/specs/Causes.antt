@@ -1,41 +1,98 @@
--- Why a file that a command names can't be used, each with what is told of it.
-use Rattle.std.specs.Prelude.{ℕ, ◌≡◌, List, length, Some}
+-- Why a command isn't done.
+use Rattle.std.specs.Prelude.{ℕ, ◌≡◌, List, Option, Some, None}
+use Rattle.dv_outside.specs.Outside.{Files}
 use Rattle.csub_semantics.specs.Syntax.{ProgramTree}
-use Rattle.csub_semantics.specs.Flows.{edge_list}
-use Rattle.csub_accept.specs.Accepted as sources
 use Rattle.csub_accept.specs.Accepted.{Accepted}
-use Rattle.csub_accept.specs.declared.error.SourceError.{SourceError}
-use Rattle.test_suite.specs.Tests.{TestParts}
-use Rattle.test_suite.specs.Causes as suites
-use Rattle.test_suite.specs.declared.error.SuiteError.{SuiteError}
-use Rattle.test_history.specs.Histories.{HistoryParts}
-use Rattle.test_history.specs.Causes.{HasHistoryCause}
-use Rattle.test_history.specs.declared.error.HistoryError.{HistoryError}
-use Rattle.test_history.specs.declared.version.Version.TheVariants.{Third}
-use Rattle.command_refusals.specs.Causes.{source_cause, suite_cause, history_cause}
+use Rattle.test_history.specs.declared.version.Version.TheVariants.{Second, Third}
+use Rattle.dv_gen.specs.Pairs.{old_source, new_source}
+use Rattle.command_words.specs.Words.{Command, explain_files}
 use Rattle.command_refusals.specs.declared.source.SourceCause.{SourceCause}
 use Rattle.command_refusals.specs.declared.suite.SuiteCause.{SuiteCause}
 use Rattle.command_refusals.specs.declared.history.HistoryCause.{HistoryCause}
-use Rattle.dejavu_cli.specs.Record.{IsSuiteFile}
-use Rattle.dejavu_cli.specs.Select.{IsHistoryFile}
+use Rattle.command_refusals.specs.declared.certificate.CertificateCause.{CertificateCause}
+use Rattle.command_refusals.specs.declared.refusal.Product.{Product}
+use Rattle.command_refusals.specs.declared.refusal.Role.{Role}
+use Rattle.command_refusals.specs.declared.refusal.Role.TheVariants as role
+use Rattle.command_refusals.specs.declared.refusal.Refusal.{Refusal}
+use Rattle.command_refusals.specs.declared.refusal.Refusal.TheVariants as refusal
+use Rattle.command_files.specs.Causes.{NotAccepted, NoSuite, NoHistory}
+use Rattle.command_files.specs.Files.{WhereTold, HasBadSource, HasBadOfTwo, HasFaultOfTwo, HasFaultOfThree}
+use Rattle.command_files.specs.Steps.{IsTooMuch}
+use Rattle.command_claims.specs.Checked.{NoCertificate}
+use Rattle.dejavu_cli.specs.Reads.{Reads, suite_of, earlier_of, versions_of, history_of, certificate_of, made_of, reads, HasSecond, HasThree}
+use Rattle.dejavu_cli.specs.Explain.{HasNoTest}
+use Rattle.dejavu_cli.specs.Texts.{IsSaid, product_of}
+use Rattle.dejavu_cli.specs.declared.answer.End.TheVariants.{Whole}
 
--- the source isn't accepted, and this is told of it
-pub record NotAccepted (bytes : List ℕ) (cause : SourceCause) : Type 0 where
-  pub none : (P : ProgramTree) → Accepted bytes P → ⊥
-  pub error : SourceError
-  pub why : sources.HasCause bytes error
-  pub is : source_cause bytes error ≡ Some cause
+-- a made source isn't accepted, and the one before it is
+abbrev pub HasBadMade : ℕ → ℕ → Role → SourceCause → Type 0
+HasBadMade seed size role.Source cause = ⊥
+HasBadMade seed size role.Old cause = NotAccepted (old_source seed size) cause
+HasBadMade seed size role.New cause = ((P : ProgramTree) × Accepted (old_source seed size) P) × NotAccepted (new_source seed size) cause
 
--- the bytes are no suite, and this is told of them
-pub record NoSuite (bytes : List ℕ) (cause : SuiteCause) : Type 0 where
-  pub none : (tests : List TestParts) → IsSuiteFile bytes tests → ⊥
-  pub error : SuiteError
-  pub why : suites.HasCause bytes error
-  pub is : suite_cause error ≡ Some cause
+-- the source in this role isn't accepted, and the one before it is
+abbrev pub HasBadSourceOf : Reads → Role → SourceCause → Option Files → Type 0
+HasBadSourceOf (suite_of source suite) which cause told = (which ≡ role.Source) × HasBadSource source cause told
+HasBadSourceOf (earlier_of old history) which cause told = (which ≡ role.Old) × HasBadSource old cause told
+HasBadSourceOf (versions_of old new) which cause told = HasBadOfTwo old new which cause told
+HasBadSourceOf (history_of old new history) which cause told = HasBadOfTwo old new which cause told
+HasBadSourceOf (certificate_of old new certificate) which cause told = HasBadOfTwo old new which cause told
+HasBadSourceOf (made_of seed size) which cause told = HasBadMade seed size which cause
 
--- the bytes are no history of this source, whose program is P, and this is told of them
-pub record NoHistory (source bytes : List ℕ) (P : ProgramTree) (cause : HistoryCause) : Type 0 where
-  pub none : (history : HistoryParts) → IsHistoryFile source bytes P history → ⊥
-  pub error : HistoryError
-  pub why : HasHistoryCause Third bytes source (length (edge_list P)) error
-  pub is : history_cause error ≡ Some cause
+-- the source is accepted, and the suite isn't one
+abbrev pub HasBadSuite : Reads → SuiteCause → Option Files → Type 0
+HasBadSuite (suite_of source suite) cause told = WhereTold told (λ files. (are : HasSecond files source suite) × NoSuite are.bytes cause)
+HasBadSuite k cause told = ⊥
+
+-- the sources are accepted, and the history isn't one of the old source
+abbrev pub HasBadHistory : Reads → HistoryCause → Option Files → Type 0
+HasBadHistory (earlier_of old history) cause told =
+    WhereTold told (λ files. (are : HasSecond files old history) × NoHistory Second are.source are.bytes are.program cause)
+HasBadHistory (history_of old new history) cause told =
+    WhereTold told (λ files. (are : HasThree files old new history) × NoHistory Third are.two.source are.bytes are.two.old cause)
+HasBadHistory k cause told = ⊥
+
+-- the sources are accepted, and the certificate isn't one of them
+abbrev pub HasBadCertificate : Reads → CertificateCause → Option Files → Type 0
+HasBadCertificate (certificate_of old new certificate) cause told = WhereTold told (λ files.
+    (are : HasThree files old new certificate)
+    × NoCertificate are.two.source are.two.new_source are.bytes are.two.old are.two.new cause)
+HasBadCertificate k cause told = ⊥
+
+-- the history is read, and has no test of the name that is asked for
+abbrev pub HasBadTest : Command → List ℕ → Option Files → Type 0
+HasBadTest (explain_files old new history test) name told =
+    (name ≡ test) × WhereTold told (λ files. (are : HasThree files old new history) × HasNoTest are.two.source are.bytes are.two.old test)
+HasBadTest c name told = ⊥
+
+-- the count of faults of a named file rose, and the sources before that file are accepted
+abbrev pub HasReadFault : Reads → Option Files → (List ℕ → ℕ) → (List ℕ → ℕ) → Type 0
+HasReadFault (suite_of source suite) told before now = HasFaultOfTwo source suite told before now
+HasReadFault (earlier_of old history) told before now = HasFaultOfTwo old history told before now
+HasReadFault (versions_of old new) told before now = HasFaultOfTwo old new told before now
+HasReadFault (history_of old new history) told before now = HasFaultOfThree old new history told before now
+HasReadFault (certificate_of old new certificate) told before now = HasFaultOfThree old new certificate told before now
+HasReadFault (made_of seed size) told before now = ⊥
+
+-- what the command says would have more bytes than it may have, so many
+abbrev pub HasTooMuch : Command → Product → ℕ → Option Files → Type 0
+HasTooMuch c which count told = (product_of c ≡ Some which) × WhereTold told (λ files. IsTooMuch (IsSaid c files Whole) count)
+
+-- why a command isn't done; want of memory may come at any time before the write
+abbrev pub HasCauseOf : Command → Option Files → (List ℕ → ℕ) → (List ℕ → ℕ) → Refusal → Type 0
+HasCauseOf c told before now refusal.Usage = ⊥
+HasCauseOf c told before now (refusal.Source which cause) = HasBadSourceOf (reads c) which cause told
+HasCauseOf c told before now (refusal.Suite cause) = HasBadSuite (reads c) cause told
+HasCauseOf c told before now (refusal.History cause) = HasBadHistory (reads c) cause told
+HasCauseOf c told before now (refusal.Certificate cause) = HasBadCertificate (reads c) cause told
+HasCauseOf c told before now (refusal.NoTest name) = HasBadTest c name told
+HasCauseOf c told before now refusal.ReadFault = HasReadFault (reads c) told before now
+HasCauseOf c told before now refusal.Memory = Unit {0}
+HasCauseOf c told before now (refusal.TooMuch which count) = HasTooMuch c which count told
+
+-- words that are no command are a fault of usage, or memory is wanted first
+abbrev pub HasCause : Option Command → Option Files → (List ℕ → ℕ) → (List ℕ → ℕ) → Refusal → Type 0
+HasCause (Some c) told before now r = HasCauseOf c told before now r
+HasCause None told before now refusal.Usage = Unit {0}
+HasCause None told before now refusal.Memory = Unit {0}
+HasCause None told before now r = ⊥

@@ -4,7 +4,9 @@ use Rattle.csub_semantics.specs.Syntax.{ProgramTree}
 use Rattle.test_history.specs.Histories.{EntryParts, HistoryParts}
 use Rattle.test_select.specs.declared.choice.Choice.{Choice}
 use Rattle.explain_report.specs.Explanations.{IsExplainText}
-use Rattle.dejavu_cli.specs.Select.{IsHistoryFile, IsChosen}
+use Rattle.test_history.specs.declared.version.Version.TheVariants.{Third}
+use Rattle.command_files.specs.Record.{IsHistoryFile}
+use Rattle.command_files.specs.Choices.{IsChosen}
 
 -- the entry at a place is that of the test of this name
 pub record IsTestAt (entries : List EntryParts) (test : List ℕ) (place : ℕ) : Type 0 where
@@ -30,5 +32,5 @@ pub record IsExplained (old new bytes : List ℕ) (P P' : ProgramTree) (test tex
 -- the bytes are a history of the old source, which has no test of this name
 pub record HasNoTest (old bytes : List ℕ) (P : ProgramTree) (test : List ℕ) : Type 0 where
   pub history : HistoryParts
-  pub reads : IsHistoryFile old bytes P history
-  pub none : (other : HistoryParts) → IsHistoryFile old bytes P other → HasTest other.entries test → ⊥
+  pub reads : IsHistoryFile Third old bytes P history
+  pub none : (other : HistoryParts) → IsHistoryFile Third old bytes P other → HasTest other.entries test → ⊥

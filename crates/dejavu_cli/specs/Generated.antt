@@ -16,7 +16,7 @@ use Rattle.explain_report.specs.Walks.{IsDangerRow}
 use Rattle.rerun_report.specs.Reruns.{differ_count}
 use Rattle.suite_run.specs.Entries.{IsEntry}
 use Rattle.dv_gen.specs.Pairs.{old_source, new_source, tests_of}
-use Rattle.dejavu_cli.specs.Select.{IsChoice}
+use Rattle.command_files.specs.Choices.{IsChoice}
 use Rattle.dejavu_cli.specs.Rerun.{selected_tests}
 use Rattle.dejavu_cli.specs.declared.generate.Measured.{Measured}
 

@@ -1,8 +1,12 @@
-pub mod Record
+pub mod Reads
+pub mod Recorded
 pub mod Select
 pub mod Rerun
-pub mod Causes
-pub mod Answers
-pub mod Steps
 pub mod Explain
 pub mod Generated
+pub mod Texts
+pub mod Causes
+pub mod Statuses
+pub mod Answers
+pub mod Complete
+pub mod Steps

@@ -10,8 +10,8 @@ use Rattle.test_select.specs.declared.choice.Choice.TheVariants.{Selected, Left}
 use Rattle.rerun_report.specs.Reruns.{differ_count}
 use Rattle.rerun_report.specs.RerunTexts.{rerun_text}
 use Rattle.suite_run.specs.Entries.{IsEntry}
-use Rattle.dejavu_cli.specs.Record.{IsHistoryOf, IsSuiteFile}
-use Rattle.dejavu_cli.specs.Select.{IsChosen, BehavesTheSame}
+use Rattle.command_files.specs.Record.{IsHistoryOf, IsSuiteFile}
+use Rattle.command_files.specs.Choices.{IsChosen, BehavesTheSame}
 
 -- the selected tests of a history, in its order
 abbrev pub selected_tests : List EntryParts → List Choice → List TestParts

@@ -3,11 +3,11 @@ ghost use Rattle.std.specs.Prelude.{◌≡◌, ◌<◌, ◌≤◌, ℕ, List, If
 ghost use Rattle.csub_semantics.specs.Syntax.{ProgramTree, program_tree};
 ghost use Rattle.csub_accept.specs.Accepted.{Accepted};
 ghost use Rattle.dejavu_cli.specs.Explain.{HasTest, IsExplained, IsTestAt};
-ghost use Rattle.dejavu_cli.specs.Steps.{AreGraphs, IsNoTestOf, IsOnlyHistory, IsTestCause};
+ghost use Rattle.test_history.specs.declared.version.Version.TheVariants.{Third};
+ghost use Rattle.command_files.specs.Steps.{AreGraphs, IsOnlyHistory};
+ghost use Rattle.dejavu_cli.specs.Steps.{IsNoTestOf, IsTestCause};
 
-use crate::files::read_entries;
-use crate::select::choose;
-use crate::versions::{Graphs, Versions, build_graphs};
+use command_files::{Graphs, Versions, build_graphs, choose, read_entries};
 use command_refusals::Refusal;
 use csub_text::Text;
 use explain_report::explain_text;
@@ -79,9 +79,9 @@ fn explain_at(
     requires new_short { length versions.now.new_source.items ≤ 1048576 }
     requires alone { (P : ProgramTree) → Accepted versions.now.source.items P → P ≡ program_tree versions.now.old }
     requires graphs { AreGraphs (program_tree versions.now.old) (program_tree versions.now.new) graphs.now }
-    requires history { (bytes : List ℕ) × IsOnlyHistory versions.now.source.items bytes (program_tree versions.now.old) history.now }
+    requires history { (bytes : List ℕ) × IsOnlyHistory Third versions.now.source.items bytes (program_tree versions.now.old) history.now }
     requires place { place < length history.now.entries }
-    ensures { (bytes test : List ℕ) → IsOnlyHistory versions.now.source.items bytes (program_tree versions.now.old) history.now → IsTestAt history.now.entries test place → IfOk result (λ text.
+    ensures { (bytes test : List ℕ) → IsOnlyHistory Third versions.now.source.items bytes (program_tree versions.now.old) history.now → IsTestAt history.now.entries test place → IfOk result (λ text.
         IsExplained versions.now.source.items versions.now.new_source.items bytes (program_tree versions.now.old) (program_tree versions.now.new) test text.items) }
 {
     let chosen = choose(alloc, versions, graphs, history)?;

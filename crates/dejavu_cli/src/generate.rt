@@ -9,11 +9,9 @@ ghost use Rattle.dejavu_cli.specs.Generated.{IsGenText, IsMeasured, gen_text, se
 ghost use Rattle.dejavu_cli.specs.Steps.{AreMade, IsMadeCause, IsMadeRefusal};
 ghost use Rattle.dejavu_cli.specs.declared.generate.Measured.{Measured};
 
-use crate::files::read_source;
-use crate::record::{Runner, make_history};
+use crate::record::make_history;
 use crate::rerun::rerun_selected;
-use crate::select::choose;
-use crate::versions::{Versions, build_graphs};
+use command_files::{Runner, Versions, build_graphs, choose, read_source};
 use command_refusals::{Refusal, Role};
 use dv_gen::{Made, make_pair};
 use dv_outside::Gate;

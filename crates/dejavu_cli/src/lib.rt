@@ -1,29 +1,34 @@
 //! The top call of the program: it takes the words, the files and the output, and answers a status.
 //!
 //! What is promised stands in the contract of [`dejavu`]: what is written is decided by the words and the files
-//! (`specs/Answers`), and each answer has its cause; `record` writes the history of the source and the suite that it
-//! is given (`specs/Record`), each entry with what the test's run on the source's program gives; `walk` shows at which edges
-//! two versions part; `select` names the tests of such a history that a changed source may make behave otherwise, and each
-//! test that it leaves behaves the same on it (`specs/Select`); `rerun` runs these, and finds a difference exactly where
-//! running all tests would (`specs/Rerun`); `explain` shows for one test how a walk reaches the edge for which it has to run
-//! again (`specs/Explain`); `gen` tries the method on a generated pair of sources (`specs/Generated`).
+//! (`specs/Texts`, `specs/Answers`), and each answer has its cause (`specs/Causes`). `record` writes the history of the source
+//! and the suite that it is given (`specs/Recorded`), each entry with what the test's run on the source's program gives;
+//! `walk` shows at which edges two versions part; `select` names the tests of such a history that a changed source may make
+//! behave otherwise, and each test that it leaves behaves the same on it (`specs/Select`); `rerun` runs these, and finds a
+//! difference exactly where running all tests would (`specs/Rerun`); `explain` shows for one test how a walk reaches the edge
+//! for which it has to run again (`specs/Explain`); `gen` tries the method on a generated pair of sources
+//! (`specs/Generated`). What `migrate`, `carry` and `order` make of a history stands in `command_histories`, the claims of
+//! `certify` and `check` in `command_claims`.
 #![tactic(auto)]
 
 ghost use Rattle.std.specs.Prelude.{◌≡◌, ℕ, List, None, false, true};
 ghost use Rattle.dv_outside.specs.Outside.{Rose, NeverFalls};
 ghost use Rattle.command_words.specs.Words.{texts_of, command_of};
-ghost use Rattle.dejavu_cli.specs.Answers.{Decides, Says, Refuses, IsHeadline, IsComplete};
+ghost use Rattle.dejavu_cli.specs.Answers.{Decides, Says, Refuses, IsHeadline};
+ghost use Rattle.dejavu_cli.specs.Complete.{IsComplete};
+ghost use Rattle.dejavu_cli.specs.declared.answer.End.TheVariants as ends;
 
 mod answer;
 mod explain;
-mod files;
 mod generate;
 mod record;
 mod rerun;
 mod select;
 mod status;
-mod versions;
 mod walked;
+mod with_history;
+mod with_source;
+mod with_versions;
 mod work;
 
 use crate::answer::Answer;
@@ -50,10 +55,20 @@ use std::thread::Threads;
 ///   Differs where a test differs.
 /// - `explain OLD NEW HISTORY TEST` writes the line that `select` writes for the test, and where it is selected how a walk
 ///   reaches the edge in both versions and that they part there.
+/// - `migrate OLD HISTORY` reads an accepted source and a history of it in version 2 of the format, and writes it in version 3.
+/// - `carry OLD NEW HISTORY`, with or without `--workers N`, writes the history of NEW: an entry stays, with the images of its
+///   edges, where its test is left and each of its edges has one image; the tests of all others run on NEW.
+/// - `order OLD NEW HISTORY`, with or without `--workers N`, writes the selected tests in the order in which they add the most
+///   edges, a line `NAME adds GAIN` for each, and then `ordered K of N`.
+/// - `certify OLD NEW` writes the certificate of the walk: the digests of both sources, the dangerous edges and the reached
+///   pairs of points.
+/// - `check OLD NEW CERTIFICATE` reads a certificate of both sources, whoever made it, and writes
+///   `closed pairs P dangerous K` where its claim is closed, and else its first break, as `open ..`; then the answer is Open.
 /// - `gen SEED SIZE` makes a pair of sources and a suite (crate `dv_gen`), and writes how many points, edges and tests they
 ///   have, how many edges are dangerous, how many tests are selected, and how many of these differ.
 ///
-/// Before a worker makes the machine of a test it calls the gate with the test's place in the list of tests that run.
+/// Before a worker makes the machine of a test it calls the gate with the test's place in the list of tests that run; for
+/// `order`, before it counts the edges of a test, with the test's place in the history.
 ///
 /// Where the command can't be done its refusal line is written in place of the text, and nothing else; the status says
 /// why. An earlier cause hides a later one, in the order of the words, each file, the work, the write. Nothing is
@@ -72,9 +87,11 @@ pub fn dejavu<R: Threads + Sync, S: Shelf, K: Sink, G: Gate>(
         × Says (K.written out.old) (K.written out.new) (K.faults out.old) (K.faults out.new) status text result }
 
     // Where the files and the written bytes are told, Done says that the command's text was written.
-    ensures headline { result ≡ Status8.Done → IsHeadline (texts_of words.now) (S.files shelf.old) (K.written out.old) (K.written out.new) false }
+    ensures headline { result ≡ Status8.Done → IsHeadline (texts_of words.now) (S.files shelf.old) (K.written out.old) (K.written out.new) ends.Whole }
     // So does Differs, and a test that ran again differs.
-    ensures differs { result ≡ Status8.Differs → IsHeadline (texts_of words.now) (S.files shelf.old) (K.written out.old) (K.written out.new) true }
+    ensures differs { result ≡ Status8.Differs → IsHeadline (texts_of words.now) (S.files shelf.old) (K.written out.old) (K.written out.new) ends.Differs }
+    // So does Open, and the claim isn't closed.
+    ensures open { result ≡ Status8.Open → IsHeadline (texts_of words.now) (S.files shelf.old) (K.written out.old) (K.written out.new) ends.Open }
     ensures usage { result ≡ Status8.Usage → command_of (texts_of words.now) ≡ None }
     ensures write_fault { result ≡ Status8.WriteFault → Rose (K.faults out.old) (K.faults out.new) }
     // Where nothing stands in its way it is done.
@@ -82,7 +99,7 @@ pub fn dejavu<R: Threads + Sync, S: Shelf, K: Sink, G: Gate>(
     ensures counts { NeverFalls (S.faults shelf.old) (S.faults shelf.new) }
 {
     match work(rt, alloc, words, shelf, gate) {
-        Ok(Answer { text, differs }) => say(out, done_as(differs), &text),
+        Ok(Answer { text, end }) => say(out, done_as(end), &text),
         Err(refusal) => refuse(alloc, out, &refusal),
     }
 }

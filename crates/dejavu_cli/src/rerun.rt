@@ -1,17 +1,17 @@
 //! The runs of the selected tests on the new program.
-ghost use Rattle.std.specs.Prelude.{◌≡◌, ◌<◌, ◌≤◌, All, IfOk, MatchResult, map, length};
+ghost use Rattle.std.specs.Prelude.{◌≡◌, ◌<◌, ◌≤◌, Bool, All, IfOk, MatchResult, length};
 ghost use Rattle.csub_semantics.specs.Syntax.{ProgramTree, program_tree};
 ghost use Rattle.csub_accept.specs.Accepted.{Accepted};
 ghost use Rattle.flow_graph.specs.Graph.{IsGraphOf};
 ghost use Rattle.test_history.specs.Histories.{IsEntryWithin};
+ghost use Rattle.test_history.specs.declared.version.Version.TheVariants.{Third};
+ghost use Rattle.command_files.specs.Steps.{IsHistoryCause};
 ghost use Rattle.dejavu_cli.specs.Rerun.{IsRerun, selected_tests};
-ghost use Rattle.dejavu_cli.specs.Steps.{IsHistoryCause, HasReran};
+ghost use Rattle.dejavu_cli.specs.Texts.{end_of_rerun};
+ghost use Rattle.dejavu_cli.specs.Steps.{HasReran};
 
-use crate::answer::Answer;
-use crate::files::read_entries;
-use crate::record::Runner;
-use crate::select::choose;
-use crate::versions::{Versions, build_graphs};
+use crate::answer::{Answer, End};
+use command_files::{Runner, Versions, select_tests};
 use command_refusals::Refusal;
 use csub_core::Program;
 use dv_outside::Gate;
@@ -35,33 +35,35 @@ pub(crate) fn rerun_answer<R: Threads + Sync, G: Gate>(
     requires few { runner.workers ≤ 64 }
     requires alone { (P : ProgramTree) → Accepted versions.now.source.items P → P ≡ program_tree versions.now.old }
     ensures { MatchResult result
-        (λ answer. IsRerun versions.now.source.items bytes.now (program_tree versions.now.old) (program_tree versions.now.new) answer.differs answer.text.items)
-        (IsHistoryCause versions.now.source.items bytes.now (program_tree versions.now.old)) }
+        (λ answer. (differs : Bool) × (answer.end ≡ end_of_rerun differs)
+        × IsRerun versions.now.source.items bytes.now (program_tree versions.now.old) (program_tree versions.now.new) differs answer.text.items)
+        (IsHistoryCause Third versions.now.source.items bytes.now (program_tree versions.now.old)) }
 {
-    let Ok(graphs) = build_graphs(alloc, versions) else {
-        return Err(Refusal::Memory);
-    };
-    let history = match read_entries(alloc, bytes, &versions.source, graphs.old.edges()) {
-        Ok(history) => history,
+    let selection = match select_tests(alloc, versions, bytes) {
+        Ok(selection) => selection,
         Err(refusal) => return Err(refusal),
-    };
-    let Ok(chosen) = choose(alloc, versions, &graphs, &history) else {
-        return Err(Refusal::Memory);
     };
     match rerun_selected(
         alloc,
-        &history,
-        &chosen.choices,
+        &selection.history,
+        &selection.chosen.choices,
         &versions.new,
-        &graphs.new,
+        &selection.graphs.new,
         runner,
     ) {
         Ok(told) => Ok(Answer {
-            differs: told.differs > 0,
+            end: rerun_end(told.differs > 0),
             text: told.bytes,
         }),
         Err(_) => Err(Refusal::Memory),
     }
+}
+
+/// How `rerun` ends, by whether a test differs.
+fn rerun_end(differs: bool) -> End
+    ensures { result ≡ end_of_rerun differs }
+{
+    if differs { End::Differs } else { End::Whole }
 }
 
 /// What is told of the runs of the selected tests on a program. An `Err` is want of memory.

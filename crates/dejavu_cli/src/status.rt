@@ -1,7 +1,8 @@
 //! What the program ends with.
 ghost use Rattle.std.specs.Prelude.{◌≡◌};
-ghost use Rattle.dejavu_cli.specs.Answers.{done_as, number_of, status_of};
+ghost use Rattle.dejavu_cli.specs.Statuses.{done_as, number_of, status_of};
 
+use crate::answer::End;
 use command_refusals::Refusal;
 
 /// How a call of [`dejavu`](crate::dejavu) ended.
@@ -17,7 +18,7 @@ pub enum Status8 {
     Source,
     /// The suite's bytes are no suite.
     Suite,
-    /// The history's bytes are no history of the source.
+    /// The history's bytes are no history of the source, or it lacks the test.
     History,
     /// A file could not be read.
     ReadFault,
@@ -25,12 +26,16 @@ pub enum Status8 {
     WriteFault,
     /// Want of memory.
     Memory,
-    /// The history would be longer than a history may be.
+    /// What the command makes would have more bytes than it may have.
     TooMuch,
+    /// The certificate's bytes are no certificate of the sources.
+    Certificate,
+    /// A claim isn't closed.
+    Open,
 }
 
 impl Status8 {
-    /// The exit status of the program: 0 to 9, in the order of the variants.
+    /// The exit status of the program: 0 to 11, in the order of the variants.
     pub fn number(self) -> u8
         ensures { result ≡ number_of self }
     {
@@ -45,18 +50,20 @@ impl Status8 {
             Status8::WriteFault => 7,
             Status8::Memory => 8,
             Status8::TooMuch => 9,
+            Status8::Certificate => 10,
+            Status8::Open => 11,
         }
     }
 }
 
-/// The status of a command that is done, by whether a test differs.
-pub(crate) fn done_as(differs: bool) -> Status8
-    ensures { result ≡ done_as differs }
+/// The status of a command that is done.
+pub(crate) fn done_as(end: End) -> Status8
+    ensures { result ≡ done_as end }
 {
-    if differs {
-        Status8::Differs
-    } else {
-        Status8::Done
+    match end {
+        End::Whole => Status8::Done,
+        End::Differs => Status8::Differs,
+        End::Open => Status8::Open,
     }
 }
 
@@ -69,8 +76,9 @@ pub(crate) fn refusal_status(refusal: &Refusal) -> Status8
         Refusal::Source(_, _) => Status8::Source,
         Refusal::Suite(_) => Status8::Suite,
         Refusal::History(_) | Refusal::NoTest(_) => Status8::History,
+        Refusal::Certificate(_) => Status8::Certificate,
         Refusal::ReadFault => Status8::ReadFault,
         Refusal::Memory => Status8::Memory,
-        Refusal::TooMuch(_) => Status8::TooMuch,
+        Refusal::TooMuch(_, _) => Status8::TooMuch,
     }
 }

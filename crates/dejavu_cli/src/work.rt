@@ -1,22 +1,18 @@
 //! What the words ask for.
-ghost use Rattle.std.specs.Prelude.{◌≡◌, ◌<◌, ◌≤◌, MatchResult, Some, false};
+ghost use Rattle.std.specs.Prelude.{◌≡◌, MatchResult, Some};
 ghost use Rattle.dv_outside.specs.Outside.{NeverFalls};
-ghost use Rattle.command_words.specs.Words.{command_of, texts_of, record_files, walk_files, select_files, rerun_files, explain_files, gen_numbers};
+ghost use Rattle.command_words.specs.Words.{command_of, texts_of};
 ghost use Rattle.command_words.specs.Shown.{command_shown, HasNumbers};
-ghost use Rattle.dejavu_cli.specs.Answers.{HasTextOf, HasCause, HasCauseOf};
+ghost use Rattle.dejavu_cli.specs.Texts.{HasTextOf};
+ghost use Rattle.dejavu_cli.specs.Causes.{HasCause, HasCauseOf};
 
-use crate::answer::{Answer, without_reruns};
-use crate::explain::explanation;
-use crate::files::{
-    HISTORY_AND_ONE, SOURCE_AND_ONE, SUITE_AND_ONE, fetch_file, read_source, read_tests,
-};
+use crate::answer::{Answer, whole};
 use crate::generate::generated_text;
-use crate::record::{Runner, record_text};
-use crate::rerun::rerun_answer;
-use crate::select::selection_text;
-use crate::versions::read_versions;
-use crate::walked::report;
-use command_refusals::{Refusal, Role};
+use crate::with_history::{carry, explain, order, rerun, select};
+use crate::with_source::{migrate, record};
+use crate::with_versions::{certify, check, walk};
+use command_files::Runner;
+use command_refusals::Refusal;
 use command_words::{Command, read_words};
 use dv_outside::{Gate, Shelf};
 use std::alloc::Global;
@@ -31,7 +27,7 @@ pub(crate) fn work<R: Threads + Sync, S: Shelf, G: Gate>(
     gate: &G,
 ) -> Result<Answer, Refusal>
     ensures answer { MatchResult result
-        (λ answer. HasTextOf (command_of (texts_of words.now)) (S.files shelf.old) answer.differs answer.text.items)
+        (λ answer. HasTextOf (command_of (texts_of words.now)) (S.files shelf.old) answer.end answer.text.items)
         (HasCause (command_of (texts_of words.now)) (S.files shelf.old) (S.faults shelf.old) (S.faults shelf.new)) }
     ensures counts { NeverFalls (S.faults shelf.old) (S.faults shelf.new) }
 {
@@ -52,7 +48,7 @@ fn answer_to<R: Threads + Sync, S: Shelf, G: Gate>(
 ) -> Result<Answer, Refusal>
     requires { HasNumbers command }
     ensures answer { MatchResult result
-        (λ answer. HasTextOf (Some (command_shown command.entry)) (S.files shelf.old) answer.differs answer.text.items)
+        (λ answer. HasTextOf (Some (command_shown command.entry)) (S.files shelf.old) answer.end answer.text.items)
         (HasCauseOf (command_shown command.entry) (S.files shelf.old) (S.faults shelf.old) (S.faults shelf.new)) }
     ensures counts { NeverFalls (S.faults shelf.old) (S.faults shelf.new) }
 {
@@ -61,14 +57,10 @@ fn answer_to<R: Threads + Sync, S: Shelf, G: Gate>(
             source,
             suite,
             workers,
-        } => {
-            let runner = Runner { rt, workers, gate };
-            without_reruns(record(alloc, source, suite, shelf, runner))
-        }
-        Command::Walk { old, new } => without_reruns(walk(alloc, old, new, shelf)),
-        Command::Select { old, new, history } => {
-            without_reruns(select(alloc, old, new, history, shelf))
-        }
+        } => whole(record(alloc, source, suite, shelf, Runner { rt, workers, gate })),
+        Command::Migrate { old, history } => whole(migrate(alloc, old, history, shelf)),
+        Command::Walk { old, new } => whole(walk(alloc, old, new, shelf)),
+        Command::Select { old, new, history } => whole(select(alloc, old, new, history, shelf)),
         Command::Rerun {
             old,
             new,
@@ -87,136 +79,48 @@ fn answer_to<R: Threads + Sync, S: Shelf, G: Gate>(
             new,
             history,
             test,
-        } => without_reruns(explain(alloc, old, new, history, test, shelf)),
-        Command::Gen { seed, size } => {
-            let runner = Runner {
+        } => whole(explain(alloc, old, new, history, test, shelf)),
+        Command::Carry {
+            old,
+            new,
+            history,
+            workers,
+        } => whole(carry(
+            alloc,
+            old,
+            new,
+            history,
+            shelf,
+            Runner { rt, workers, gate },
+        )),
+        Command::Order {
+            old,
+            new,
+            history,
+            workers,
+        } => whole(order(
+            alloc,
+            old,
+            new,
+            history,
+            shelf,
+            Runner { rt, workers, gate },
+        )),
+        Command::Certify { old, new } => whole(certify(alloc, old, new, shelf)),
+        Command::Check {
+            old,
+            new,
+            certificate,
+        } => check(alloc, old, new, certificate, shelf),
+        Command::Gen { seed, size } => whole(generated_text(
+            alloc,
+            seed,
+            size,
+            Runner {
                 rt,
                 workers: 1,
                 gate,
-            };
-            without_reruns(generated_text(alloc, seed, size, runner))
-        }
-    }
-}
-
-/// The text of `record`.
-fn record<R: Threads + Sync, S: Shelf, G: Gate>(
-    alloc: Global,
-    source_name: &str,
-    suite_name: &str,
-    shelf: &mut S,
-    runner: Runner<'_, R, G>,
-) -> Result<Vec<u8>, Refusal>
-    requires some { 0 < runner.workers }
-    requires few { runner.workers ≤ 64 }
-    ensures answer { MatchResult result
-        (λ text. HasTextOf (Some (record_files source_name.now suite_name.now runner.entry.workers)) (S.files shelf.old) false text.items)
-        (HasCauseOf (record_files source_name.now suite_name.now runner.entry.workers) (S.files shelf.old) (S.faults shelf.old) (S.faults shelf.new)) }
-    ensures counts { NeverFalls (S.faults shelf.old) (S.faults shelf.new) }
-{
-    let source = fetch_file(shelf, source_name, SOURCE_AND_ONE)?;
-    let program = match read_source(alloc, Role::Source, &source) {
-        Ok(program) => program,
-        Err(refusal) => return Err(refusal),
-    };
-    let suite = fetch_file(shelf, suite_name, SUITE_AND_ONE)?;
-    match read_tests(alloc, &suite) {
-        Ok(tests) => record_text(alloc, &source, &program, &tests, runner),
-        Err(refusal) => Err(refusal),
-    }
-}
-
-/// The text of `walk`.
-fn walk<S: Shelf>(
-    alloc: Global,
-    old_name: &str,
-    new_name: &str,
-    shelf: &mut S,
-) -> Result<Vec<u8>, Refusal>
-    ensures answer { MatchResult result
-        (λ text. HasTextOf (Some (walk_files old_name.now new_name.now)) (S.files shelf.old) false text.items)
-        (HasCauseOf (walk_files old_name.now new_name.now) (S.files shelf.old) (S.faults shelf.old) (S.faults shelf.new)) }
-    ensures counts { NeverFalls (S.faults shelf.old) (S.faults shelf.new) }
-{
-    let versions = match read_versions(alloc, old_name, new_name, shelf) {
-        Ok(versions) => versions,
-        Err(refusal) => return Err(refusal),
-    };
-    match report(alloc, &versions) {
-        Ok(text) => Ok(text),
-        Err(_) => Err(Refusal::Memory),
-    }
-}
-
-/// The text of `select`.
-fn select<S: Shelf>(
-    alloc: Global,
-    old_name: &str,
-    new_name: &str,
-    history_name: &str,
-    shelf: &mut S,
-) -> Result<Vec<u8>, Refusal>
-    ensures answer { MatchResult result
-        (λ text. HasTextOf (Some (select_files old_name.now new_name.now history_name.now)) (S.files shelf.old) false text.items)
-        (HasCauseOf (select_files old_name.now new_name.now history_name.now) (S.files shelf.old) (S.faults shelf.old) (S.faults shelf.new)) }
-    ensures counts { NeverFalls (S.faults shelf.old) (S.faults shelf.new) }
-{
-    let versions = match read_versions(alloc, old_name, new_name, shelf) {
-        Ok(versions) => versions,
-        Err(refusal) => return Err(refusal),
-    };
-    match fetch_file(shelf, history_name, HISTORY_AND_ONE) {
-        Ok(bytes) => selection_text(alloc, &versions, &bytes),
-        Err(refusal) => Err(refusal),
-    }
-}
-
-/// The answer of `rerun`.
-fn rerun<R: Threads + Sync, S: Shelf, G: Gate>(
-    alloc: Global,
-    old_name: &str,
-    new_name: &str,
-    history_name: &str,
-    shelf: &mut S,
-    runner: Runner<'_, R, G>,
-) -> Result<Answer, Refusal>
-    requires some { 0 < runner.workers }
-    requires few { runner.workers ≤ 64 }
-    ensures answer { MatchResult result
-        (λ answer. HasTextOf (Some (rerun_files old_name.now new_name.now history_name.now runner.entry.workers)) (S.files shelf.old) answer.differs answer.text.items)
-        (HasCauseOf (rerun_files old_name.now new_name.now history_name.now runner.entry.workers) (S.files shelf.old) (S.faults shelf.old) (S.faults shelf.new)) }
-    ensures counts { NeverFalls (S.faults shelf.old) (S.faults shelf.new) }
-{
-    let versions = match read_versions(alloc, old_name, new_name, shelf) {
-        Ok(versions) => versions,
-        Err(refusal) => return Err(refusal),
-    };
-    match fetch_file(shelf, history_name, HISTORY_AND_ONE) {
-        Ok(bytes) => rerun_answer(alloc, &versions, &bytes, runner),
-        Err(refusal) => Err(refusal),
-    }
-}
-
-/// The text of `explain`.
-fn explain<S: Shelf>(
-    alloc: Global,
-    old_name: &str,
-    new_name: &str,
-    history_name: &str,
-    test: &str,
-    shelf: &mut S,
-) -> Result<Vec<u8>, Refusal>
-    ensures answer { MatchResult result
-        (λ text. HasTextOf (Some (explain_files old_name.now new_name.now history_name.now test.now)) (S.files shelf.old) false text.items)
-        (HasCauseOf (explain_files old_name.now new_name.now history_name.now test.now) (S.files shelf.old) (S.faults shelf.old) (S.faults shelf.new)) }
-    ensures counts { NeverFalls (S.faults shelf.old) (S.faults shelf.new) }
-{
-    let versions = match read_versions(alloc, old_name, new_name, shelf) {
-        Ok(versions) => versions,
-        Err(refusal) => return Err(refusal),
-    };
-    match fetch_file(shelf, history_name, HISTORY_AND_ONE) {
-        Ok(bytes) => explanation(alloc, &versions, &bytes, test),
-        Err(refusal) => Err(refusal),
+            },
+        )),
     }
 }

@@ -1,9 +1,10 @@
 use Rattle.std.proofs.Common.{refl, subst}
 use Rattle.dejavu_cli.specs.Answers.{Says}
+use Rattle.dejavu_cli.specs.declared.answer.End.TheVariants.{Whole, Differs, Open}
 use Rattle.command_words.specs.Words.{command_of}
 use Rattle.command_words.specs.Words.{texts_of}
 use Rattle.dejavu_cli.proofs.CompleteLemmas.{done, complete_done, complete_refused, refused}
-use Rattle.dejavu_cli.proofs.TopLemmas.{done_is, differs_is, no_usage, usage_is}
+use Rattle.dejavu_cli.proofs.TopLemmas.{headline_is, no_usage, usage_is}
 use Rattle.dejavu_cli.proofs.dejavu.Goals as goal
 
 pub returns-in-Ok-clause-answer : goal.returns-in-Ok-clause-answer
@@ -13,7 +14,7 @@ returns-in-Ok-clause-answer g c =
     let says = subst (λ s. Says before now (g.K.Sink.faults c.args.out.now) (g.K.Sink.faults c.say.new.out) s c.in-Ok.field-0.text.items c.say.result) c.done_as.ensures
     (subst (λ text. Says before now (g.K.Sink.faults c.args.out.now) (g.K.Sink.faults c.say.new.out) c.done_as.result text c.say.result) c.deref.ensures.value c.say.ensures) in
     done (texts_of c.args.words.now) (g.S.Shelf.files c.args.shelf.now) (g.S.Shelf.faults c.args.shelf.now) (g.S.Shelf.faults c.work.new.shelf)
-    before now (g.K.Sink.faults c.args.out.now) (g.K.Sink.faults c.say.new.out) c.say.result c.in-Ok.field-0.differs c.in-Ok.field-0.text.items c.in-Ok.ensures.answer says
+    before now (g.K.Sink.faults c.args.out.now) (g.K.Sink.faults c.say.new.out) c.say.result c.in-Ok.field-0.end c.in-Ok.field-0.text.items c.in-Ok.ensures.answer says
 
 pub returns-in-Ok-clause-complete : goal.returns-in-Ok-clause-complete
 returns-in-Ok-clause-complete g c =
@@ -22,7 +23,7 @@ returns-in-Ok-clause-complete g c =
     let says = subst (λ s. Says before now (g.K.Sink.faults c.args.out.now) (g.K.Sink.faults c.say.new.out) s c.in-Ok.field-0.text.items c.say.result) c.done_as.ensures
     (subst (λ text. Says before now (g.K.Sink.faults c.args.out.now) (g.K.Sink.faults c.say.new.out) c.done_as.result text c.say.result) c.deref.ensures.value c.say.ensures) in
     complete_done (texts_of c.args.words.now) (g.S.Shelf.files c.args.shelf.now) (g.S.Shelf.faults c.args.shelf.now) (g.S.Shelf.faults c.work.new.shelf)
-    before now (g.K.Sink.faults c.args.out.now) (g.K.Sink.faults c.say.new.out) c.say.result c.in-Ok.field-0.differs c.in-Ok.field-0.text.items c.in-Ok.ensures.answer says
+    before now (g.K.Sink.faults c.args.out.now) (g.K.Sink.faults c.say.new.out) c.say.result c.in-Ok.field-0.end c.in-Ok.field-0.text.items c.in-Ok.ensures.answer says
 
 pub returns-in-Err-clause-complete : goal.returns-in-Err-clause-complete
 returns-in-Err-clause-complete g c =
@@ -40,8 +41,8 @@ returns-in-Ok-clause-headline g c =
     let now = g.K.Sink.written c.say.new.out in
     let says = subst (λ s. Says before now (g.K.Sink.faults c.args.out.now) (g.K.Sink.faults c.say.new.out) s c.in-Ok.field-0.text.items c.say.result) c.done_as.ensures
     (subst (λ text. Says before now (g.K.Sink.faults c.args.out.now) (g.K.Sink.faults c.say.new.out) c.done_as.result text c.say.result) c.deref.ensures.value c.say.ensures) in
-    done_is (texts_of c.args.words.now) (g.S.Shelf.files c.args.shelf.now) before now (g.K.Sink.faults c.args.out.now) (g.K.Sink.faults c.say.new.out) c.say.result
-    c.in-Ok.field-0.differs c.in-Ok.field-0.text.items (command_of (texts_of c.args.words.now)) refl c.in-Ok.ensures.answer says
+    headline_is (texts_of c.args.words.now) (g.S.Shelf.files c.args.shelf.now) before now (g.K.Sink.faults c.args.out.now) (g.K.Sink.faults c.say.new.out) c.say.result
+    Whole c.in-Ok.field-0.end c.in-Ok.field-0.text.items (command_of (texts_of c.args.words.now)) refl c.in-Ok.ensures.answer says
 
 pub returns-in-Ok-clause-differs : goal.returns-in-Ok-clause-differs
 returns-in-Ok-clause-differs g c =
@@ -49,8 +50,17 @@ returns-in-Ok-clause-differs g c =
     let now = g.K.Sink.written c.say.new.out in
     let says = subst (λ s. Says before now (g.K.Sink.faults c.args.out.now) (g.K.Sink.faults c.say.new.out) s c.in-Ok.field-0.text.items c.say.result) c.done_as.ensures
     (subst (λ text. Says before now (g.K.Sink.faults c.args.out.now) (g.K.Sink.faults c.say.new.out) c.done_as.result text c.say.result) c.deref.ensures.value c.say.ensures) in
-    differs_is (texts_of c.args.words.now) (g.S.Shelf.files c.args.shelf.now) before now (g.K.Sink.faults c.args.out.now) (g.K.Sink.faults c.say.new.out) c.say.result
-    c.in-Ok.field-0.differs c.in-Ok.field-0.text.items (command_of (texts_of c.args.words.now)) refl c.in-Ok.ensures.answer says
+    headline_is (texts_of c.args.words.now) (g.S.Shelf.files c.args.shelf.now) before now (g.K.Sink.faults c.args.out.now) (g.K.Sink.faults c.say.new.out) c.say.result
+    Differs c.in-Ok.field-0.end c.in-Ok.field-0.text.items (command_of (texts_of c.args.words.now)) refl c.in-Ok.ensures.answer says
+
+pub returns-in-Ok-clause-open : goal.returns-in-Ok-clause-open
+returns-in-Ok-clause-open g c =
+    let before = g.K.Sink.written c.args.out.now in
+    let now = g.K.Sink.written c.say.new.out in
+    let says = subst (λ s. Says before now (g.K.Sink.faults c.args.out.now) (g.K.Sink.faults c.say.new.out) s c.in-Ok.field-0.text.items c.say.result) c.done_as.ensures
+    (subst (λ text. Says before now (g.K.Sink.faults c.args.out.now) (g.K.Sink.faults c.say.new.out) c.done_as.result text c.say.result) c.deref.ensures.value c.say.ensures) in
+    headline_is (texts_of c.args.words.now) (g.S.Shelf.files c.args.shelf.now) before now (g.K.Sink.faults c.args.out.now) (g.K.Sink.faults c.say.new.out) c.say.result
+    Open c.in-Ok.field-0.end c.in-Ok.field-0.text.items (command_of (texts_of c.args.words.now)) refl c.in-Ok.ensures.answer says
 
 pub returns-in-Ok-clause-usage : goal.returns-in-Ok-clause-usage
 returns-in-Ok-clause-usage g c =
@@ -59,7 +69,7 @@ returns-in-Ok-clause-usage g c =
     let says = subst (λ s. Says before now (g.K.Sink.faults c.args.out.now) (g.K.Sink.faults c.say.new.out) s c.in-Ok.field-0.text.items c.say.result) c.done_as.ensures
     (subst (λ text. Says before now (g.K.Sink.faults c.args.out.now) (g.K.Sink.faults c.say.new.out) c.done_as.result text c.say.result) c.deref.ensures.value c.say.ensures) in
     no_usage (texts_of c.args.words.now) (g.S.Shelf.files c.args.shelf.now) before now (g.K.Sink.faults c.args.out.now) (g.K.Sink.faults c.say.new.out) c.say.result
-    c.in-Ok.field-0.differs c.in-Ok.field-0.text.items says
+    c.in-Ok.field-0.end c.in-Ok.field-0.text.items says
 
 pub returns-in-Err-clause-usage : goal.returns-in-Err-clause-usage
 returns-in-Err-clause-usage g c =

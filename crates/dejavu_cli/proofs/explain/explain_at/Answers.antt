@@ -4,14 +4,13 @@ use Rattle.csub_semantics.specs.Syntax.{program_tree}
 use Rattle.flow_graph.proofs.LawsPlaces.{edges_counted}
 use Rattle.test_select.specs.declared.choice.Choice.{Choice}
 use Rattle.explain_report.specs.Explanations.{IsExplainText}
-use Rattle.dejavu_cli.proofs.ChoiceLemmas.{chosen_count}
 use Rattle.dejavu_cli.proofs.ExplainLemmas.{explained}
 use Rattle.dejavu_cli.proofs.explain.explain_at.Goals as goal
 
 pub explain_text-requires-clause-choices : goal.explain_text-requires-clause-choices
 explain_text-requires-clause-choices c =
     subst (λ (choices : List Choice). length choices ≡ length c.args.history.now.entries) (sym c.deref.ensures.value)
-    (chosen_count (program_tree c.args.versions.now.old) (program_tree c.args.versions.now.new) c.args.history.now.entries c.in_ok-chosen.chosen c.in_ok-chosen.ensures.walked)
+    c.in_ok-chosen.ensures.walked.many
 
 pub explain_text-requires-clause-row : goal.explain_text-requires-clause-row
 explain_text-requires-clause-row c =

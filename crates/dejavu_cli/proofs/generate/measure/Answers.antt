@@ -5,13 +5,13 @@ use Rattle.csub_semantics.specs.Syntax.{program_tree, function_tree}
 use Rattle.test_select.specs.declared.choice.Choice.{Choice}
 use Rattle.test_select.specs.Selection.{is_selected}
 use Rattle.dejavu_cli.specs.Steps.{HasReran}
-use Rattle.dejavu_cli.proofs.ChoiceLemmas.{choices_are, chosen_count}
+use Rattle.command_files.proofs.LawsChoices.{choices_are}
 use Rattle.dejavu_cli.proofs.generate.measure.Goals as goal
 
 pub rerun_selected-requires-clause-choices : goal.rerun_selected-requires-clause-choices
 rerun_selected-requires-clause-choices g c = λ κs lives.
     subst (λ (choices : List Choice). length choices ≡ length c.in_ok-history.history.entries) (sym c.deref-2.ensures.value)
-    (chosen_count (program_tree c.args.versions.now.old) (program_tree c.args.versions.now.new) c.in_ok-history.history.entries c.in_ok-chosen.chosen c.in_ok-chosen.ensures.walked)
+    c.in_ok-chosen.ensures.walked.many
 
 pub returns : goal.returns
 returns g c =

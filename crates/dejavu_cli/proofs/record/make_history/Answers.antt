@@ -1,6 +1,6 @@
 use Rattle.csub_semantics.specs.Syntax.{program_tree}
 use Rattle.csub_semantics.specs.Flows.{flow_of}
-use Rattle.dejavu_cli.proofs.RunLemmas.{have_rows, history_within}
+use Rattle.command_files.proofs.LawsEntries.{have_rows, history_within}
 use Rattle.dejavu_cli.proofs.record.make_history.Goals as goal
 
 pub new-requires : goal.new-requires

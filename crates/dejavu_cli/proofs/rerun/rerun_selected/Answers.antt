@@ -5,7 +5,7 @@ use Rattle.test_suite.specs.Tests.{TestParts, IsWithin}
 use Rattle.test_history.specs.Histories.{EntryParts, IsEntryWithin}
 use Rattle.suite_run.specs.Entries.{IsEntry}
 use Rattle.dejavu_cli.specs.Rerun.{selected_tests}
-use Rattle.dejavu_cli.proofs.RunLemmas.{as_many}
+use Rattle.command_files.proofs.LawsEntries.{as_many}
 use Rattle.dejavu_cli.proofs.RerunLemmas.{selected_within, selected_count, has_reran}
 use Rattle.dejavu_cli.proofs.rerun.rerun_selected.Goals as goal
 

@@ -1,0 +1,5 @@
+mod Checking
+mod Claims
+mod Few
+mod Lines
+mod Reading

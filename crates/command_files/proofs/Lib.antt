@@ -1,0 +1,7 @@
+pub mod LawsChoices
+pub mod LawsEntries
+pub mod LawsFiles
+mod Entries
+mod Reading
+mod Refusing
+mod Safety

@@ -1,0 +1,5 @@
+pub mod Record
+pub mod Causes
+pub mod Files
+pub mod Choices
+pub mod Steps

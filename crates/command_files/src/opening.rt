@@ -1,0 +1,84 @@
+//! A source or two, and one more file.
+ghost use Rattle.std.specs.Prelude.{◌≡◌, MatchResult};
+ghost use Rattle.dv_outside.specs.Outside.{NeverFalls};
+ghost use Rattle.command_files.specs.Files.{IsOpened, IsOpenCause, AreOpened, AreOpenCause};
+
+use crate::files::{SOURCE_AND_ONE, fetch_file, read_source};
+use crate::versions::{Versions, read_versions};
+use command_refusals::{Refusal, Role};
+use csub_core::Program;
+use dv_outside::Shelf;
+use std::alloc::Global;
+
+/// A source with its program, and the bytes of a second file.
+#[derive(Drop)]
+pub struct OpenedSource {
+    /// The source.
+    pub source: Vec<u8>,
+    /// Its program.
+    pub program: Program,
+    /// The bytes.
+    pub bytes: Vec<u8>,
+}
+
+/// Two versions, and the bytes of a third file.
+#[derive(Drop)]
+pub struct OpenedVersions {
+    /// Both versions.
+    pub versions: Versions,
+    /// The bytes.
+    pub bytes: Vec<u8>,
+}
+
+/// The source in the file of this name, in a role, and then the first `most` bytes of a second file, or all if it has fewer.
+pub fn open_source<S: Shelf>(
+    alloc: Global,
+    role: Role,
+    name: &str,
+    second_name: &str,
+    most: usize,
+    shelf: &mut S,
+) -> Result<OpenedSource, Refusal>
+    ensures opened { MatchResult result
+        (IsOpened (S.files shelf.old) name.now second_name.now most)
+        (IsOpenCause role name.now second_name.now (S.files shelf.old) (S.faults shelf.old) (S.faults shelf.new)) }
+    ensures counts { NeverFalls (S.faults shelf.old) (S.faults shelf.new) }
+{
+    let source = fetch_file(shelf, name, SOURCE_AND_ONE)?;
+    let program = match read_source(alloc, role, &source) {
+        Ok(program) => program,
+        Err(refusal) => return Err(refusal),
+    };
+    match fetch_file(shelf, second_name, most) {
+        Ok(bytes) => Ok(OpenedSource {
+            source,
+            program,
+            bytes,
+        }),
+        Err(refusal) => Err(refusal),
+    }
+}
+
+/// The versions in the files of these names, and then the first `most` bytes of a third file, or all if it has fewer.
+pub fn open_versions<S: Shelf>(
+    alloc: Global,
+    old_name: &str,
+    new_name: &str,
+    third_name: &str,
+    most: usize,
+    shelf: &mut S,
+) -> Result<OpenedVersions, Refusal>
+    ensures opened { MatchResult result
+        (AreOpened (S.files shelf.old) old_name.now new_name.now third_name.now most)
+        (AreOpenCause old_name.now new_name.now third_name.now (S.files shelf.old) (S.faults shelf.old) (S.faults shelf.new)) }
+    ensures counts { NeverFalls (S.faults shelf.old) (S.faults shelf.new) }
+{
+    let versions = match read_versions(alloc, old_name, new_name, shelf) {
+        Ok(versions) => versions,
+        Err(refusal) => return Err(refusal),
+    };
+    match fetch_file(shelf, third_name, most) {
+        Ok(bytes) => Ok(OpenedVersions { versions, bytes }),
+        Err(refusal) => Err(refusal),
+    }
+}

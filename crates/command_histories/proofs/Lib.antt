@@ -1,0 +1,4 @@
+mod Migrating
+mod Within
+mod Recorded
+mod Carrying

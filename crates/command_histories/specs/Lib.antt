@@ -1,0 +1,4 @@
+pub mod Migrations
+pub mod Orders
+pub mod Carried
+pub mod Steps

@@ -1,0 +1,22 @@
+use Rattle.std.proofs.Common.{List, refl, subst}
+use Rattle.csub_semantics.specs.Syntax.{program_tree}
+use Rattle.test_suite.specs.Tests.{TestParts}
+use Rattle.test_history.specs.Causes.{HasTextCause}
+use Rattle.test_history.specs.HistoryTexts.{history_text}
+use Rattle.test_history.specs.declared.error.HistoryTextError.TheVariants.{TooLong}
+use Rattle.command_files.specs.Record.{IsHistory}
+use Rattle.dejavu_cli.proofs.record.record_text.Goals as goal
+
+pub returns-in-Err-TooLong : goal.returns-in-Err-TooLong
+returns-in-Err-TooLong g c =
+    let history = c.in-Ok-make_history.history in
+    let why : HasTextCause history (TooLong c.in-Err-TooLong.count) = rw c.in-Err-TooLong.field-0-is at c.in-Err-TooLong.ensures.cause in
+    let made = subst (λ (tests : List TestParts). IsHistory c.args.source.now (program_tree c.args.program.now) tests history) c.deref.ensures.value c.in-Ok-make_history.ensures.history in (
+      refl,
+      record {
+        bytes = history_text history;
+        text = record { tests = c.in-Ok.tests.items; reads = c.in-Ok.ensures.tests; history = history; of = made; is = refl };
+        counted = why.0;
+        long = why.1;
+      },
+    )

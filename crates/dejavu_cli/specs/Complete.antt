@@ -1,0 +1,94 @@
+-- Completeness: where nothing stands in its way, a command is done.
+use Rattle.std.specs.Prelude.{ℕ, ◌≡◌, ◌⊎◌, List, Option, Some}
+use Rattle.std.specs.Option.{option_map}
+use Rattle.dv_outside.specs.Outside.{Files, file_at, Rose}
+use Rattle.csub_semantics.specs.Syntax.{ProgramTree}
+use Rattle.csub_accept.specs.Accepted.{Accepted}
+use Rattle.test_suite.specs.Tests.{TestParts}
+use Rattle.test_history.specs.Histories.{HistoryParts}
+use Rattle.test_history.specs.declared.version.Version.TheVariants.{Second, Third}
+use Rattle.cert_text.specs.Certificates.{CertificateParts}
+use Rattle.dv_gen.specs.Pairs.{old_source, new_source}
+use Rattle.command_words.specs.Words.{Command, rerun_files, explain_files, check_files, command_of}
+use Rattle.command_files.specs.Record.{IsSuiteFile, IsHistoryFile}
+use Rattle.command_files.specs.Files.{HasSource}
+use Rattle.command_claims.specs.Checked.{IsCertificateFile}
+use Rattle.dejavu_cli.specs.Reads.{Reads, suite_of, earlier_of, versions_of, history_of, certificate_of, made_of, reads}
+use Rattle.dejavu_cli.specs.Explain.{HasTest}
+use Rattle.dejavu_cli.specs.Texts.{product_of}
+use Rattle.dejavu_cli.specs.Causes.{HasReadFault}
+use Rattle.dejavu_cli.specs.declared.status.Status8.{Status8}
+use Rattle.dejavu_cli.specs.declared.status.Status8.TheVariants as status
+
+-- an accepted source and a suite
+pub record HaveSuite (files : Files) (source_name suite_name : List ℕ) : Type 0 where
+  pub program : ProgramTree
+  pub source : HasSource files source_name program
+  pub bytes : List ℕ
+  pub found : file_at files suite_name ≡ Some bytes
+  pub tests : List TestParts
+  pub is : IsSuiteFile bytes tests
+
+-- an accepted source and a history of it in version 2
+pub record HaveEarlier (files : Files) (old_name history_name : List ℕ) : Type 0 where
+  pub program : ProgramTree
+  pub source : HasSource files old_name program
+  pub bytes : List ℕ
+  pub found : file_at files history_name ≡ Some bytes
+  pub history : HistoryParts
+  pub is : IsHistoryFile Second source.bytes bytes program history
+
+-- two accepted sources
+pub record HaveVersions (files : Files) (old_name new_name : List ℕ) : Type 0 where
+  pub old : ProgramTree
+  pub new : ProgramTree
+  pub source : HasSource files old_name old
+  pub new_source : HasSource files new_name new
+
+-- and a history of the old one
+pub record HaveHistory (files : Files) (old_name new_name history_name : List ℕ) : Type 0 where
+  pub two : HaveVersions files old_name new_name
+  pub bytes : List ℕ
+  pub found : file_at files history_name ≡ Some bytes
+  pub history : HistoryParts
+  pub is : IsHistoryFile Third two.source.bytes bytes two.old history
+
+-- or a certificate of both
+pub record HaveCertificate (files : Files) (old_name new_name certificate_name : List ℕ) : Type 0 where
+  pub two : HaveVersions files old_name new_name
+  pub bytes : List ℕ
+  pub found : file_at files certificate_name ≡ Some bytes
+  pub certificate : CertificateParts
+  pub is : IsCertificateFile two.source.bytes two.new_source.bytes bytes two.old two.new certificate
+
+-- the files that a command reads are there and are what it asks for; the sources that `gen` makes are accepted
+abbrev pub AreThere : Reads → Files → Type 0
+AreThere (suite_of source suite) files = HaveSuite files source suite
+AreThere (earlier_of old history) files = HaveEarlier files old history
+AreThere (versions_of old new) files = HaveVersions files old new
+AreThere (history_of old new history) files = HaveHistory files old new history
+AreThere (certificate_of old new certificate) files = HaveCertificate files old new certificate
+AreThere (made_of seed size) files =
+    ((P : ProgramTree) × Accepted (old_source seed size) P) × ((P : ProgramTree) × Accepted (new_source seed size) P)
+
+-- and the history of `explain` has its test
+abbrev pub AreReady : Command → Files → Type 0
+AreReady (explain_files old new history test) files = (have : HaveHistory files old new history) × HasTest have.history.entries test
+AreReady c files = AreThere (reads c) files
+
+-- how a command can end but done: a test differs, a claim is open, or what it makes would have too many bytes
+abbrev pub other_end : Command → Option Status8
+other_end (rerun_files old new history workers) = Some status.Differs
+other_end (check_files old new certificate) = Some status.Open
+other_end c = option_map (λ which. status.TooMuch) (product_of c)
+
+-- the answer of a command that nothing stands in the way of
+abbrev pub IsDone : Command → Status8 → Type 0
+IsDone c answer = (answer ≡ status.Done) ⊎ ((other_end c ≡ Some answer) ⊎ (answer ≡ status.Memory))
+
+-- Completeness: where the words are a command whose files are told and ready, and none had a fault, nor the output, it is
+-- done
+abbrev pub IsComplete : List (List ℕ) → Option Files → (List ℕ → ℕ) → (List ℕ → ℕ) → ℕ → ℕ → Status8 → Type 0
+IsComplete words told before now faults_before faults_now answer =
+    (files : Files) → told ≡ Some files → (c : Command) → command_of words ≡ Some c → AreReady c files →
+    ¬ HasReadFault (reads c) told before now → ¬ Rose faults_before faults_now → IsDone c answer

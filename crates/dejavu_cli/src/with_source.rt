@@ -1,0 +1,74 @@
+//! Commands on a source and a second file.
+ghost use Rattle.std.specs.Prelude.{◌≡◌, ◌<◌, ◌≤◌, MatchResult, Some};
+ghost use Rattle.dv_outside.specs.Outside.{NeverFalls};
+ghost use Rattle.command_words.specs.Words.{record_files, migrate_files};
+ghost use Rattle.dejavu_cli.specs.Texts.{HasTextOf};
+ghost use Rattle.dejavu_cli.specs.Causes.{HasCauseOf};
+ghost use Rattle.dejavu_cli.specs.declared.answer.End.TheVariants.{Whole};
+
+use crate::record::record_text;
+use command_files::{FILE_AND_ONE, Runner, SUITE_AND_ONE, open_source};
+use command_histories::migrated_text;
+use command_refusals::{Refusal, Role};
+use dv_outside::{Gate, Shelf};
+use std::alloc::Global;
+use std::thread::Threads;
+
+/// The text of `record`.
+pub(crate) fn record<R: Threads + Sync, S: Shelf, G: Gate>(
+    alloc: Global,
+    source_name: &str,
+    suite_name: &str,
+    shelf: &mut S,
+    runner: Runner<'_, R, G>,
+) -> Result<Vec<u8>, Refusal>
+    requires some { 0 < runner.workers }
+    requires few { runner.workers ≤ 64 }
+    ensures answer { MatchResult result
+        (λ text. HasTextOf (Some (record_files source_name.now suite_name.now runner.entry.workers)) (S.files shelf.old) Whole text.items)
+        (HasCauseOf (record_files source_name.now suite_name.now runner.entry.workers) (S.files shelf.old) (S.faults shelf.old) (S.faults shelf.new)) }
+    ensures counts { NeverFalls (S.faults shelf.old) (S.faults shelf.new) }
+{
+    match open_source(
+        alloc,
+        Role::Source,
+        source_name,
+        suite_name,
+        SUITE_AND_ONE,
+        shelf,
+    ) {
+        Ok(opened) => record_text(
+            alloc,
+            &opened.source,
+            &opened.program,
+            &opened.bytes,
+            runner,
+        ),
+        Err(refusal) => Err(refusal),
+    }
+}
+
+/// The text of `migrate`.
+pub(crate) fn migrate<S: Shelf>(
+    alloc: Global,
+    old_name: &str,
+    history_name: &str,
+    shelf: &mut S,
+) -> Result<Vec<u8>, Refusal>
+    ensures answer { MatchResult result
+        (λ text. HasTextOf (Some (migrate_files old_name.now history_name.now)) (S.files shelf.old) Whole text.items)
+        (HasCauseOf (migrate_files old_name.now history_name.now) (S.files shelf.old) (S.faults shelf.old) (S.faults shelf.new)) }
+    ensures counts { NeverFalls (S.faults shelf.old) (S.faults shelf.new) }
+{
+    match open_source(
+        alloc,
+        Role::Old,
+        old_name,
+        history_name,
+        FILE_AND_ONE,
+        shelf,
+    ) {
+        Ok(opened) => migrated_text(alloc, &opened.source, &opened.program, &opened.bytes),
+        Err(refusal) => Err(refusal),
+    }
+}
