@@ -1,8 +1,9 @@
 //! The files that the words name, and the answer to words. The digests and sums are those of `sha256sum`.
 use dejavu_cli::{Status8, dejavu};
-use dv_outside::{MemoryShelf, MemorySink, OpenGate, names_differ};
+use dv_outside::{Gate, MemoryShelf, MemorySink, OpenGate, names_differ};
 use sample_sources::{CHANGED_LINE, LINE_BEFORE, WORD_COUNTER};
 use std::alloc::{AllocError, Global};
+use std::sync::atomic::{AtomicU64, Ordering};
 use std::test::Fail;
 use std::thread::Threads;
 
@@ -102,11 +103,48 @@ pub fn answer_about<R: Threads + Sync>(
     texts: &[(&str, &str)],
     words: &[&str],
 ) -> Result<(Status8, Vec<u8>), Fail> {
+    answer_counted(rt, alloc, texts, words, &OpenGate)
+}
+
+/// The same, where the workers pass a gate.
+pub fn answer_counted<R: Threads + Sync, G: Gate>(
+    rt: &R,
+    alloc: Global,
+    texts: &[(&str, &str)],
+    words: &[&str],
+    gate: &G,
+) -> Result<(Status8, Vec<u8>), Fail> {
     let owned = owned_words(alloc, words)?;
     let mut shelf = shelf_of(alloc, texts)?;
     let mut out = MemorySink::new(alloc, 100_000, 1000)?;
-    let status = dejavu(rt, alloc, &owned, &mut shelf, &mut out, &OpenGate);
+    let status = dejavu(rt, alloc, &owned, &mut shelf, &mut out, gate);
     Ok((status, out.bytes().to_vec(alloc)?))
+}
+
+/// A gate that counts who passes.
+#[derive(Drop)]
+pub struct Counter {
+    passed: AtomicU64,
+}
+
+impl Counter {
+    /// Nobody has passed yet.
+    pub fn new() -> Counter {
+        Counter {
+            passed: AtomicU64::new(0),
+        }
+    }
+
+    /// How many have passed.
+    pub fn count(&self) -> u64 {
+        self.passed.load(Ordering::SeqCst)
+    }
+}
+
+impl Gate for Counter {
+    fn enter(&self, _test: usize) {
+        self.passed.fetch_add(1, Ordering::SeqCst);
+    }
 }
 
 /// The history of a source and a suite as a text.

@@ -3,6 +3,10 @@
 #![tactic(auto)]
 
 #[cfg(test)]
+mod carried;
+#[cfg(test)]
+mod claims;
+#[cfg(test)]
 mod entries;
 #[cfg(test)]
 mod explanations;
@@ -14,6 +18,10 @@ mod files;
 mod generated;
 #[cfg(test)]
 mod histories;
+#[cfg(test)]
+mod migrations;
+#[cfg(test)]
+mod orders;
 #[cfg(test)]
 mod record;
 #[cfg(test)]

@@ -1,25 +1,11 @@
 //! What is told of the selected tests after they ran again.
-use crate::files::{ASSIGNED, COUNTED, TWO, changed_counter, owned_words, recorded, shelf_of};
-use dejavu_cli::{Status8, dejavu};
-use dv_outside::{Gate, MemorySink};
+use crate::files::{ASSIGNED, COUNTED, Counter, TWO, answer_counted, changed_counter, recorded};
+use dejavu_cli::Status8;
 use sample_sources::WORD_COUNTER;
 use std::alloc::Global;
 use std::process::Abort;
-use std::sync::atomic::{AtomicU64, Ordering};
 use std::test::Fail;
 use std::thread::Threads;
-
-/// A gate that counts who passes.
-#[derive(Drop)]
-struct Counter {
-    passed: AtomicU64,
-}
-
-impl Gate for Counter {
-    fn enter(&self, _test: usize) {
-        self.passed.fetch_add(1, Ordering::SeqCst);
-    }
-}
 
 /// What stands for one change: both versions, the suite, the status and the text, and how many tests run.
 #[derive(Clone, Copy)]
@@ -40,22 +26,17 @@ fn rerun_agrees<R: Threads + Abort + Sync>(
     history: &str,
     workers: &str,
 ) -> Result<(), Fail> {
-    let gate = Counter {
-        passed: AtomicU64::new(0),
-    };
+    let gate = Counter::new();
     let files = [
         ("old", change.old),
         ("new", change.new),
         ("history", history),
     ];
-    let mut shelf = shelf_of(alloc, &files)?;
-    let mut out = MemorySink::new(alloc, 100_000, 1000)?;
     let words = ["rerun", "old", "new", "history", "--workers", workers];
-    let owned = owned_words(alloc, &words)?;
-    let status = dejavu(rt, alloc, &owned, &mut shelf, &mut out, &gate);
+    let (status, text) = answer_counted(rt, alloc, &files, &words, &gate)?;
     assert_eq!(rt; status, change.status);
-    assert_eq!(rt; out.bytes(), change.text.as_bytes());
-    assert_eq!(rt; gate.passed.load(Ordering::SeqCst), change.runs);
+    assert_eq!(rt; text.as_slice(), change.text.as_bytes());
+    assert_eq!(rt; gate.count(), change.runs);
     Ok(())
 }
 

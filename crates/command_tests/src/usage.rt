@@ -5,7 +5,7 @@ use std::test::Fail;
 
 #[test]
 fn words_that_are_no_command_are_a_fault_of_usage(rt: HostRuntime) -> Result<(), Fail> {
-    let rows: [&[&str]; 28] = [
+    let rows: [&[&str]; 38] = [
         &[],
         &["record", "branching"],
         &["record", "a", "b", "--workers", "0"],
@@ -28,6 +28,16 @@ fn words_that_are_no_command_are_a_fault_of_usage(rt: HostRuntime) -> Result<(),
         &["explain", "o", "n", "h", ""],
         &["explain", "o", "n", "h", "-"],
         &["explain", "o", "n", "h", "A", "--workers", "2"],
+        &["migrate", "o"],
+        &["migrate", "o", "n", "h"],
+        &["migrate", "o", "h", "--workers", "2"],
+        &["carry", "o", "n"],
+        &["carry", "o", "n", "h", "--workers", "65"],
+        &["order", "o", "n", "h", "A"],
+        &["certify", "o"],
+        &["certify", "o", "n", "--workers=2"],
+        &["check", "o", "n"],
+        &["check", "o", "n", "c", "--workers=2"],
         &["gen", "1"],
         &["gen", "65536", "1"],
         &["gen", "1", "0"],

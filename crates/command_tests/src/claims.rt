@@ -1,0 +1,128 @@
+//! Certificates of walks, and what is found of claims. The digests of both sources were taken by Python's hashlib.
+use crate::files::{ASSIGNED, OTHER_BYTE, answer_about};
+use dejavu_cli::Status8;
+use line_text::push_hex;
+use sha2::{Digest, Sha256};
+use std::alloc::{AllocError, Global};
+use std::test::Fail;
+
+/// The first lines of a certificate of both sources.
+const FIRST_LINES: &str =
+    "dejavu certificate 1\nold f3e7b98b7d4d95f021635d364627ee64e4acd311669841db52966ba816eaeb96\nnew 4527ee34a73cbe49b1963da290f1fd8d7b5f74648e52c258c77127032cca9bd8\n";
+
+/// The claim of their walk: each point but the changed one beside itself, and the edge that leads there.
+const CLAIM: &str =
+    "dangerous 1\nedge 5\npairs 9\npair 0 0\npair 1 1\npair 2 2\npair 3 3\npair 4 4\npair 5 5\npair 6 6\npair 8 8\npair 9 9\n";
+
+/// The certificate of both sources with these lines.
+fn certificate(alloc: Global, lines: &str) -> Result<String, Fail> {
+    let mut text = FIRST_LINES.as_bytes().to_vec(alloc)?;
+    text.extend_from_slice(lines.as_bytes())?;
+    let sum = Sha256::digest(text.as_slice());
+    push_end(&mut text, &sum)?;
+    Ok(String::from_utf8(text)?)
+}
+
+/// Appends the last line of a certificate.
+fn push_end(text: &mut Vec<u8>, sum: &[u8; 32]) -> Result<(), AllocError> {
+    text.extend_from_slice(b"end ")?;
+    push_hex(text, sum)?;
+    text.push(b'\n')?;
+    Ok(())
+}
+
+#[test]
+fn the_certificate_of_a_walk_has_its_dangerous_edges_and_its_pairs(
+    rt: HostRuntime,
+) -> Result<(), Fail> {
+    let alloc = rt.alloc();
+    let files = [("old", ASSIGNED), ("new", OTHER_BYTE)];
+    let (status, text) = answer_about(&rt, alloc, &files, &["certify", "old", "new"])?;
+    assert_eq!(rt; status, Status8::Done);
+    assert_eq!(rt; text.as_slice(), certificate(alloc, CLAIM)?.as_bytes());
+    Ok(())
+}
+
+#[test]
+fn a_claim_is_closed_or_its_first_break_is_told(rt: HostRuntime) -> Result<(), Fail> {
+    let alloc = rt.alloc();
+    let rows = [
+        (CLAIM, Status8::Done, "closed pairs 9 dangerous 1\n"),
+        (
+            "dangerous 0\npairs 9\npair 0 0\npair 1 1\npair 2 2\npair 3 3\npair 4 4\npair 5 5\npair 6 6\npair 8 8\npair 9 9\n",
+            Status8::Open,
+            "open pair 5 5 false\n",
+        ),
+        (
+            "dangerous 2\nedge 4\nedge 5\npairs 9\npair 0 0\npair 1 1\npair 2 2\npair 3 3\npair 4 4\npair 5 5\npair 6 6\npair 8 8\npair 9 9\n",
+            Status8::Done,
+            "closed pairs 9 dangerous 2\n",
+        ),
+        (
+            "dangerous 1\nedge 5\npairs 10\npair 0 0\npair 1 1\npair 2 2\npair 3 3\npair 4 4\npair 5 5\npair 6 6\npair 7 7\npair 8 8\npair 9 9\n",
+            Status8::Open,
+            "open pair 7 7 label\n",
+        ),
+        (
+            "dangerous 1\nedge 5\npairs 8\npair 0 0\npair 1 1\npair 2 2\npair 3 3\npair 4 4\npair 5 5\npair 6 6\npair 8 8\n",
+            Status8::Open,
+            "open pair 8 8 next\n",
+        ),
+        (
+            "dangerous 1\nedge 5\npairs 8\npair 0 0\npair 1 1\npair 2 2\npair 4 4\npair 5 5\npair 6 6\npair 8 8\npair 9 9\n",
+            Status8::Open,
+            "open pair 1 1 call\n",
+        ),
+        (
+            "dangerous 1\nedge 0\npairs 1\npair 0 0\n",
+            Status8::Done,
+            "closed pairs 1 dangerous 1\n",
+        ),
+        (
+            "dangerous 1\nedge 5\npairs 0\n",
+            Status8::Open,
+            "open start\n",
+        ),
+    ];
+    for (lines, expected, line) in rows {
+        let text = certificate(alloc, lines)?;
+        let files = [
+            ("old", ASSIGNED),
+            ("new", OTHER_BYTE),
+            ("claim", text.as_str()),
+        ];
+        let (status, told) = answer_about(&rt, alloc, &files, &["check", "old", "new", "claim"])?;
+        assert_eq!(rt; status, expected);
+        assert_eq!(rt; told.as_slice(), line.as_bytes());
+    }
+    Ok(())
+}
+
+#[test]
+fn a_certificate_that_is_cut_or_of_other_sources_is_refused(rt: HostRuntime) -> Result<(), Fail> {
+    let alloc = rt.alloc();
+    let whole = certificate(alloc, CLAIM)?;
+    let cut = format!(in alloc; "{FIRST_LINES}{CLAIM}")?;
+    let files = [
+        ("old", ASSIGNED),
+        ("new", OTHER_BYTE),
+        ("whole", whole.as_str()),
+        ("cut", cut.as_str()),
+    ];
+    let rows: [(&[&str], &str); 2] = [
+        (
+            &["check", "old", "new", "cut"],
+            "refused: certificate line 16 rule C8\n",
+        ),
+        (
+            &["check", "new", "old", "whole"],
+            "refused: certificate old f3e7b98b7d4d95f021635d364627ee64e4acd311669841db52966ba816eaeb96 4527ee34a73cbe49b1963da290f1fd8d7b5f74648e52c258c77127032cca9bd8\n",
+        ),
+    ];
+    for (words, line) in rows {
+        let (status, told) = answer_about(&rt, alloc, &files, words)?;
+        assert_eq!(rt; status, Status8::Certificate);
+        assert_eq!(rt; told.as_slice(), line.as_bytes());
+    }
+    Ok(())
+}
