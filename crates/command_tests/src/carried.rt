@@ -6,6 +6,21 @@ use std::process::Abort;
 use std::test::Fail;
 use std::thread::Threads;
 
+/// The answer of `carry` by so many workers, which pass the gate.
+fn carried<R: Threads + Sync>(
+    rt: &R,
+    alloc: Global,
+    old: &str,
+    new: &str,
+    history: &str,
+    workers: &str,
+    gate: &Counter,
+) -> Result<(Status8, Vec<u8>), Fail> {
+    let files = [("old", old), ("new", new), ("history", history)];
+    let words = ["carry", "old", "new", "history", "--workers", workers];
+    answer_counted(rt, alloc, &files, &words, gate)
+}
+
 /// The carried history is the text, by 1 and 2 workers; one test runs, and recording anew gives the same.
 fn carry_agrees<R: Threads + Abort + Sync>(
     rt: &R,
@@ -16,11 +31,9 @@ fn carry_agrees<R: Threads + Abort + Sync>(
     expected: &str,
 ) -> Result<(), Fail> {
     let history = recorded(rt, alloc, old, suite)?;
-    let files = [("old", old), ("new", new), ("history", history.as_str())];
     for workers in ["1", "2"] {
         let gate = Counter::new();
-        let words = ["carry", "old", "new", "history", "--workers", workers];
-        let (status, text) = answer_counted(rt, alloc, &files, &words, &gate)?;
+        let (status, text) = carried(rt, alloc, old, new, history.as_str(), workers, &gate)?;
         assert_eq!(rt; status, Status8::Done);
         assert_eq!(rt; text.as_slice(), expected.as_bytes());
         assert_eq!(rt; gate.count(), 1);

@@ -6,6 +6,20 @@ use std::process::Abort;
 use std::test::Fail;
 use std::thread::Threads;
 
+/// The answer of `order` by so many workers.
+fn ordered<R: Threads + Sync>(
+    rt: &R,
+    alloc: Global,
+    old: &str,
+    new: &str,
+    history: &str,
+    workers: &str,
+) -> Result<(Status8, Vec<u8>), Fail> {
+    let files = [("old", old), ("new", new), ("history", history)];
+    let words = ["order", "old", "new", "history", "--workers", workers];
+    answer_about(rt, alloc, &files, &words)
+}
+
 /// The order of the tests of a suite is the text, by 1, 2 and 64 workers.
 fn order_agrees<R: Threads + Abort + Sync>(
     rt: &R,
@@ -16,10 +30,8 @@ fn order_agrees<R: Threads + Abort + Sync>(
     expected: &str,
 ) -> Result<(), Fail> {
     let history = recorded(rt, alloc, old, suite)?;
-    let files = [("old", old), ("new", new), ("history", history.as_str())];
     for workers in ["1", "2", "64"] {
-        let words = ["order", "old", "new", "history", "--workers", workers];
-        let (status, text) = answer_about(rt, alloc, &files, &words)?;
+        let (status, text) = ordered(rt, alloc, old, new, history.as_str(), workers)?;
         assert_eq!(rt; status, Status8::Done);
         assert_eq!(rt; text.as_slice(), expected.as_bytes());
     }
