@@ -3,9 +3,9 @@ use Rattle.std.proofs.Common.{◌≡◌, ◌<◌, ◌≤◌, ◌+◌, ℕ, List,
 use Rattle.std.specs.Fmt.{decimal}
 use Rattle.std.proofs.lemmas.Fmt.{decimal_injective}
 use Rattle.cert_text.specs.declared.bounds.Bounds.{Bounds}
-use Rattle.cert_text.specs.Lines.{HasNumber}
+use Rattle.line_text.specs.Values.{HasNumber}
 use Rattle.cert_text.specs.Rules.{Rule, c1, c2, c3, c4, c5, c6, c7, c8, c9, number_of, IsAsked, SaysEdges, SaysPairs}
-use Rattle.cert_text.proofs.ValueLemmas.{one_value}
+use Rattle.line_text.proofs.LawsOfValues.{one_value}
 
 -- a rule is known by its number
 rule_of : ℕ → Rule

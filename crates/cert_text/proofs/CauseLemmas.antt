@@ -5,15 +5,16 @@ use Rattle.std.specs.Int.{w32, to_be_bytes, bytes_high_first, byte_at}
 use Rattle.std.proofs.lemmas.Bool.{cases_lt}
 use Rattle.hex.specs.Hex.{encode_lower, IsBytes}
 use Rattle.sha2.specs.Sha256.{sha256, digest_bytes}
-use Rattle.line_text.specs.Lines.{text_of_lines}
+use Rattle.line_text.specs.Lines.{text_of_lines, line_at}
 use Rattle.cert_text.specs.declared.bounds.Bounds.{Bounds}
 use Rattle.cert_text.specs.declared.error.CertificateError.{CertificateError}
 use Rattle.cert_text.specs.declared.error.CertificateError.TheVariants.{TooLong, Malformed, Sum, Old, New, Memory}
 use Rattle.cert_text.specs.Causes.{SaysCertificate, IsTextOf, HasCause, IsOnlyCause}
 use Rattle.cert_text.specs.Certificates.{CertificateParts}
-use Rattle.cert_text.specs.CertificateTexts.{title, numbers_of, danger_lines, pairs_lines, end_line, text_before_end, text_with_sum, most_certificate_bytes}
+use Rattle.edge_trace.specs.Rows.{numbers_of}
+use Rattle.cert_text.specs.CertificateTexts.{title, danger_lines, pairs_lines, end_line, text_before_end, text_with_sum, most_certificate_bytes}
 use Rattle.cert_text.specs.Faults.{IsReadTo, IsRefusalOf}
-use Rattle.cert_text.specs.Lines.{IsDigest, value_line, line_at}
+use Rattle.line_text.specs.Values.{IsDigest, value_line}
 use Rattle.cert_text.specs.Rules.{c9, Keeps, IsFirstFault, SaysPairs}
 use Rattle.cert_text.proofs.AskedLemmas.{same_rule, asked_once, asked_after, asked_within}
 use Rattle.cert_text.proofs.ReadLemmas.{line_next, at_line}

@@ -2,16 +2,14 @@
 use Rattle.std.proofs.Common.{◌≡◌, ◌<◌, ◌≤◌, ◌+◌, ℕ, suc, Option, Some, None, List, [], ◌∷◌, ◌++◌, length, map, refl, subst, ◌∙◌, arith, append_assoc}
 use Rattle.std.specs.List.{All}
 use Rattle.std.proofs.lemmas.List.Elements.{All-head, All-tail}
-use Rattle.line_text.specs.Lines.{text_of_lines}
+use Rattle.line_text.specs.Lines.{text_of_lines, HasLine}
 use Rattle.cert_text.specs.declared.bounds.Bounds.{Bounds}
 use Rattle.cert_text.specs.Certificates.{IsAfter, RiseAfter}
 use Rattle.cert_text.specs.Faults.{IsReadTo}
-use Rattle.cert_text.specs.Lines.{HasLine}
 use Rattle.cert_text.specs.Rules.{Rule, number_of, IsAsked, Keeps, IsFirstFault}
 use Rattle.cert_text.proofs.AskedLemmas.{IsOnly}
-use Rattle.cert_text.proofs.PlainLemmas.{IsPlain}
+use Rattle.line_text.proofs.LawsOfValues.{IsPlain, one_line}
 use Rattle.cert_text.proofs.ReadLemmas.{in_rest, has_next, one_more, fault_next, at_line}
-use Rattle.cert_text.proofs.ValueLemmas.{one_line}
 
 -- the last of a list, and what stands before where it is empty
 abbrev pub last_of : {X : Type 0} → Option X → List X → Option X

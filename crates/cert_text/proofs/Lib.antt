@@ -6,7 +6,5 @@ mod PlainLemmas
 mod ReadLemmas
 mod RowLemmas
 mod ScanLemmas
-mod TextLemmas
 mod SameLemmas
-mod ValueLemmas
 mod WholeLemmas

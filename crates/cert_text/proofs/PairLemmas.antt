@@ -4,22 +4,22 @@ use Rattle.std.specs.Fmt.{decimal}
 use Rattle.std.specs.List.{All}
 use Rattle.std.proofs.lemmas.Fmt.{decimal_nonempty}
 use Rattle.std.proofs.lemmas.List.{map-append}
-use Rattle.edge_trace.specs.Rows.{has}
+use Rattle.edge_trace.specs.Rows.{has, numbers_of}
 use Rattle.edge_trace.proofs.Laws.{has-set_other}
-use Rattle.line_text.specs.Lines.{text_of_lines}
+use Rattle.line_text.specs.Lines.{text_of_lines, HasLine}
 use Rattle.line_text.specs.Words.{line_of_words, pieces, StartsWithNoWord}
 use Rattle.line_text.proofs.Laws.{line_of_words-pieces}
 use Rattle.cert_text.specs.declared.bounds.Bounds.{Bounds}
 use Rattle.cert_text.specs.declared.pair.Pair.{Pair}
 use Rattle.cert_text.specs.Certificates.{IsAfter, RiseAfter, IsBefore, IsBelow, Rise, most_pairs}
-use Rattle.cert_text.specs.CertificateTexts.{numbers_of, edge_line, pair_line}
+use Rattle.cert_text.specs.CertificateTexts.{edge_line, pair_line}
 use Rattle.cert_text.specs.Faults.{IsReadTo}
-use Rattle.cert_text.specs.Lines.{HasLine, value_line}
+use Rattle.line_text.specs.Values.{value_line}
 use Rattle.cert_text.specs.Rules.{c5, c7, IsFirstFault, SaysEdges}
 use Rattle.cert_text.proofs.ItemLemmas.{last_of, items_read, fault_item}
-use Rattle.cert_text.proofs.RowLemmas.{numbers_of-set}
+use Rattle.edge_trace.proofs.LawsOfNumbers.{numbers_of-set}
 use Rattle.cert_text.proofs.SameLemmas.{IsSmall, pieces_of_two}
-use Rattle.cert_text.proofs.TextLemmas.{lines_append}
+use Rattle.line_text.proofs.LawsOfTexts.{lines_append}
 use Rattle.cert_text.proofs.WholeLemmas.{count_read, edge_items, pairs_count_read, pair_items}
 
 -- ---- two words

@@ -3,14 +3,13 @@ use Rattle.std.proofs.Common.{◌≡◌, ◌+◌, ◌-◌, ℕ, zero, suc, true,
 use Rattle.std.specs.List.{slice_get}
 use Rattle.std.proofs.lemmas.Bool.{cases_lt}
 use Rattle.std.proofs.lemmas.List.{drop-drop}
-use Rattle.line_text.specs.Lines.{lines_of, line_with}
+use Rattle.line_text.specs.Lines.{lines_of, line_with, HasLine, line_at}
 use Rattle.line_text.proofs.Laws.{lines_of-ended}
 use Rattle.cert_text.specs.declared.bounds.Bounds.{Bounds}
 use Rattle.cert_text.specs.Faults.{IsReadTo}
-use Rattle.cert_text.specs.Lines.{HasLine, line_at}
 use Rattle.cert_text.specs.Rules.{Rule, number_of, IsAsked, Keeps, IsFirstFault}
 use Rattle.cert_text.proofs.AskedLemmas.{IsOnly, asked_some}
-use Rattle.cert_text.proofs.PlainLemmas.{IsPlain}
+use Rattle.line_text.proofs.LawsOfValues.{IsPlain}
 
 slice_get-drop : {X : Type 0} (n : ℕ) (xs : List X) → slice_get (drop n xs) 0 ≡ slice_get xs n
 slice_get-drop zero xs = refl

@@ -13,11 +13,13 @@ use Rattle.line_text.proofs.Laws.{lines_of-text_of_lines, bytes_or_dash-injectiv
 use Rattle.cert_text.specs.declared.bounds.Bounds.{Bounds}
 use Rattle.cert_text.specs.declared.pair.Pair.{Pair}
 use Rattle.cert_text.specs.Certificates.{CertificateParts, IsBelow, IsReadable}
-use Rattle.cert_text.specs.CertificateTexts.{title, numbers_of, edge_line, pair_line, first_lines, danger_lines, pairs_lines, end_line, text_with_sum}
-use Rattle.cert_text.specs.Lines.{IsDigest, value_line}
-use Rattle.cert_text.proofs.PlainLemmas.{IsPlain, plain_word, plain_value, plain_decimal, plain_digest, plain_edge, plain_pair}
-use Rattle.cert_text.proofs.RowLemmas.{numbers_of-injective, below-numbers_of, few-numbers_of}
-use Rattle.cert_text.proofs.TextLemmas.{lines_append}
+use Rattle.edge_trace.specs.Rows.{numbers_of}
+use Rattle.cert_text.specs.CertificateTexts.{title, edge_line, pair_line, first_lines, danger_lines, pairs_lines, end_line, text_with_sum}
+use Rattle.line_text.specs.Values.{IsDigest, value_line}
+use Rattle.line_text.proofs.LawsOfValues.{IsPlain, plain_word, plain_value, plain_decimal, plain_digest}
+use Rattle.cert_text.proofs.PlainLemmas.{plain_edge, plain_pair}
+use Rattle.edge_trace.proofs.LawsOfNumbers.{numbers_of-injective, below-numbers_of, few-numbers_of}
+use Rattle.line_text.proofs.LawsOfTexts.{lines_append}
 
 -- the numbers of programs that a reader meets
 pub record IsSmall (bounds : Bounds) : Type 0 where

@@ -5,11 +5,11 @@ use Rattle.std.specs.List.{range_with_len}
 use Rattle.hex.specs.Hex.{encode_lower, lower_digits}
 use Rattle.hex.proofs.HexLemmas.{length-encode_with}
 use Rattle.sha2.specs.Sha256.{sha256}
-use Rattle.edge_trace.specs.Rows.{has}
+use Rattle.edge_trace.specs.Rows.{has, numbers_of}
 use Rattle.line_text.specs.Lines.{text_of_lines}
 use Rattle.cert_text.specs.Certificates.{CertificateParts}
-use Rattle.cert_text.specs.CertificateTexts.{numbers_of, edge_line, pair_line, title, first_lines, danger_lines, pairs_lines, end_line, text_before_end, certificate_text}
-use Rattle.cert_text.specs.Lines.{value_line}
+use Rattle.cert_text.specs.CertificateTexts.{edge_line, pair_line, title, first_lines, danger_lines, pairs_lines, end_line, text_before_end, certificate_text}
+use Rattle.line_text.specs.Values.{value_line}
 use Rattle.cert_text.proofs.CauseLemmas.{length-sha256}
 
 -- the numbers of a row from one on

@@ -4,19 +4,22 @@ use Rattle.std.specs.Fmt.{decimal}
 use Rattle.std.specs.List.{All, slice_get, slice_split, join_with_byte}
 use Rattle.std.proofs.lemmas.List.Splits.{join_with_byte-slice_split}
 use Rattle.hex.specs.Hex.{encode_lower}
-use Rattle.line_text.specs.Lines.{lines_of, lines_between, text_of_lines}
+use Rattle.line_text.specs.Lines.{lines_of, lines_between, text_of_lines, HasLine, line_at}
 use Rattle.cert_text.specs.declared.bounds.Bounds.{Bounds}
 use Rattle.cert_text.specs.declared.pair.Pair.{Pair}
 use Rattle.cert_text.specs.Certificates.{IsBefore, IsBelow, Rise, most_pairs}
-use Rattle.cert_text.specs.CertificateTexts.{title, numbers_of, edge_line, pair_line, danger_lines, pairs_lines, end_line}
+use Rattle.edge_trace.specs.Rows.{numbers_of}
+use Rattle.cert_text.specs.CertificateTexts.{title, edge_line, pair_line, danger_lines, pairs_lines, end_line}
 use Rattle.cert_text.specs.Faults.{IsReadTo}
-use Rattle.cert_text.specs.Lines.{IsDigest, HasLine, HasNumber, HasDigest, value_line, line_at}
+use Rattle.line_text.specs.Values.{IsDigest, HasNumber, HasDigest, value_line}
 use Rattle.cert_text.specs.Rules.{Rule, c1, c2, c3, c4, c5, c6, c7, c8, c9, Keeps, IsFirstFault, SaysEdges, SaysPairs}
 use Rattle.cert_text.proofs.AskedLemmas.{IsOnly, only_head, only_one, edges_same}
 use Rattle.cert_text.proofs.ItemLemmas.{AreItems, items_read}
-use Rattle.cert_text.proofs.PlainLemmas.{IsPlain, lacks_newline, plain_word, plain_value, plain_decimal, plain_digest, plain_edge, plain_pair}
+use Rattle.line_text.proofs.LawsOfValues.{IsPlain, lacks_newline, plain_word, plain_value, plain_decimal, plain_digest}
+use Rattle.cert_text.proofs.PlainLemmas.{plain_edge, plain_pair}
 use Rattle.cert_text.proofs.ReadLemmas.{in_rest, has_next, none_read, one_more, fault_next, at_line, line_next}
-use Rattle.cert_text.proofs.RowLemmas.{rise-numbers_of, few-numbers_of}
+use Rattle.edge_trace.proofs.LawsOfNumbers.{few-numbers_of}
+use Rattle.cert_text.proofs.RowLemmas.{rise-numbers_of}
 use Rattle.cert_text.proofs.SameLemmas.{IsSmall, number_same, pair_same, danger_below}
 
 -- ---- a line of a digest, and one of a number

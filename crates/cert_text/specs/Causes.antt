@@ -8,7 +8,7 @@ use Rattle.cert_text.specs.declared.error.CertificateTextError.{CertificateTextE
 use Rattle.cert_text.specs.declared.error.CertificateTextError.TheVariants.{TooLong, Memory}
 use Rattle.cert_text.specs.Certificates.{CertificateParts, IsReadable}
 use Rattle.cert_text.specs.CertificateTexts.{certificate_text, text_before_end, text_with_sum, most_certificate_bytes}
-use Rattle.cert_text.specs.Lines.{IsDigest}
+use Rattle.line_text.specs.Values.{IsDigest}
 use Rattle.cert_text.specs.Rules.{IsFirstFault}
 
 -- what each refusal says of the certificate; want of memory may come at any

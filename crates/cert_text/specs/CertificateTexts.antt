@@ -1,19 +1,14 @@
 -- The text of a certificate.
-use Rattle.std.specs.Prelude.{ℕ, Bool, List, [], ◌∷◌, ◌++◌, length, map, filter, codes}
+use Rattle.std.specs.Prelude.{ℕ, Bool, List, [], ◌∷◌, ◌++◌, length, map, codes}
 use Rattle.std.specs.Fmt.{decimal}
-use Rattle.std.specs.List.{range_with_len}
 use Rattle.hex.specs.Hex.{encode_lower}
 use Rattle.sha2.specs.Sha256.{sha256}
 use Rattle.line_text.specs.Lines.{text_of_lines}
 use Rattle.line_text.specs.Words.{line_of_words}
-use Rattle.edge_trace.specs.Rows.{has}
+use Rattle.edge_trace.specs.Rows.{numbers_of}
 use Rattle.cert_text.specs.declared.pair.Pair.{Pair}
 use Rattle.cert_text.specs.Certificates.{CertificateParts}
-use Rattle.cert_text.specs.Lines.{value_line}
-
--- the numbers of a row: those below its bound that are in it, rising
-abbrev pub numbers_of : List Bool → List ℕ
-numbers_of row = filter (has row) (range_with_len 0 (length row))
+use Rattle.line_text.specs.Values.{value_line}
 
 -- the line of an edge
 abbrev pub edge_line : ℕ → List ℕ

@@ -2,7 +2,7 @@
 use Rattle.std.specs.Prelude.{◌≡◌, ◌≤◌, ◌<◌, ◌⊎◌, ⊤, ℕ, Bool, List, [], ◌∷◌, length, All, Option, Some, None}
 use Rattle.cert_text.specs.declared.bounds.Bounds.{Bounds}
 use Rattle.cert_text.specs.declared.pair.Pair.{Pair}
-use Rattle.cert_text.specs.Lines.{IsDigest}
+use Rattle.line_text.specs.Values.{IsDigest}
 
 -- a certificate as contracts see it: the SHA-256 digests of the old and the new source, the row of the old program's edges
 -- at which the versions may part, and the pairs of points that are claimed

@@ -1,4 +1,3 @@
-pub mod Lines
 pub mod Certificates
 pub mod CertificateTexts
 pub mod Rules

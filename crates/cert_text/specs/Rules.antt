@@ -4,7 +4,8 @@ use Rattle.cert_text.specs.declared.bounds.Bounds.{Bounds}
 use Rattle.cert_text.specs.declared.pair.Pair.{Pair}
 use Rattle.cert_text.specs.Certificates.{IsBefore, IsBelow, most_pairs}
 use Rattle.cert_text.specs.CertificateTexts.{title, edge_line, pair_line}
-use Rattle.cert_text.specs.Lines.{HasLine, HasNumber, HasDigest, line_at}
+use Rattle.line_text.specs.Lines.{HasLine, line_at}
+use Rattle.line_text.specs.Values.{HasNumber, HasDigest}
 
 -- the rules of a certificate's lines
 pub data Rule : Type 0 where

@@ -5,12 +5,12 @@ ghost use Rattle.line_text.specs.Words.{line_of_words};
 ghost use Rattle.cert_text.specs.declared.pair.Pair.{Pair};
 ghost use Rattle.cert_text.specs.Certificates.{IsAfter, IsBefore, IsBelow};
 ghost use Rattle.cert_text.specs.CertificateTexts.{edge_line, pair_line};
-ghost use Rattle.cert_text.specs.Lines.{HasLine};
+ghost use Rattle.line_text.specs.Lines.{HasLine};
 
 use crate::bounds::Bounds;
 use crate::pair::Pair;
-use crate::values::{cut_value, read_number};
-use line_text::{cut_word, read_decimal};
+use crate::values::read_number;
+use line_text::{cut_value, cut_word, read_decimal};
 
 /// Reads the line of an edge below `edges`, which comes after the last one that was read.
 pub fn read_edge(text: &[u8], last: Option<u32>, edges: u32) -> Option<(u32, &[u8])>

@@ -3,12 +3,13 @@ ghost use Rattle.std.specs.Prelude.{◌≡◌, ◌≤◌, length, map};
 ghost use Rattle.std.specs.Fmt.{decimal};
 ghost use Rattle.line_text.specs.Lines.{text_of_lines};
 ghost use Rattle.cert_text.specs.Certificates.{IsWithin, most_pairs};
-ghost use Rattle.cert_text.specs.CertificateTexts.{certificate_text, edge_line, pair_line, numbers_of};
+ghost use Rattle.edge_trace.specs.Rows.{numbers_of};
+ghost use Rattle.cert_text.specs.CertificateTexts.{certificate_text, edge_line, pair_line};
 
 use crate::certificate::Certificate;
 use crate::pair::Pair;
 use edge_trace::EdgeRow;
-use itoa::Buffer;
+use line_text::decimal_length;
 
 // `dejavu certificate 1`, `old`, `new`, `dangerous`, `pairs` and `end`, with what stands between words and lines.
 const FRAME_BYTES: u64 = 21 + 5 + 5 + 11 + 7 + 5;
@@ -57,13 +58,4 @@ fn pairs_length(pairs: &[Pair]) -> u64
         length += 7 + decimal_length(u64::from(pair.old)) + decimal_length(u64::from(pair.new));
     }
     length
-}
-
-// A number in decimal.
-fn decimal_length(number: u64) -> u64
-    ensures exact { result ≡ length (decimal number) }
-    ensures small { result ≤ 20 }
-{
-    let mut buffer = Buffer::new();
-    buffer.format(number).len() as u64
 }

@@ -3,38 +3,11 @@ ghost use Rattle.std.specs.Prelude.{◌≡◌, ◌++◌, ◌∷◌, [], OnOk};
 ghost use Rattle.std.specs.Fmt.{decimal};
 ghost use Rattle.hex.specs.Hex.{encode_lower};
 ghost use Rattle.cert_text.specs.CertificateTexts.{pair_line};
-ghost use Rattle.cert_text.specs.Lines.{value_line};
+ghost use Rattle.line_text.specs.Values.{value_line};
 
 use crate::pair::Pair;
 use line_text::{push_decimal, push_hex};
 use std::alloc::AllocError;
-
-/// Appends the line of a word and a number in decimal.
-pub fn push_number_line(text: &mut Vec<u8>, word: &[u8], number: u64) -> Result<(), AllocError>
-    ensures { OnOk result (text.new.items ≡ text.old.items ++ value_line word.now (decimal number) ++ 10 ∷ []) }
-{
-    text.extend_from_slice(word)?;
-    text.push(b' ')?;
-    push_decimal(text, number)?;
-    text.push(b'\n')?;
-    Ok(())
-}
-
-/// Appends the line of a word and a digest in hexadecimal.
-pub fn push_digest_line(
-    text: &mut Vec<u8>,
-    word: &[u8],
-    digest: &[u8; 32],
-) -> Result<(), AllocError>
-    ensures { OnOk result
-        (text.new.items ≡ text.old.items ++ value_line word.now (encode_lower digest.now) ++ 10 ∷ []) }
-{
-    text.extend_from_slice(word)?;
-    text.push(b' ')?;
-    push_hex(text, digest)?;
-    text.push(b'\n')?;
-    Ok(())
-}
 
 /// Appends the line of a pair.
 pub fn push_pair_line(text: &mut Vec<u8>, pair: Pair) -> Result<(), AllocError>

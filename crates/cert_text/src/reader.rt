@@ -5,17 +5,19 @@ ghost use Rattle.sha2.specs.Sha256.{sha256};
 ghost use Rattle.line_text.specs.Lines.{text_of_lines};
 ghost use Rattle.cert_text.specs.Causes.{HasCause, HasNoCause, IsOnlyCause, IsTextOf, SaysCertificate};
 ghost use Rattle.cert_text.specs.Certificates.{CertificateParts, IsBelow, Rise, most_pairs};
-ghost use Rattle.cert_text.specs.CertificateTexts.{title, danger_lines, pairs_lines, numbers_of, text_before_end, end_line, most_certificate_bytes};
+ghost use Rattle.edge_trace.specs.Rows.{numbers_of};
+ghost use Rattle.cert_text.specs.CertificateTexts.{title, danger_lines, pairs_lines, text_before_end, end_line, most_certificate_bytes};
 ghost use Rattle.cert_text.specs.Faults.{IsRefusalOf, IsEdgesRefusal, IsPairsRefusal, IsEndRefusal};
-ghost use Rattle.cert_text.specs.Lines.{IsDigest, value_line};
+ghost use Rattle.line_text.specs.Values.{IsDigest, value_line};
 
 use crate::bounds::Bounds;
 use crate::certificate::Certificate;
 use crate::error::CertificateError;
 use crate::items::{read_edge, read_pair};
 use crate::pair::Pair;
-use crate::values::{read_digest_line, read_number, read_title};
+use crate::values::{read_number, read_title};
 use edge_trace::EdgeRow;
+use line_text::read_digest_line;
 use sha2::{Digest, Sha256};
 use std::alloc::Global;
 

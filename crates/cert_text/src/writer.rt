@@ -9,9 +9,10 @@ ghost use Rattle.cert_text.specs.CertificateTexts.{certificate_text, first_lines
 use crate::certificate::Certificate;
 use crate::error::CertificateTextError;
 use crate::length::text_length;
-use crate::lines::{push_digest_line, push_number_line, push_pair_line};
+use crate::lines::push_pair_line;
 use crate::pair::Pair;
 use edge_trace::EdgeRow;
+use line_text::{push_digest_line, push_number_line};
 use sha2::{Digest, Sha256};
 use std::alloc::{AllocError, Global};
 

@@ -19,7 +19,8 @@ use Rattle.call_walk.specs.Lockstep.{SameRuns, CrossesNone}
 use Rattle.csub_accept.specs.Accepted.{Accepted}
 use Rattle.test_suite.specs.Tests.{TestParts}
 use Rattle.test_suite.specs.Suites.{names_of as suite_names}
-use Rattle.test_history.specs.Histories.{EntryParts, HistoryParts, IsDigest, IsByteStatus, IsEntryOfBytes, names_of}
+use Rattle.line_text.specs.Values.{IsDigest}
+use Rattle.test_history.specs.Histories.{EntryParts, HistoryParts, IsByteStatus, IsEntryOfBytes, names_of}
 use Rattle.test_history.specs.HistoryTexts.{history_text}
 use Rattle.test_select.specs.declared.choice.Choice.{Choice}
 use Rattle.test_select.specs.declared.choice.Choice.TheVariants.{Left}

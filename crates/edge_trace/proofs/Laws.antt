@@ -1,5 +1,5 @@
 -- Laws of rows: what a set has after each call, for proofs here and above.
-use Rattle.std.proofs.Common.{◌≡◌, ◌≢◌, ◌<◌, ◌≤◌, ℕ, zero, suc, Bool, true, false, not, ◌&&◌, ◌||◌, ◌⊎◌, inl, inr, List, length, set, replicate, refl, arith, get_or-set_same, get_or-set_other}
+use Rattle.std.proofs.Common.{◌≡◌, ◌≢◌, ◌<◌, ◌≤◌, ℕ, Bool, true, false, not, ◌&&◌, ◌||◌, ◌⊎◌, inl, inr, IsTrue, List, length, set, replicate, refl, arith, get_or-set_same, get_or-set_other}
 use Rattle.std.proofs.lemmas.Bool.{cases_lt}
 use Rattle.std.proofs.lemmas.List.{get_or_past, get_or-replicate, ext_get_or, length-replicate}
 use Rattle.std.proofs.lemmas.List.FromFn.{length-map-range_with_len, get_or-map-range_with_len}
@@ -10,6 +10,14 @@ use Rattle.edge_trace.specs.Rows.{has, below, union, difference}
 -- no number from the bound on is in the set
 pub has_past : (row : List Bool) (edge : ℕ) → length row ≤ edge → has row edge ≡ false
 has_past row edge past = get_or_past row edge false past
+
+-- so a number of the set is below the bound
+pub has-within : (row : List Bool) (edge : ℕ) → IsTrue (has row edge) → edge < length row
+has-within row edge is_in = at (cases_lt edge (length row))
+  where
+    at : (edge < length row) ⊎ (length row ≤ edge) → edge < length row
+    at (inl within) = within
+    at (inr past) = let none : has row edge ≡ false = has_past row edge past in cc
 
 -- rows of the same bound that have the same numbers are one
 pub same_rows : (a b : List Bool) → length a ≡ length b → ((edge : ℕ) → edge < length a → has a edge ≡ has b edge) → a ≡ b

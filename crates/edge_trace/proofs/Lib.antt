@@ -4,4 +4,5 @@ mod CommonLemmas
 mod CountLemmas
 pub mod Laws
 pub mod LawsOfBytes
+pub mod LawsOfNumbers
 mod Threads

@@ -1,6 +1,6 @@
 -- Sets of numbers below a bound. A row has one truth value a number: its length is the bound.
 use Rattle.std.specs.Prelude.{ℕ, ◌+◌, ◌*◌, ◌^◌, ◌<◌, Bool, false, IsTrue, not, ◌&&◌, ◌||◌, if◌then◌else◌}
-use Rattle.std.specs.Prelude.{List, [], ◌∷◌, map, length, count_by, sum_by, slice_index_or}
+use Rattle.std.specs.Prelude.{List, [], ◌∷◌, map, filter, length, count_by, sum_by, slice_index_or}
 use Rattle.std.specs.List.{range_with_len}
 
 -- whether the number is in the set; no number from the bound on is
@@ -10,6 +10,10 @@ has row edge = slice_index_or row edge false
 -- the set of the numbers below a bound that pass a test
 unfoldable pub below : ℕ → (ℕ → Bool) → List Bool
 below bound test = map test (range_with_len 0 bound)
+
+-- the numbers that are in the set, rising
+abbrev pub numbers_of : List Bool → List ℕ
+numbers_of row = filter (has row) (range_with_len 0 (length row))
 
 -- how many numbers are in the set
 abbrev pub size : List Bool → ℕ

@@ -1,5 +1,5 @@
 -- Laws of words and lines, for proofs above: what is written is read back.
-use Rattle.std.proofs.Common.{inl, inr, ◌≡◌, ◌≢◌, ℕ, ◌^◌, ◌<◌, ◌/◌, ◌%◌, eqb, leb, Bool, true, false, ◌&&◌, lit<, List, [], ◌∷◌, ◌++◌, length, map, get_or, refl, ap, ◌∙◌, arith, append_assoc}
+use Rattle.std.proofs.Common.{inl, inr, ◌≡◌, ◌≢◌, ℕ, ◌^◌, ◌<◌, ◌*◌, ◌/◌, ◌%◌, eqb, leb, Bool, true, false, ◌&&◌, lit<, List, [], ◌∷◌, ◌++◌, length, map, get_or, refl, ap, ◌∙◌, arith, append_assoc}
 use Rattle.std.proofs.lemmas.Bool.{cases_lt}
 use Rattle.std.proofs.lemmas.List.{get_or_past}
 use Rattle.std.proofs.lemmas.List.Elements.{All-nil, All-cons, All-head, All-tail, All-weaker}
@@ -114,6 +114,11 @@ IsWord-bytes_or_dash bytes = record {
   no_space = bytes_or_dash-lack 32 bytes (lit< tt) (lit< tt);
   no_newline = bytes_or_dash-lack 10 bytes (lit< tt) (lit< tt);
 }
+
+-- it is `-`, or has two digits for each byte
+pub length-bytes_or_dash : (bytes : List ℕ) → 0 < length bytes → length (bytes_or_dash bytes) ≡ 2 * length bytes
+length-bytes_or_dash [] some = absurd (omega arith)
+length-bytes_or_dash (byte ∷ more) some = length-encode_with lower_digits (byte ∷ more)
 
 -- ---- a word stands for one value
 

@@ -3,4 +3,7 @@ mod CutLemmas
 mod HexadecimalLemmas
 pub mod Laws
 pub mod LawsOfNumbers
+pub mod LawsOfTexts
+pub mod LawsOfValues
 mod NumberLemmas
+mod ValueLemmas

@@ -1,5 +1,5 @@
 -- The lines of a text, each ended by one newline.
-use Rattle.std.specs.Prelude.{◌==◌, ◌++◌, ℕ, Bool, true, false, List, [], ◌∷◌, length, if◌then◌else◌}
+use Rattle.std.specs.Prelude.{◌≡◌, ◌==◌, ◌-◌, ◌++◌, ℕ, Bool, true, false, List, [], ◌∷◌, length, Option, Some, slice_get, if◌then◌else◌}
 use Rattle.std.specs.List.{slice_split}
 
 -- a line without its newline, and whether it has one
@@ -24,3 +24,11 @@ lines_of text = lines_between (slice_split (λ byte. byte == 10) text)
 abbrev pub text_of_lines : List (List ℕ) → List ℕ
 text_of_lines [] = []
 text_of_lines (line ∷ more) = line ++ 10 ∷ text_of_lines more
+
+-- line n of a text, counted from 1, where it has one
+abbrev pub line_at : List ℕ → ℕ → Option TextLine
+line_at text n = slice_get (lines_of text) (n - 1)
+
+-- line n is there, ended by its newline, and has these bytes
+abbrev pub HasLine : List ℕ → ℕ → List ℕ → Type 0
+HasLine text n line = line_at text n ≡ Some (line_with line true)

@@ -1,5 +1,5 @@
 // Bytes as one word of a line.
-ghost use Rattle.std.specs.Prelude.{◌≡◌, ◌≢◌, ◌++◌, ℕ, List, OnOk, OnErr, IfOk, MatchOption};
+ghost use Rattle.std.specs.Prelude.{◌≡◌, ◌≢◌, ◌≤◌, ◌+◌, ◌*◌, ◌++◌, ℕ, List, length, OnOk, OnErr, IfOk, MatchOption};
 ghost use Rattle.hex.specs.Hex.{IsBytes};
 ghost use Rattle.line_text.specs.Bytes.{bytes_or_dash};
 
@@ -16,6 +16,18 @@ pub fn push_bytes_or_dash(out: &mut Vec<u8>, bytes: &[u8]) -> Result<(), AllocEr
         out.extend_from_slice(b"-")
     } else {
         push_hex(out, bytes)
+    }
+}
+
+/// How many bytes `push_bytes_or_dash` appends for some bytes.
+pub fn bytes_or_dash_length(bytes: &[u8]) -> u64
+    ensures exact { result ≡ length (bytes_or_dash bytes.now) }
+    ensures small { result ≤ 1 + 2 * length bytes.now }
+{
+    if bytes.is_empty() {
+        1
+    } else {
+        2 * bytes.len() as u64
     }
 }
 

@@ -1,5 +1,5 @@
 // Decimal numbers.
-ghost use Rattle.std.specs.Prelude.{◌≡◌, ◌≢◌, ◌≤◌, ◌++◌, ℕ, ℤ, OnOk, OnErr, MatchOption, FitsSigned};
+ghost use Rattle.std.specs.Prelude.{◌≡◌, ◌≢◌, ◌≤◌, ◌++◌, ℕ, ℤ, length, OnOk, OnErr, MatchOption, FitsSigned};
 ghost use Rattle.std.specs.Int.{w64};
 ghost use Rattle.std.specs.Fmt.{decimal, signed_decimal};
 
@@ -22,6 +22,15 @@ pub fn push_signed(out: &mut Vec<u8>, number: i64) -> Result<(), AllocError>
 {
     let mut buffer = Buffer::new();
     out.extend_from_slice(buffer.format(number).as_bytes())
+}
+
+/// How many digits `push_decimal` appends for a number.
+pub fn decimal_length(number: u64) -> u64
+    ensures exact { result ≡ length (decimal number) }
+    ensures small { result ≤ 20 }
+{
+    let mut buffer = Buffer::new();
+    buffer.format(number).len() as u64
 }
 
 /// Reads a number of at most `most`, and refuses every text that `push_decimal` does not write of one:

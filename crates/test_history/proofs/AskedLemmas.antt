@@ -4,7 +4,7 @@ use Rattle.std.specs.Fmt.{decimal}
 use Rattle.std.proofs.lemmas.Fmt.{decimal_injective}
 use Rattle.test_history.specs.declared.version.Version.{Version}
 use Rattle.test_history.specs.Rules.{Rule, h1, h2, h3, h4, h5, h6, h7, h8, h9, h10, h11, h12, h13, h14, number_of, IsAsked, IsOfEntry, Keeps, SaysEdges, SaysTests}
-use Rattle.test_history.proofs.ValueLemmas.{one_value}
+use Rattle.line_text.proofs.LawsOfValues.{one_value}
 
 -- a rule is known by its number
 rule_of : ℕ → Rule

@@ -8,21 +8,22 @@ use Rattle.std.proofs.lemmas.Fmt.{decimal_injective}
 use Rattle.hex.specs.Hex.{encode_lower, IsBytes}
 use Rattle.std.specs.Int.{w32, to_be_bytes, bytes_high_first, byte_at}
 use Rattle.sha2.specs.Sha256.{sha256, digest_bytes}
-use Rattle.line_text.specs.Lines.{text_of_lines}
+use Rattle.line_text.specs.Lines.{text_of_lines, HasLine, line_at}
 use Rattle.test_history.specs.declared.error.HistoryError.{HistoryError}
 use Rattle.test_history.specs.declared.error.HistoryError.TheVariants.{TooLong, Version, Malformed, Sum, Foreign, EdgeCount, Memory}
 use Rattle.test_history.specs.declared.version.Version.{Version as Format}
 use Rattle.test_history.specs.Causes.{IsOfOther, SaysHistory, HasHistoryCause, IsOnlyCause}
 use Rattle.test_history.specs.Faults.{IsReadTo, IsHead, IsRefusalOf, head_lines}
-use Rattle.test_history.specs.Histories.{HistoryParts, IsDigest, IsReadable}
-use Rattle.test_history.specs.HistoryTexts.{value_line, version_line, entry_lines, text_before_end, text_with_sum, versioned_text, most_history_bytes}
-use Rattle.test_history.specs.Rules.{h14, number_of, IsFirstFault, HasLine, SaysTests, line_at}
+use Rattle.line_text.specs.Values.{IsDigest, value_line}
+use Rattle.test_history.specs.Histories.{HistoryParts, IsReadable}
+use Rattle.test_history.specs.HistoryTexts.{version_line, entry_lines, text_before_end, text_with_sum, versioned_text, most_history_bytes}
+use Rattle.test_history.specs.Rules.{h14, number_of, IsFirstFault, SaysTests}
 use Rattle.test_history.proofs.AskedLemmas.{keeps_same, asked_after, asked_within}
 use Rattle.test_history.proofs.LengthLemmas.{length-sha256}
 use Rattle.test_history.proofs.ReadLemmas.{line_next, at_line}
 use Rattle.test_history.proofs.SameLemmas.{good_entries, histories_same}
 use Rattle.test_history.proofs.WholeLemmas.{head_read, entries_end, end_read, no_version}
-use Rattle.test_history.proofs.ValueLemmas.{one_value}
+use Rattle.line_text.proofs.LawsOfValues.{one_value}
 
 -- ---- a text of a history has no fault
 

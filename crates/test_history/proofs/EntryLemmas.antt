@@ -7,19 +7,20 @@ use Rattle.hex.specs.Hex.{IsBytes}
 use Rattle.csub_semantics.specs.Memory.{most_output}
 use Rattle.csub_semantics.specs.declared.status.Status.{Status}
 use Rattle.line_text.specs.Bytes.{bytes_or_dash}
-use Rattle.line_text.specs.Lines.{text_of_lines}
+use Rattle.line_text.specs.Lines.{text_of_lines, HasLine}
 use Rattle.line_text.specs.Words.{line_of_words}
 use Rattle.test_suite.specs.Tests.{TestParts, most_budget, most_input}
 use Rattle.test_history.specs.declared.version.Version.{Version}
 use Rattle.test_history.specs.Faults.{IsReadTo, IsAtEntry, IsGoodEntry}
 use Rattle.test_history.specs.Histories.{EntryParts, IsByteStatus}
-use Rattle.test_history.specs.HistoryTexts.{value_line, status_words, crossed_line, entry_lines}
-use Rattle.test_history.specs.Rules.{h7, h8, h9, h10, h11, h12, IsFirstFault, HasLine, HasNumber, HasBytes, HasName}
+use Rattle.line_text.specs.Values.{value_line, HasNumber, HasBytes}
+use Rattle.test_history.specs.HistoryTexts.{status_words, crossed_line, entry_lines}
+use Rattle.test_history.specs.Rules.{h7, h8, h9, h10, h11, h12, IsFirstFault, HasName}
 use Rattle.test_history.proofs.AskedLemmas.{edges_same}
-use Rattle.test_history.proofs.PlainLemmas.{IsPlain, plain_value, plain_decimal, plain_bytes, plain_status, plain_crossed}
+use Rattle.line_text.proofs.LawsOfValues.{IsPlain, plain_value, plain_decimal, plain_bytes, one_value}
+use Rattle.test_history.proofs.PlainLemmas.{plain_status, plain_crossed}
 use Rattle.test_history.proofs.ReadLemmas.{in_rest, has_next, at_line, entry_line, entry_fault, name_line}
-use Rattle.test_history.proofs.TextLemmas.{lines_cons}
-use Rattle.test_history.proofs.ValueLemmas.{one_value}
+use Rattle.line_text.proofs.LawsOfTexts.{lines_cons}
 
 -- an entry is being read: n lines stand before it
 module _ (version : Version) (text : List ℕ) (edges : ℕ) (names : List (List ℕ)) (n : ℕ) (at : IsAtEntry text edges names) (first : n ≡ 4 + 7 * length names) where

@@ -6,16 +6,13 @@ use Rattle.std.proofs.lemmas.Fmt.{decimal_digit}
 use Rattle.hex.specs.Hex.{encode_lower, lower_digits}
 use Rattle.hex.proofs.HexLemmas.{length-encode_with}
 use Rattle.sha2.specs.Sha256.{sha256, digest_bytes}
-use Rattle.line_text.specs.Bytes.{bytes_or_dash}
 use Rattle.line_text.specs.Lines.{text_of_lines}
+use Rattle.line_text.proofs.Laws.{length-bytes_or_dash}
 use Rattle.test_history.specs.declared.version.Version.TheVariants.{Third}
 use Rattle.test_history.specs.Histories.{HistoryParts}
-use Rattle.test_history.specs.HistoryTexts.{entry_lines, first_lines, end_line, text_before_end, history_text, value_line, version_line, crossed_line, row_bytes}
+use Rattle.line_text.specs.Values.{value_line}
+use Rattle.test_history.specs.HistoryTexts.{entry_lines, first_lines, end_line, text_before_end, history_text, version_line, crossed_line, row_bytes}
 use Rattle.test_history.proofs.BitsLemmas.{length-row_bytes}
-
-pub length-bytes_or_dash : (bytes : List ℕ) → 0 < length bytes → length (bytes_or_dash bytes) ≡ 2 * length bytes
-length-bytes_or_dash [] some = absurd (omega arith)
-length-bytes_or_dash (byte ∷ more) some = length-encode_with lower_digits (byte ∷ more)
 
 -- a digest has 32 bytes
 pub length-sha256 : (bytes : List ℕ) → length (sha256 bytes) ≡ 32

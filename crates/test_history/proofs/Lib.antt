@@ -7,9 +7,7 @@ mod NamesLemmas
 mod NumbersLemmas
 mod PlainLemmas
 mod ReadLemmas
-mod RowLemmas
 mod SameLemmas
-mod TextLemmas
+mod StatusLemmas
 mod Threads
-mod ValueLemmas
 mod WholeLemmas

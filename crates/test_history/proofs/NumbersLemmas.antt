@@ -8,10 +8,10 @@ use Rattle.std.proofs.lemmas.List.Elements.{All-head, All-tail, All-map, All-wea
 use Rattle.std.proofs.lemmas.List.Splits.{length-slice_split}
 use Rattle.line_text.specs.Words.{line_of_words, pieces}
 use Rattle.line_text.proofs.Laws.{line_of_words-pieces, pieces-line_of_words, IsWord-decimal}
-use Rattle.edge_trace.specs.Rows.{has}
+use Rattle.edge_trace.specs.Rows.{has, numbers_of}
 use Rattle.edge_trace.proofs.Laws.{has-set_other, has-replicate}
-use Rattle.test_history.specs.HistoryTexts.{crossed_numbers, words_or_dash}
-use Rattle.test_history.proofs.RowLemmas.{AreRising, crossed_numbers-set, crossed_numbers-empty}
+use Rattle.test_history.specs.HistoryTexts.{words_or_dash}
+use Rattle.edge_trace.proofs.LawsOfNumbers.{AreRising, numbers_of-set, numbers_of-empty}
 
 -- the words that are left are of rising numbers, none below the least
 abbrev pub AreLeft : ℕ → ℕ → List (List ℕ) → Type 0
@@ -88,19 +88,19 @@ next_left bound least n parts more word small left is number fits =
 pub clear_set : (row : List Bool) (least n : ℕ) → IsClear row least → least ≤ n → IsClear (set row n true) (n + 1)
 clear_set row least n clear low = λ k past. has-set_other row n k (λ same. omega (arith, past, same)) ∙ clear k (omega arith)
 
-pub said_more : (words parts more : List (List ℕ)) (row : List Bool) (n least : ℕ) (word : List ℕ) → words ≡ map decimal (crossed_numbers row) ++ parts → parts ≡ word ∷ more → word ≡ decimal n
-    → IsClear row least → least ≤ n → n < length row → words ≡ map decimal (crossed_numbers (set row n true)) ++ more
+pub said_more : (words parts more : List (List ℕ)) (row : List Bool) (n least : ℕ) (word : List ℕ) → words ≡ map decimal (numbers_of row) ++ parts → parts ≡ word ∷ more → word ≡ decimal n
+    → IsClear row least → least ≤ n → n < length row → words ≡ map decimal (numbers_of (set row n true)) ++ more
 said_more words parts more row n least word said is number clear low within =
-    let grown : crossed_numbers (set row n true) ≡ crossed_numbers row ++ n ∷ [] = crossed_numbers-set row n within (λ k past. clear k (omega arith)) in
-    said ∙ ap (λ ps. map decimal (crossed_numbers row) ++ ps) (is ∙ ap (λ w. w ∷ more) number)
-    ∙ sym (append_assoc (map decimal (crossed_numbers row)) (decimal n ∷ []) more)
-    ∙ ap (λ ws. ws ++ more) (sym (map-append decimal (crossed_numbers row) (n ∷ [])))
+    let grown : numbers_of (set row n true) ≡ numbers_of row ++ n ∷ [] = numbers_of-set row n within (λ k past. clear k (omega arith)) in
+    said ∙ ap (λ ps. map decimal (numbers_of row) ++ ps) (is ∙ ap (λ w. w ∷ more) number)
+    ∙ sym (append_assoc (map decimal (numbers_of row)) (decimal n ∷ []) more)
+    ∙ ap (λ ws. ws ++ more) (sym (map-append decimal (numbers_of row) (n ∷ [])))
     ∙ ap (λ numbers. map decimal numbers ++ more) (sym grown)
 
 -- the empty row
-pub said_first : (words : List (List ℕ)) (row : List Bool) → row ≡ replicate (length row) false → words ≡ map decimal (crossed_numbers row) ++ words
+pub said_first : (words : List (List ℕ)) (row : List Bool) → row ≡ replicate (length row) false → words ≡ map decimal (numbers_of row) ++ words
 said_first words row empty =
-    let none : crossed_numbers row ≡ [] = ap crossed_numbers empty ∙ crossed_numbers-empty (length row) in
+    let none : numbers_of row ≡ [] = ap numbers_of empty ∙ numbers_of-empty (length row) in
     ap (λ numbers. map decimal numbers ++ words) (sym none)
 
 pub clear_first : (row : List Bool) → row ≡ replicate (length row) false → IsClear row 0
@@ -130,7 +130,7 @@ pieces_are bound line (n ∷ more) small rising other is =
     ap pieces is ∙ pieces-line_of_words (map decimal (n ∷ more)) (λ none. cc none) (plain_numbers bound (n ∷ more) small rising.below)
 
 -- a row without numbers
-pub dash_line : (row : List Bool) → row ≡ replicate (length row) false → line_of_words (words_or_dash (crossed_numbers row)) ≡ codes "-"
+pub dash_line : (row : List Bool) → row ≡ replicate (length row) false → line_of_words (words_or_dash (numbers_of row)) ≡ codes "-"
 dash_line row empty =
-    let none : crossed_numbers row ≡ [] = ap crossed_numbers empty ∙ crossed_numbers-empty (length row) in
+    let none : numbers_of row ≡ [] = ap numbers_of empty ∙ numbers_of-empty (length row) in
     ap (λ numbers. line_of_words (words_or_dash numbers)) none

@@ -1,55 +1,23 @@
 -- No line of a history has a newline in it.
-use Rattle.std.proofs.Common.{◌≡◌, ◌≢◌, ◌<◌, ◌^◌, ℕ, Bool, true, not, ◌&&◌, eqb, List, [], ◌∷◌, length, map, codes, refl, arith}
+use Rattle.std.proofs.Common.{◌≢◌, ◌<◌, ℕ, Bool, ◌≡◌, true, List, [], ◌∷◌, ◌^◌, length, map, codes, refl, arith}
 use Rattle.std.specs.Fmt.{decimal}
 use Rattle.std.specs.List.{All}
-use Rattle.std.proofs.lemmas.Bool.{and_parts}
 use Rattle.std.proofs.lemmas.List.Elements.{All-nil, All-cons, All-head, All-tail, All-append, All-map, All-weaker}
-use Rattle.hex.specs.Hex.{encode_lower}
 use Rattle.csub_semantics.specs.declared.status.Status.{Status}
 use Rattle.csub_semantics.specs.declared.status.Status.TheVariants as status
 use Rattle.csub_types.specs.declared.trap.Trap.{Trap}
 use Rattle.csub_types.specs.declared.trap.Trap.TheVariants.{Overflow, Divide, Shift, Bounds, Unset, Flood, Depth, Missing}
+use Rattle.edge_trace.specs.Rows.{numbers_of}
+use Rattle.edge_trace.proofs.LawsOfNumbers.{AreRising, AreRising-numbers_of}
 use Rattle.line_text.specs.Bytes.{bytes_or_dash}
+use Rattle.line_text.specs.Values.{value_line}
 use Rattle.line_text.specs.Words.{line_of_words}
-use Rattle.line_text.proofs.Laws.{IsWord-decimal, IsWord-bytes_or_dash}
+use Rattle.line_text.proofs.LawsOfValues.{IsPlain, plain_word, plain_value, plain_decimal, plain_bytes}
 use Rattle.test_suite.specs.Tests.{IsTestName, goes_in_name}
 use Rattle.test_history.specs.declared.version.Version.{Version}
 use Rattle.test_history.specs.declared.version.Version.TheVariants.{Second, Third}
-use Rattle.test_history.specs.Histories.{IsDigest, IsByteStatus}
-use Rattle.test_history.specs.HistoryTexts.{value_line, version_line, version_number, crossed_line, crossed_numbers, row_bytes, status_words, trap_name, words_or_dash}
-use Rattle.test_history.proofs.RowLemmas.{AreRising, AreRising-crossed_numbers}
-
--- no newline in a line
-abbrev pub IsPlain : List ℕ → Type 0
-IsPlain line = All (λ byte. byte ≢ 10) line
-
--- the same as a test, for words that are written out
-abbrev lacks_newline : List ℕ → Bool
-lacks_newline [] = true
-lacks_newline (byte ∷ more) = not (eqb byte 10) && lacks_newline more
-
-other_byte : (byte : ℕ) → not (eqb byte 10) ≡ true → byte ≢ 10
-other_byte byte h is = grind arith
-
-pub plain_word : (word : List ℕ) → lacks_newline word ≡ true → IsPlain word
-plain_word [] h = All-nil (λ byte. byte ≢ 10)
-plain_word (byte ∷ more) h =
-    let parts = and_parts (not (eqb byte 10)) (lacks_newline more) h in
-    All-cons (λ b. b ≢ 10) byte more (other_byte byte parts.0) (plain_word more parts.1)
-
-pub plain_value : (word value : List ℕ) → lacks_newline word ≡ true → IsPlain value → IsPlain (value_line word value)
-plain_value word value h plain =
-    All-append (λ byte. byte ≢ 10) word (32 ∷ value) (plain_word word h) (All-cons (λ byte. byte ≢ 10) 32 value (λ is. omega arith) plain)
-
-pub plain_decimal : (n : ℕ) → n < 2 ^ 64 → IsPlain (decimal n)
-plain_decimal n small = (IsWord-decimal n small).no_newline
-
-pub plain_bytes : (bytes : List ℕ) → IsPlain (bytes_or_dash bytes)
-plain_bytes bytes = (IsWord-bytes_or_dash bytes).no_newline
-
-pub plain_digest : (digest : List ℕ) → IsDigest digest → IsPlain (encode_lower digest)
-plain_digest [] h = absurd (omega (arith, h.size))
-plain_digest (byte ∷ more) h = plain_bytes (byte ∷ more)
+use Rattle.test_history.specs.Histories.{IsByteStatus}
+use Rattle.test_history.specs.HistoryTexts.{version_line, version_number, crossed_line, row_bytes, status_words, trap_name, words_or_dash}
 
 name_byte : (byte : ℕ) → goes_in_name byte ≡ true → byte ≢ 10
 name_byte byte goes is = grind arith
@@ -88,7 +56,7 @@ plain_numbers bound (n ∷ more) small h =
 
 pub plain_crossed : (version : Version) (row : List Bool) → length row < 2 ^ 32 → IsPlain (crossed_line version row)
 plain_crossed Second row small =
-    plain_value (codes "crossed") (line_of_words (words_or_dash (crossed_numbers row))) refl (plain_numbers (length row) (crossed_numbers row) small (AreRising-crossed_numbers row))
+    plain_value (codes "crossed") (line_of_words (words_or_dash (numbers_of row))) refl (plain_numbers (length row) (numbers_of row) small (AreRising-numbers_of row (length row) refl))
 plain_crossed Third row small = plain_value (codes "crossed") (bytes_or_dash (row_bytes row)) refl (plain_bytes (row_bytes row))
 
 -- the number of a version has one digit

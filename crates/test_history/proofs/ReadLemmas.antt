@@ -4,16 +4,16 @@ use Rattle.std.specs.List.{Contains, slice_get}
 use Rattle.std.proofs.lemmas.Bool.{cases_lt}
 use Rattle.std.proofs.lemmas.List.{drop-drop}
 use Rattle.std.proofs.lemmas.Option.{slice_get-get_or}
-use Rattle.line_text.specs.Lines.{lines_of, line_with}
+use Rattle.line_text.specs.Lines.{lines_of, line_with, HasLine, line_at}
 use Rattle.line_text.proofs.Laws.{lines_of-ended}
 use Rattle.test_suite.specs.Tests.{IsTestName}
 use Rattle.test_history.specs.declared.version.Version.{Version}
 use Rattle.test_history.specs.Faults.{IsReadTo, IsAtEntry}
-use Rattle.test_history.specs.HistoryTexts.{value_line}
-use Rattle.test_history.specs.Rules.{Rule, h5, h6, number_of, IsAsked, Keeps, IsFirstFault, HasLine, HasName, line_at}
+use Rattle.line_text.specs.Values.{value_line}
+use Rattle.test_history.specs.Rules.{Rule, h5, h6, number_of, IsAsked, Keeps, IsFirstFault, HasName}
 use Rattle.test_history.proofs.AskedLemmas.{keeps_same, asked_head, asked_entry, asked_some}
-use Rattle.test_history.proofs.PlainLemmas.{IsPlain, plain_value, plain_name}
-use Rattle.test_history.proofs.ValueLemmas.{one_value}
+use Rattle.line_text.proofs.LawsOfValues.{IsPlain, plain_value, one_value}
+use Rattle.test_history.proofs.PlainLemmas.{plain_name}
 
 -- ---- lines
 

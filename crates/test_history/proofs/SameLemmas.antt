@@ -19,14 +19,17 @@ use Rattle.test_suite.specs.Tests.{TestParts}
 use Rattle.test_history.specs.declared.version.Version.{Version}
 use Rattle.test_history.specs.declared.version.Version.TheVariants.{Second, Third}
 use Rattle.test_history.specs.Faults.{IsGoodEntry}
-use Rattle.test_history.specs.Histories.{EntryParts, HistoryParts, IsDigest, IsByteStatus, IsReadable}
-use Rattle.test_history.specs.HistoryTexts.{value_line, version_line, crossed_line, status_words, trap_name, words_or_dash, crossed_numbers, row_bytes, entry_lines, first_lines, text_with_sum}
+use Rattle.line_text.specs.Values.{IsDigest, value_line}
+use Rattle.test_history.specs.Histories.{EntryParts, HistoryParts, IsByteStatus, IsReadable}
+use Rattle.edge_trace.specs.Rows.{numbers_of}
+use Rattle.test_history.specs.HistoryTexts.{version_line, crossed_line, status_words, trap_name, words_or_dash, row_bytes, entry_lines, first_lines, text_with_sum}
 use Rattle.test_history.proofs.BitsLemmas.{row_bytes-injective, IsBytes-row_bytes}
 use Rattle.test_history.proofs.NumbersLemmas.{pieces_are}
-use Rattle.test_history.proofs.PlainLemmas.{IsPlain, plain_value, plain_decimal, plain_bytes, plain_digest, plain_name, plain_status, plain_crossed, plain_version}
-use Rattle.test_history.proofs.RowLemmas.{AreRising, AreRising-crossed_numbers, crossed_numbers-injective}
-use Rattle.test_history.proofs.TextLemmas.{lines_append}
-use Rattle.test_history.proofs.ValueLemmas.{status_line}
+use Rattle.line_text.proofs.LawsOfValues.{IsPlain, plain_value, plain_decimal, plain_bytes, plain_digest}
+use Rattle.test_history.proofs.PlainLemmas.{plain_name, plain_status, plain_crossed, plain_version}
+use Rattle.edge_trace.proofs.LawsOfNumbers.{AreRising, AreRising-numbers_of, numbers_of-injective}
+use Rattle.line_text.proofs.LawsOfTexts.{lines_append}
+use Rattle.test_history.proofs.StatusLemmas.{status_line}
 
 -- ---- a value has one line
 
@@ -138,9 +141,9 @@ numbers_same bound (n ∷ a) (m ∷ b) small ha hb is =
 
 pub row_same : (version : Version) (a b : List Bool) → length a < 2 ^ 32 → length a ≡ length b → crossed_line version a ≡ crossed_line version b → a ≡ b
 row_same Second a b small size is =
-    crossed_numbers-injective a b size
-    (numbers_same (length a) (crossed_numbers a) (crossed_numbers b) small (AreRising-crossed_numbers a) (subst (λ n. AreRising n (crossed_numbers b)) (sym size) (AreRising-crossed_numbers b))
-    (value_same (codes "crossed") (line_of_words (words_or_dash (crossed_numbers a))) (line_of_words (words_or_dash (crossed_numbers b))) is))
+    numbers_of-injective a b size
+    (numbers_same (length a) (numbers_of a) (numbers_of b) small (AreRising-numbers_of a (length a) refl) (subst (λ n. AreRising n (numbers_of b)) (sym size) (AreRising-numbers_of b (length b) refl))
+    (value_same (codes "crossed") (line_of_words (words_or_dash (numbers_of a))) (line_of_words (words_or_dash (numbers_of b))) is))
 row_same Third a b small size is = row_bytes-injective a b size (bytes_same (codes "crossed") (row_bytes a) (row_bytes b) (IsBytes-row_bytes a) (IsBytes-row_bytes b) is)
 
 -- ---- entries

@@ -11,7 +11,7 @@ use Rattle.std.proofs.lemmas.List.Quantifiers.{all_pairs_push}
 use Rattle.std.proofs.lemmas.List.Elements.{All-head, All-tail}
 use Rattle.hex.specs.Hex.{encode_lower}
 use Rattle.csub_core.specs.Valid.{most_edges}
-use Rattle.line_text.specs.Lines.{lines_of, lines_between, text_of_lines}
+use Rattle.line_text.specs.Lines.{lines_of, lines_between, text_of_lines, HasLine, line_at}
 use Rattle.test_suite.specs.Suites.{most_tests}
 use Rattle.test_history.specs.declared.version.Version.{Version}
 use Rattle.test_history.specs.Causes.{IsOfOther}
@@ -20,15 +20,16 @@ use Rattle.test_history.specs.declared.fault.Fault.TheVariants.{Broken, Memory}
 use Rattle.test_history.specs.Faults.{IsReadTo, IsAtEntry, IsGoodEntry, IsHead, head_lines, IsFaultAfter, IsEntryFault, IsRestRefusal, IsEntriesRefusal, IsEndFault, IsRefusalOf, refusal_after}
 use Rattle.test_history.specs.declared.error.HistoryError.{HistoryError}
 use Rattle.test_history.specs.declared.error.HistoryError.TheVariants as error
-use Rattle.test_history.specs.Histories.{EntryParts, IsDigest, names_of}
-use Rattle.test_history.specs.HistoryTexts.{value_line, version_line, version_number, entry_lines, text_before_end}
-use Rattle.test_history.specs.Rules.{h1, h2, h3, h4, h13, h14, IsFirstFault, HasLine, HasNumber, HasDigest, HasName, SaysEdges, SaysTests, line_at}
+use Rattle.line_text.specs.Values.{IsDigest, value_line, HasNumber, HasDigest}
+use Rattle.test_history.specs.Histories.{EntryParts, names_of}
+use Rattle.test_history.specs.HistoryTexts.{version_line, version_number, entry_lines, text_before_end}
+use Rattle.test_history.specs.Rules.{h1, h2, h3, h4, h13, h14, IsFirstFault, HasName, SaysEdges, SaysTests}
 use Rattle.test_history.proofs.AskedLemmas.{keeps_same, asked_after}
 use Rattle.test_history.proofs.EntryLemmas.{entry_read}
-use Rattle.test_history.proofs.PlainLemmas.{IsPlain, plain_value, plain_decimal, plain_digest, plain_version, small_version}
+use Rattle.line_text.proofs.LawsOfValues.{IsPlain, plain_value, plain_decimal, plain_digest, one_value}
+use Rattle.test_history.proofs.PlainLemmas.{plain_version, small_version}
 use Rattle.test_history.proofs.ReadLemmas.{in_rest, has_next, none_read, one_more, fault_next, at_line, head_line, head_fault, line_next}
-use Rattle.test_history.proofs.TextLemmas.{lines_append, lines_cons}
-use Rattle.test_history.proofs.ValueLemmas.{one_value}
+use Rattle.line_text.proofs.LawsOfTexts.{lines_append, lines_cons}
 
 -- ---- the entries
 

@@ -6,9 +6,10 @@ use Rattle.test_history.specs.declared.error.HistoryError.TheVariants as read
 use Rattle.test_history.specs.declared.error.HistoryTextError.{HistoryTextError}
 use Rattle.test_history.specs.declared.error.HistoryTextError.TheVariants.{TooLong, Memory}
 use Rattle.test_history.specs.declared.version.Version.{Version}
-use Rattle.test_history.specs.Histories.{HistoryParts, IsDigest, IsReadable}
+use Rattle.line_text.specs.Values.{IsDigest, HasNumber}
+use Rattle.test_history.specs.Histories.{HistoryParts, IsReadable}
 use Rattle.test_history.specs.HistoryTexts.{history_text, versioned_text, text_before_end, text_with_sum, version_number, most_history_bytes}
-use Rattle.test_history.specs.Rules.{HasNumber, IsFirstFault}
+use Rattle.test_history.specs.Rules.{IsFirstFault}
 
 -- what each refusal says of the history; want of memory may come at any
 abbrev pub HasTextCause : HistoryParts → HistoryTextError → Type 0

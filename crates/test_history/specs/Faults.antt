@@ -1,6 +1,5 @@
 -- What is read of a text, and what the parts of the reader answer of the rest.
-use Rattle.std.specs.Prelude.{◌≡◌, ◌≤◌, ◌<◌, ◌+◌, ◌*◌, ◌/◌, ◌%◌, ◌==◌, ⊤, ℕ, Bool, Some, slice_get}
-use Rattle.std.specs.Prelude.{List, [], ◌∷◌, ◌++◌, length, codes, drop, slice_index_or}
+use Rattle.std.specs.Prelude.{◌≡◌, ◌≤◌, ◌<◌, ◌+◌, ◌*◌, ◌/◌, ◌%◌, ◌==◌, ⊤, ℕ, Bool, Some, slice_get, List, [], ◌∷◌, ◌++◌, length, codes, drop, slice_index_or}
 use Rattle.std.specs.Int.{bit_at}
 use Rattle.std.specs.Fmt.{decimal}
 use Rattle.hex.specs.Hex.{encode_lower}
@@ -14,9 +13,10 @@ use Rattle.test_history.specs.declared.fault.Fault.{Fault}
 use Rattle.test_history.specs.declared.fault.Fault.TheVariants.{Broken, Memory}
 use Rattle.test_history.specs.declared.version.Version.{Version}
 use Rattle.test_history.specs.Causes.{IsOfOther}
-use Rattle.test_history.specs.Histories.{EntryParts, IsDigest, IsEntryWithin, IsEntryOfBytes}
-use Rattle.test_history.specs.HistoryTexts.{value_line, version_line}
-use Rattle.test_history.specs.Rules.{Rule, IsAsked, Keeps, IsFirstFault, HasNumber, HasName, SaysEdges, SaysTests}
+use Rattle.line_text.specs.Values.{IsDigest, value_line, HasNumber}
+use Rattle.test_history.specs.Histories.{EntryParts, IsEntryWithin, IsEntryOfBytes}
+use Rattle.test_history.specs.HistoryTexts.{version_line}
+use Rattle.test_history.specs.Rules.{Rule, IsAsked, Keeps, IsFirstFault, HasName, SaysEdges, SaysTests}
 
 -- whether the bit of an edge is set in the bytes of a row
 abbrev pub bit_of : List ℕ → ℕ → Bool

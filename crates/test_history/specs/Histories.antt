@@ -5,6 +5,7 @@ use Rattle.csub_semantics.specs.Memory.{most_output}
 use Rattle.csub_core.specs.Valid.{most_edges}
 use Rattle.csub_semantics.specs.declared.status.Status.{Status}
 use Rattle.csub_semantics.specs.declared.status.Status.TheVariants.{Exit, Trap, Turns}
+use Rattle.line_text.specs.Values.{IsDigest}
 use Rattle.test_suite.specs.Suites.{most_tests}
 use Rattle.test_suite.specs.Tests.{TestParts, IsWithin}
 
@@ -44,11 +45,6 @@ pub record IsHistoryWithin (history : HistoryParts) : Type 0 where
   pub few : length history.entries ≤ most_tests
   pub entries : All IsEntryWithin history.entries
   pub rows : HaveRows history.edges history.entries
-
--- the 32 bytes of a SHA-256 digest
-pub record IsDigest (digest : List ℕ) : Type 0 where
-  pub size : length digest ≡ 32
-  pub bytes : IsBytes digest
 
 -- an exit status is a byte
 abbrev pub IsByteStatus : Status → Type 0

@@ -1,17 +1,18 @@
 -- The text of a history, in versions 2 and 3 of the format.
-use Rattle.std.specs.Prelude.{ℕ, ◌+◌, ◌/◌, Bool, List, [], ◌∷◌, ◌++◌, length, map, filter, codes}
+use Rattle.std.specs.Prelude.{ℕ, ◌+◌, ◌/◌, Bool, List, [], ◌∷◌, ◌++◌, length, map, codes}
 use Rattle.std.specs.Fmt.{decimal}
 use Rattle.std.specs.List.{flat_map, range_with_len}
 use Rattle.hex.specs.Hex.{encode_lower}
 use Rattle.sha2.specs.Sha256.{sha256}
 use Rattle.line_text.specs.Bytes.{bytes_or_dash}
 use Rattle.line_text.specs.Lines.{text_of_lines}
+use Rattle.line_text.specs.Values.{value_line}
 use Rattle.line_text.specs.Words.{line_of_words}
 use Rattle.csub_types.specs.declared.trap.Trap.{Trap}
 use Rattle.csub_types.specs.declared.trap.Trap.TheVariants.{Overflow, Divide, Shift, Bounds, Unset, Flood, Depth, Missing}
 use Rattle.csub_semantics.specs.declared.status.Status.{Status}
 use Rattle.csub_semantics.specs.declared.status.Status.TheVariants as status
-use Rattle.edge_trace.specs.Rows.{has, byte_of}
+use Rattle.edge_trace.specs.Rows.{byte_of, numbers_of}
 use Rattle.test_history.specs.declared.version.Version.{Version}
 use Rattle.test_history.specs.declared.version.Version.TheVariants.{Second, Third}
 use Rattle.test_history.specs.Histories.{EntryParts, HistoryParts}
@@ -33,10 +34,6 @@ status_words (status.Exit n) = codes "exit" ∷ decimal n ∷ []
 status_words (status.Trap trap) = codes "trap" ∷ trap_name trap ∷ []
 status_words status.Turns = codes "turns" ∷ []
 
--- the numbers of a row: those below its bound that are in it, rising
-abbrev pub crossed_numbers : List Bool → List ℕ
-crossed_numbers row = filter (has row) (range_with_len 0 (length row))
-
 -- the words for numbers: each in decimal, or `-` where there are none
 abbrev pub words_or_dash : List ℕ → List (List ℕ)
 words_or_dash [] = codes "-" ∷ []
@@ -48,12 +45,8 @@ row_bytes row = map (byte_of row) (range_with_len 0 ((length row + 7) / 8))
 
 -- what stands for the crossed edges: in version 2 their numbers, rising, and in version 3 the bytes of their row
 abbrev pub crossed_text : Version → List Bool → List ℕ
-crossed_text Second row = line_of_words (words_or_dash (crossed_numbers row))
+crossed_text Second row = line_of_words (words_or_dash (numbers_of row))
 crossed_text Third row = bytes_or_dash (row_bytes row)
-
--- the line of one value: its word, and the value's
-abbrev pub value_line : List ℕ → List ℕ → List ℕ
-value_line word value = line_of_words (word ∷ value ∷ [])
 
 -- the line of the crossed edges
 abbrev pub crossed_line : Version → List Bool → List ℕ

@@ -1,19 +1,16 @@
 -- The rules H1 to H14 of a history's lines, and the first line that breaks one.
-use Rattle.std.specs.Prelude.{◌≡◌, ◌≤◌, ◌<◌, ◌+◌, ◌-◌, ◌*◌, ℕ, Bool, List, ◌∷◌, length, codes, true}
-use Rattle.std.specs.Prelude.{Option, Some, None, slice_get}
-use Rattle.std.specs.Fmt.{decimal}
-use Rattle.hex.specs.Hex.{encode_lower, IsBytes}
+use Rattle.std.specs.Prelude.{◌≡◌, ◌<◌, ◌+◌, ◌-◌, ◌*◌, ℕ, Bool, List, ◌∷◌, length, codes, None}
 use Rattle.csub_semantics.specs.Memory.{most_output}
 use Rattle.csub_core.specs.Valid.{most_edges}
 use Rattle.csub_semantics.specs.declared.status.Status.{Status}
-use Rattle.line_text.specs.Bytes.{bytes_or_dash}
-use Rattle.line_text.specs.Lines.{TextLine, lines_of, line_with}
+use Rattle.line_text.specs.Lines.{line_at, HasLine}
+use Rattle.line_text.specs.Values.{value_line, HasNumber, HasBytes, HasDigest}
 use Rattle.line_text.specs.Words.{line_of_words}
 use Rattle.test_suite.specs.Suites.{most_tests}
 use Rattle.test_suite.specs.Tests.{IsTestName, most_budget, most_input}
 use Rattle.test_history.specs.declared.version.Version.{Version}
-use Rattle.test_history.specs.Histories.{IsDigest, IsByteStatus}
-use Rattle.test_history.specs.HistoryTexts.{value_line, version_line, crossed_line, status_words}
+use Rattle.test_history.specs.Histories.{IsByteStatus}
+use Rattle.test_history.specs.HistoryTexts.{version_line, crossed_line, status_words}
 
 -- the rules of a history's lines
 pub data Rule : Type 0 where
@@ -35,26 +32,6 @@ number_of h11 = 11
 number_of h12 = 12
 number_of h13 = 13
 number_of h14 = 14
-
--- line n of a text, counted from 1, where it has one
-abbrev pub line_at : List ℕ → ℕ → Option TextLine
-line_at text n = slice_get (lines_of text) (n - 1)
-
--- line n is there, ended by its newline, and has these bytes
-abbrev pub HasLine : List ℕ → ℕ → List ℕ → Type 0
-HasLine text n line = line_at text n ≡ Some (line_with line true)
-
--- line n is a word and a number up to a limit
-abbrev pub HasNumber : List ℕ → ℕ → List ℕ → ℕ → ℕ → Type 0
-HasNumber text n word most number = (number ≤ most) × HasLine text n (value_line word (decimal number))
-
--- line n is a word and some bytes, at most so many
-abbrev pub HasBytes : List ℕ → ℕ → List ℕ → ℕ → Type 0
-HasBytes text n word most = (bytes : List ℕ) × IsBytes bytes × (length bytes ≤ most) × HasLine text n (value_line word (bytes_or_dash bytes))
-
--- line n is a word and 64 digits
-abbrev pub HasDigest : List ℕ → ℕ → List ℕ → Type 0
-HasDigest text n word = (digest : List ℕ) × IsDigest digest × HasLine text n (value_line word (encode_lower digest))
 
 -- line n is that of a test's name
 abbrev pub HasName : List ℕ → ℕ → List ℕ → Type 0

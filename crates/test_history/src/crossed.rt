@@ -1,13 +1,13 @@
 // The line of the crossed edges.
 ghost use Rattle.std.specs.Prelude.{◌≡◌, ◌≢◌, ◌++◌, ◌∷◌, List, Bool, length, IfOk, MatchOption};
 ghost use Rattle.test_history.specs.HistoryTexts.{crossed_line, crossed_text};
-ghost use Rattle.test_history.specs.Rules.{HasLine};
+ghost use Rattle.line_text.specs.Lines.{HasLine};
 
 use crate::bits::row_of_bytes;
 use crate::numbers::row_of_numbers;
-use crate::values::cut_value;
 use crate::version::Version;
 use edge_trace::EdgeRow;
+use line_text::cut_value;
 use std::alloc::{AllocError, Global};
 
 /// Reads the line of the crossed edges, of which there are `edges`.

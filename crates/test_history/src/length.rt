@@ -16,7 +16,7 @@ use crate::lines::name_of_trap;
 use crate::version::Version;
 use csub_semantics::Status;
 use edge_trace::EdgeRow;
-use itoa::Buffer;
+use line_text::{bytes_or_dash_length, decimal_length};
 
 // `dejavu history 3`, `source`, `edges`, `tests` and `end`, with what stands between words and lines.
 const FRAME_BYTES: u64 = 17 + 8 + 7 + 7 + 5;
@@ -64,32 +64,11 @@ fn entry_length(entry: &Entry) -> u64
     ENTRY_BYTES
         + entry.test().name().bytes().len() as u64
         + decimal_length(u64::from(entry.test().budget()))
-        + bytes_length(entry.test().input())
+        + bytes_or_dash_length(entry.test().input())
         + status_length(entry.status())
         + decimal_length(u64::from(entry.turns()))
-        + bytes_length(entry.output())
+        + bytes_or_dash_length(entry.output())
         + crossed_length(entry.crossed())
-}
-
-// A number in decimal.
-fn decimal_length(number: u64) -> u64
-    ensures exact { result ≡ length (decimal number) }
-    ensures small { result ≤ 20 }
-{
-    let mut buffer = Buffer::new();
-    buffer.format(number).len() as u64
-}
-
-// Bytes as a word.
-fn bytes_length(bytes: &[u8]) -> u64
-    ensures exact { result ≡ length (bytes_or_dash bytes.now) }
-    ensures small { result ≤ 1 + 2 * length bytes.now }
-{
-    if bytes.is_empty() {
-        1
-    } else {
-        2 * bytes.len() as u64
-    }
 }
 
 // The line of a status.

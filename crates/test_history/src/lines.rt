@@ -4,10 +4,11 @@ ghost use Rattle.std.specs.Fmt.{decimal};
 ghost use Rattle.hex.specs.Hex.{encode_lower};
 ghost use Rattle.line_text.specs.Bytes.{bytes_or_dash};
 ghost use Rattle.line_text.specs.Words.{line_of_words};
-ghost use Rattle.test_history.specs.HistoryTexts.{trap_name, status_words, value_line};
+ghost use Rattle.line_text.specs.Values.{value_line};
+ghost use Rattle.test_history.specs.HistoryTexts.{trap_name, status_words};
 
 use csub_semantics::{Status, Trap};
-use line_text::{push_bytes_or_dash, push_decimal, push_hex};
+use line_text::{push_decimal, push_number_line, push_text_line};
 use std::alloc::AllocError;
 
 /// The word for a trap.
@@ -24,56 +25,6 @@ pub fn name_of_trap(trap: Trap) -> &'static [u8]
         Trap::Depth => b"depth",
         Trap::Missing => b"missing",
     }
-}
-
-/// Appends the line of a word and a value that is text already.
-pub fn push_text_line(text: &mut Vec<u8>, word: &[u8], value: &[u8]) -> Result<(), AllocError>
-    ensures { OnOk result (text.new.items ≡ text.old.items ++ value_line word.now value.now ++ 10 ∷ []) }
-{
-    text.extend_from_slice(word)?;
-    text.push(b' ')?;
-    text.extend_from_slice(value)?;
-    text.push(b'\n')?;
-    Ok(())
-}
-
-/// Appends the line of a word and a number in decimal.
-pub fn push_number_line(text: &mut Vec<u8>, word: &[u8], number: u64) -> Result<(), AllocError>
-    ensures { OnOk result (text.new.items ≡ text.old.items ++ value_line word.now (decimal number) ++ 10 ∷ []) }
-{
-    text.extend_from_slice(word)?;
-    text.push(b' ')?;
-    push_decimal(text, number)?;
-    text.push(b'\n')?;
-    Ok(())
-}
-
-/// Appends the line of a word and some bytes: hexadecimal, or `-` where there are none.
-pub fn push_bytes_line(text: &mut Vec<u8>, word: &[u8], bytes: &[u8]) -> Result<(), AllocError>
-    ensures { OnOk result
-        (text.new.items ≡ text.old.items ++ value_line word.now (bytes_or_dash bytes.now) ++ 10 ∷ []) }
-{
-    text.extend_from_slice(word)?;
-    text.push(b' ')?;
-    push_bytes_or_dash(text, bytes)?;
-    text.push(b'\n')?;
-    Ok(())
-}
-
-/// Appends the line of a word and a digest in hexadecimal.
-pub fn push_digest_line(
-    text: &mut Vec<u8>,
-    word: &[u8],
-    digest: &[u8; 32],
-) -> Result<(), AllocError>
-    ensures { OnOk result
-        (text.new.items ≡ text.old.items ++ value_line word.now (encode_lower digest.now) ++ 10 ∷ []) }
-{
-    text.extend_from_slice(word)?;
-    text.push(b' ')?;
-    push_hex(text, digest)?;
-    text.push(b'\n')?;
-    Ok(())
 }
 
 /// Appends `exit N`, `trap NAME` or `turns`, the words of a status without a newline. An `Err` is want of memory.

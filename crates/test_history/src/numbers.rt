@@ -2,7 +2,8 @@
 ghost use Rattle.std.specs.Prelude.{◌≡◌, ◌≢◌, ◌<◌, ◌^◌, List, Bool, length, map, IfOk, MatchBool, MatchOption, replicate, false};
 ghost use Rattle.std.specs.Fmt.{decimal};
 ghost use Rattle.line_text.specs.Words.{line_of_words, pieces};
-ghost use Rattle.test_history.specs.HistoryTexts.{words_or_dash, crossed_numbers};
+ghost use Rattle.edge_trace.specs.Rows.{numbers_of};
+ghost use Rattle.test_history.specs.HistoryTexts.{words_or_dash};
 
 use edge_trace::EdgeRow;
 use line_text::{cut_word, read_decimal};
@@ -18,8 +19,8 @@ pub fn row_of_numbers(
     edges: u32,
 ) -> Result<Option<EdgeRow>, AllocError>
     ensures { IfOk result (λ found. MatchOption found
-        ((row : List Bool) → length row ≡ edges → words.now ≢ line_of_words (words_or_dash (crossed_numbers row)))
-        (λ row. (length row ≡ edges) × (words.now ≡ line_of_words (words_or_dash (crossed_numbers row))))) }
+        ((row : List Bool) → length row ≡ edges → words.now ≢ line_of_words (words_or_dash (numbers_of row)))
+        (λ row. (length row ≡ edges) × (words.now ≡ line_of_words (words_or_dash (numbers_of row))))) }
 {
     let mut row = EdgeRow::new(alloc, edges)?;
     if words == b"-".as_slice() {
@@ -39,8 +40,8 @@ fn set_numbers(row: &mut EdgeRow, words: &[u8]) -> bool
     requires bound { length row.old < 2 ^ 32 }
     ensures edges { length row.new ≡ length row.old }
     ensures numbers { MatchBool result
-        (pieces words.now ≡ map decimal (crossed_numbers row.new))
-        ((other : List Bool) → length other ≡ length row.old → pieces words.now ≢ map decimal (crossed_numbers other)) }
+        (pieces words.now ≡ map decimal (numbers_of row.new))
+        ((other : List Bool) → length other ≡ length row.old → pieces words.now ≢ map decimal (numbers_of other)) }
 {
     let mut rest = words;
     let mut least = 0; // the next number must not be less

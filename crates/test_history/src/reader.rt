@@ -11,8 +11,9 @@ ghost use Rattle.test_suite.specs.Suites.{most_tests};
 ghost use Rattle.test_suite.specs.Tests.{IsWithin};
 ghost use Rattle.test_history.specs.Causes.{HasHistoryCause, HasNoCause, IsOnlyCause, SaysHistory};
 ghost use Rattle.test_history.specs.Faults.{IsGoodEntry, IsHead, IsEntryFault, IsResultsFault, IsEndFault, IsRestRefusal, IsRefusalOf, refusal_after as refusal_after_lem};
-ghost use Rattle.test_history.specs.Histories.{HistoryParts, IsReadable, IsDigest, names_of};
-ghost use Rattle.test_history.specs.HistoryTexts.{history_text, history_text_2, versioned_text, text_before_end, version_line, value_line, entry_lines, most_history_bytes};
+ghost use Rattle.line_text.specs.Values.{IsDigest, value_line};
+ghost use Rattle.test_history.specs.Histories.{HistoryParts, IsReadable, names_of};
+ghost use Rattle.test_history.specs.HistoryTexts.{history_text, history_text_2, versioned_text, text_before_end, version_line, entry_lines, most_history_bytes};
 ghost use Rattle.test_history.specs.Rules.{SaysEdges, SaysTests};
 
 use crate::crossed::read_crossed;
@@ -21,10 +22,11 @@ use crate::entry::Entry;
 use crate::error::HistoryError;
 use crate::fault::Fault;
 use crate::history::History;
-use crate::values::{read_bytes, read_digest_line, read_name, read_number, read_status};
+use crate::values::{read_name, read_status};
 use crate::version::Version;
 use csub_text::Text;
 use indexmap::IndexSet;
+use line_text::{read_bytes_line, read_digest_line, read_number_line};
 use std::alloc::{AllocError, Global};
 use test_suite::Test;
 
@@ -175,10 +177,10 @@ fn read_head(version: Version, bytes: &[u8]) -> Result<Head<'_>, HistoryError>
     let Some(source) = read_digest_line(rest, b"source") else {
         return Err(HistoryError::Malformed(2, 2));
     };
-    let Some((edges, rest)) = read_number(source.rest, b"edges", MOST_EDGES) else {
+    let Some((edges, rest)) = read_number_line(source.rest, b"edges", MOST_EDGES) else {
         return Err(HistoryError::Malformed(3, 3));
     };
-    let Some((tests, rest)) = read_number(rest, b"tests", MOST_TESTS) else {
+    let Some((tests, rest)) = read_number_line(rest, b"tests", MOST_TESTS) else {
         return Err(HistoryError::Malformed(4, 4));
     };
     let digest = source.digest;
@@ -195,7 +197,7 @@ fn read_version(version: Version, bytes: &[u8]) -> Result<&[u8], HistoryError>
     ensures rest { IfOk result (λ rest. bytes.now ≡ version_line version ++ 10 ∷ rest.now) }
     ensures refusal { IfErr result (IsRefusalOf version bytes.now) }
 {
-    let Some((number, rest)) = read_number(bytes, b"dejavu history", MOST_VERSION) else {
+    let Some((number, rest)) = read_number_line(bytes, b"dejavu history", MOST_VERSION) else {
         return Err(HistoryError::Malformed(1, 1));
     };
     if number == version.number() {
@@ -269,10 +271,10 @@ fn read_entry<'a>(
     if !is_new(names, name.bytes)? {
         return Err(Fault::Broken(1, 6));
     }
-    let Some((budget, rest)) = read_number(name.rest, b"budget", MOST_BUDGET) else {
+    let Some((budget, rest)) = read_number_line(name.rest, b"budget", MOST_BUDGET) else {
         return Err(Fault::Broken(2, 7));
     };
-    let Some((input, rest)) = read_bytes(alloc, rest, b"input", MOST_INPUT)? else {
+    let Some((input, rest)) = read_bytes_line(alloc, rest, b"input", MOST_INPUT)? else {
         return Err(Fault::Broken(3, 8));
     };
     let test = Test::new(Text::new(alloc, name.bytes)?, budget as u32, input);
@@ -308,10 +310,10 @@ fn read_results<'a>(
     let Some((status, rest)) = read_status(text) else {
         return Err(Fault::Broken(4, 9));
     };
-    let Some((turns, rest)) = read_number(rest, b"turns", u64::from(test.budget())) else {
+    let Some((turns, rest)) = read_number_line(rest, b"turns", u64::from(test.budget())) else {
         return Err(Fault::Broken(5, 10));
     };
-    let Some((output, rest)) = read_bytes(alloc, rest, b"output", MOST_OUTPUT)? else {
+    let Some((output, rest)) = read_bytes_line(alloc, rest, b"output", MOST_OUTPUT)? else {
         return Err(Fault::Broken(6, 11));
     };
     let Some((crossed, rest)) = read_crossed(alloc, version, rest, edges)? else {

@@ -12,10 +12,9 @@ use crate::entry::Entry;
 use crate::error::HistoryTextError;
 use crate::history::History;
 use crate::length::text_length;
-use crate::lines::{
-    push_bytes_line, push_digest_line, push_number_line, push_status_line, push_text_line,
-};
+use crate::lines::push_status_line;
 use crate::version::Version;
+use line_text::{push_bytes_line, push_digest_line, push_number_line, push_text_line};
 use std::alloc::{AllocError, Global};
 
 const MOST_BYTES: u64 = 134_217_728;

@@ -4,14 +4,14 @@ use Rattle.std.specs.List.{All, slice_get}
 use Rattle.std.proofs.lemmas.List.Elements.{All-nil, All-cons, All-head, All-tail}
 use Rattle.std.proofs.lemmas.List.{length-map, map-append}
 use Rattle.hex.specs.Hex.{IsBytes}
-use Rattle.line_text.specs.Lines.{TextLine, lines_of, line_with, text_of_lines}
+use Rattle.line_text.specs.Lines.{TextLine, lines_of, line_with, text_of_lines, line_at}
 use Rattle.line_text.proofs.Laws.{lines_of-text_of_lines}
 use Rattle.test_suite.specs.declared.line.LineFault.{LineFault}
 use Rattle.test_suite.specs.declared.line.LineFault.TheVariants as fault
 use Rattle.test_suite.specs.Faults.{IsLineFault, IsFaultOf, refusal_at}
 use Rattle.test_suite.specs.Tests.{TestParts, IsWithin}
 use Rattle.test_suite.specs.Suites.{first_line, test_line, suite_text}
-use Rattle.test_suite.specs.Rules.{Rule, s1, s2, s3, s4, s5, s6, s7, number_of, IsAsked, Keeps, KeepsThere, line_at, IsLeastBroken, IsFirstFault}
+use Rattle.test_suite.specs.Rules.{Rule, s1, s2, s3, s4, s5, s6, s7, number_of, IsAsked, Keeps, KeepsThere, IsLeastBroken, IsFirstFault}
 use Rattle.test_suite.proofs.LineLemmas.{Keeps-test_line, test_line-no_newline}
 
 -- no line of a suite has a newline in it

@@ -1,10 +1,10 @@
 -- The rules S1 to S7 of a suite's lines, and the first line that breaks one.
-use Rattle.std.specs.Prelude.{◌≡◌, ◌≤◌, ◌<◌, ◌-◌, ◌⊎◌, ⊤, ℕ, List, [], ◌∷◌, length, codes, IsTrue}
-use Rattle.std.specs.Prelude.{Option, Some, None, slice_get}
+use Rattle.std.specs.Prelude.{◌≡◌, ◌≤◌, ◌<◌, ◌⊎◌, ⊤, ℕ, List, [], ◌∷◌, length, codes, IsTrue}
+use Rattle.std.specs.Prelude.{Option, Some, None}
 use Rattle.std.specs.Fmt.{decimal}
 use Rattle.hex.specs.Hex.{IsBytes}
 use Rattle.line_text.specs.Bytes.{bytes_or_dash}
-use Rattle.line_text.specs.Lines.{TextLine, lines_of}
+use Rattle.line_text.specs.Lines.{TextLine, lines_of, line_at}
 use Rattle.line_text.specs.Words.{AreWords}
 use Rattle.test_suite.specs.Tests.{IsTestName, most_budget, most_input}
 use Rattle.test_suite.specs.Suites.{first_line}
@@ -63,10 +63,6 @@ Keeps s7 line = (name budget input : List ℕ) → HasWords line.bytes name budg
 abbrev pub KeepsThere : Rule → Option TextLine → Type 0
 KeepsThere rule None = ⊥
 KeepsThere rule (Some line) = Keeps rule line
-
--- line n of a text, counted from 1
-abbrev pub line_at : List ℕ → ℕ → Option TextLine
-line_at text n = slice_get (lines_of text) (n - 1)
 
 -- r is the number of the least rule that is asked of this line, the n-th, and that it breaks
 pub record IsLeastBroken (line : Option TextLine) (n r : ℕ) : Type 0 where

@@ -1,11 +1,11 @@
 use Rattle.std.proofs.Common.{◌≡◌, ◌<◌, ◌^◌, codes, arith, subst}
 use Rattle.cert_text.specs.Certificates.{IsAfter}
 use Rattle.cert_text.specs.CertificateTexts.{edge_line}
-use Rattle.cert_text.specs.Lines.{HasLine}
+use Rattle.line_text.specs.Lines.{HasLine}
 use Rattle.cert_text.proofs.PlainLemmas.{plain_edge}
 use Rattle.cert_text.proofs.ReadLemmas.{first_is}
 use Rattle.cert_text.proofs.SameLemmas.{number_same}
-use Rattle.cert_text.proofs.ValueLemmas.{one_line}
+use Rattle.line_text.proofs.LawsOfValues.{one_line}
 use Rattle.cert_text.proofs.items.read_edge.Goals as goal
 
 pub returns-else-is_after : goal.returns-else-is_after

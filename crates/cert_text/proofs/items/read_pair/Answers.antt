@@ -3,7 +3,7 @@ use Rattle.std.specs.Fmt.{decimal}
 use Rattle.line_text.specs.Words.{line_of_words}
 use Rattle.cert_text.specs.Certificates.{IsAfter, IsBefore}
 use Rattle.cert_text.proofs.SameLemmas.{IsSmall, pair_same}
-use Rattle.cert_text.proofs.ValueLemmas.{one_value}
+use Rattle.line_text.proofs.LawsOfValues.{one_value}
 use Rattle.cert_text.proofs.items.read_pair.Goals as goal
 
 pub returns-else-rises : goal.returns-else-rises

@@ -1,6 +1,7 @@
 use Rattle.std.proofs.Common.{◌≡◌, ◌+◌, ◌*◌, ◌≤◌, length, map}
 use Rattle.line_text.specs.Lines.{text_of_lines}
-use Rattle.cert_text.specs.CertificateTexts.{edge_line, numbers_of}
+use Rattle.edge_trace.specs.Rows.{numbers_of}
+use Rattle.cert_text.specs.CertificateTexts.{edge_line}
 use Rattle.cert_text.proofs.ScanLemmas.{lines_from}
 use Rattle.cert_text.proofs.length.edges_length.Given as goal
 

@@ -1,9 +1,9 @@
 use Rattle.std.proofs.Common.{◌≡◌, length, map, ◌∙◌, sym, ap, arith}
 use Rattle.std.specs.Fmt.{decimal}
-use Rattle.edge_trace.specs.Rows.{size}
+use Rattle.edge_trace.specs.Rows.{size, numbers_of}
 use Rattle.line_text.specs.Lines.{text_of_lines}
-use Rattle.cert_text.specs.CertificateTexts.{edge_line, pair_line, numbers_of}
-use Rattle.cert_text.proofs.RowLemmas.{length-numbers_of}
+use Rattle.cert_text.specs.CertificateTexts.{edge_line, pair_line}
+use Rattle.edge_trace.proofs.LawsOfNumbers.{length-numbers_of}
 use Rattle.cert_text.proofs.ScanLemmas.{length-certificate_text}
 use Rattle.cert_text.proofs.length.text_length.Goals as goal
 

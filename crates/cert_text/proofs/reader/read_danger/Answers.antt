@@ -3,12 +3,14 @@ use Rattle.std.specs.Fmt.{decimal}
 use Rattle.std.proofs.lemmas.List.{length-replicate}
 use Rattle.edge_trace.proofs.Laws.{has-replicate}
 use Rattle.cert_text.specs.Certificates.{IsAfter}
-use Rattle.cert_text.specs.CertificateTexts.{numbers_of, edge_line}
-use Rattle.cert_text.specs.Lines.{value_line}
+use Rattle.edge_trace.specs.Rows.{numbers_of}
+use Rattle.cert_text.specs.CertificateTexts.{edge_line}
+use Rattle.line_text.specs.Values.{value_line}
 use Rattle.cert_text.specs.Rules.{IsFirstFault}
 use Rattle.cert_text.proofs.ItemLemmas.{last_of-push}
 use Rattle.cert_text.proofs.PairLemmas.{edge_fault, one_more_number, clear_more, lines_more}
-use Rattle.cert_text.proofs.RowLemmas.{numbers_of-empty, rise-numbers_of}
+use Rattle.edge_trace.proofs.LawsOfNumbers.{numbers_of-empty}
+use Rattle.cert_text.proofs.RowLemmas.{rise-numbers_of}
 use Rattle.cert_text.proofs.SameLemmas.{danger_below}
 use Rattle.cert_text.proofs.WholeLemmas.{count_fault}
 use Rattle.cert_text.proofs.reader.read_danger.Goals as goal

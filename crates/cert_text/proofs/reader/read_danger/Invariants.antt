@@ -1,8 +1,9 @@
 use Rattle.std.proofs.Common.{◌≡◌, ◌++◌, ◌∷◌, length, map, codes, None}
 use Rattle.std.specs.Fmt.{decimal}
 use Rattle.line_text.specs.Lines.{text_of_lines}
-use Rattle.cert_text.specs.CertificateTexts.{numbers_of, edge_line}
-use Rattle.cert_text.specs.Lines.{value_line}
+use Rattle.edge_trace.specs.Rows.{numbers_of}
+use Rattle.cert_text.specs.CertificateTexts.{edge_line}
+use Rattle.line_text.specs.Values.{value_line}
 use Rattle.cert_text.proofs.ItemLemmas.{last_of}
 use Rattle.cert_text.proofs.PairLemmas.{IsClear}
 use Rattle.cert_text.proofs.reader.read_danger.Given as goal

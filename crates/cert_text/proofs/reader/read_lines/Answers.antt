@@ -1,13 +1,14 @@
 use Rattle.std.proofs.Common.{◌≡◌, ◌+◌, ◌∙◌, ◌∷◌, [], length, codes, sym, ap, subst, arith}
 use Rattle.hex.specs.Hex.{encode_lower}
 use Rattle.line_text.specs.Lines.{text_of_lines}
-use Rattle.cert_text.specs.CertificateTexts.{title, numbers_of, danger_lines, pairs_lines, text_before_end}
+use Rattle.edge_trace.specs.Rows.{numbers_of}
+use Rattle.cert_text.specs.CertificateTexts.{title, danger_lines, pairs_lines, text_before_end}
 use Rattle.cert_text.specs.Faults.{IsReadTo, IsRefusalOf}
-use Rattle.cert_text.specs.Lines.{value_line}
+use Rattle.line_text.specs.Values.{value_line}
 use Rattle.cert_text.specs.Rules.{SaysEdges}
 use Rattle.cert_text.proofs.ReadLemmas.{at_line}
 use Rattle.cert_text.proofs.SameLemmas.{IsSmall}
-use Rattle.cert_text.proofs.TextLemmas.{passed_err, front_is, three_parts}
+use Rattle.line_text.proofs.LawsOfTexts.{passed_err, front_is, three_parts}
 use Rattle.cert_text.proofs.WholeLemmas.{head_read, edges_read, pairs_read}
 use Rattle.cert_text.proofs.reader.read_lines.Goals as goal
 

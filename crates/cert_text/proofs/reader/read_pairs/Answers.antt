@@ -3,7 +3,7 @@ use Rattle.std.specs.Fmt.{decimal}
 use Rattle.std.proofs.lemmas.List.Elements.{All-push}
 use Rattle.cert_text.specs.Certificates.{IsAfter, IsBefore, IsBelow}
 use Rattle.cert_text.specs.CertificateTexts.{pair_line}
-use Rattle.cert_text.specs.Lines.{value_line}
+use Rattle.line_text.specs.Values.{value_line}
 use Rattle.cert_text.specs.Rules.{IsFirstFault}
 use Rattle.cert_text.proofs.ItemLemmas.{last_of, last_of-push, rise-push}
 use Rattle.cert_text.proofs.PairLemmas.{pair_fault, lines_more}

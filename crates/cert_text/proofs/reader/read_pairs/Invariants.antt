@@ -4,7 +4,7 @@ use Rattle.std.specs.List.{All}
 use Rattle.line_text.specs.Lines.{text_of_lines}
 use Rattle.cert_text.specs.Certificates.{IsBelow, Rise}
 use Rattle.cert_text.specs.CertificateTexts.{pair_line}
-use Rattle.cert_text.specs.Lines.{value_line}
+use Rattle.line_text.specs.Values.{value_line}
 use Rattle.cert_text.proofs.ItemLemmas.{last_of}
 use Rattle.cert_text.proofs.reader.read_pairs.Given as goal
 

@@ -1,10 +1,10 @@
 use Rattle.std.proofs.Common.{◌≡◌, ◌∙◌, ◌+◌, ◌<◌, ◌++◌, ◌∷◌, [], true, false, length, codes, refl, sym, ap, arith}
 use Rattle.std.specs.Fmt.{decimal}
-use Rattle.edge_trace.specs.Rows.{has}
+use Rattle.edge_trace.specs.Rows.{has, numbers_of}
 use Rattle.line_text.specs.Lines.{text_of_lines}
-use Rattle.cert_text.specs.CertificateTexts.{edge_line, danger_lines, numbers_of}
-use Rattle.cert_text.specs.Lines.{value_line}
-use Rattle.cert_text.proofs.RowLemmas.{length-numbers_of}
+use Rattle.cert_text.specs.CertificateTexts.{edge_line, danger_lines}
+use Rattle.line_text.specs.Values.{value_line}
+use Rattle.edge_trace.proofs.LawsOfNumbers.{length-numbers_of}
 use Rattle.cert_text.proofs.ScanLemmas.{lines_from, lines_marked, lines_unmarked, lines_first, line_pushed}
 use Rattle.cert_text.proofs.writer.push_danger.Goals as goal
 use Rattle.cert_text.proofs.writer.push_danger.Goals.{then-has+in_ok-push_number_line-2, else-has}

@@ -2,8 +2,8 @@ use Rattle.std.proofs.Common.{◌∙◌, ◌++◌, ◌∷◌, [], codes, append_
 use Rattle.hex.specs.Hex.{encode_lower}
 use Rattle.line_text.specs.Lines.{text_of_lines}
 use Rattle.cert_text.specs.CertificateTexts.{title}
-use Rattle.cert_text.specs.Lines.{value_line}
-use Rattle.cert_text.proofs.TextLemmas.{with_lines-text_of_lines}
+use Rattle.line_text.specs.Values.{value_line}
+use Rattle.line_text.proofs.LawsOfTexts.{with_lines-text_of_lines}
 use Rattle.cert_text.proofs.writer.push_first_lines.Goals as goal
 
 pub returns : goal.returns

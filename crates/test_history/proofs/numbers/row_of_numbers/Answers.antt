@@ -2,8 +2,8 @@ use Rattle.std.proofs.Common.{◌≡◌, ◌≢◌, ◌∙◌, true, false, code
 use Rattle.std.specs.Str.{bytes_eq}
 use Rattle.std.proofs.lemmas.List.{length-replicate}
 use Rattle.std.proofs.lemmas.Slice.Eq.{bytes_eq-Decides}
-use Rattle.test_history.specs.HistoryTexts.{crossed_numbers}
-use Rattle.test_history.proofs.RowLemmas.{row_rising}
+use Rattle.edge_trace.specs.Rows.{numbers_of}
+use Rattle.edge_trace.proofs.LawsOfNumbers.{AreRising-numbers_of}
 use Rattle.test_history.proofs.NumbersLemmas.{dash_line, words_are, pieces_are}
 use Rattle.test_history.proofs.numbers.row_of_numbers.Goals as goal
 
@@ -26,4 +26,4 @@ returns-else-set_numbers c = λ row bound is.
     let other : c.args.words.now ≢ codes "-" = λ dash. cc ((bytes_eq-Decides c.args.words.now c.as_slice.result.now).1 (dash ∙ sym c.as_slice.ensures), unlike) in
     let size : length c.in_ok-row.row ≡ c.args.edges = ap length c.in_ok-row.ensures ∙ length-replicate c.args.edges false in
     c.if-set_numbers.ensures.numbers row (bound ∙ sym size)
-    (pieces_are c.args.edges c.args.words.now (crossed_numbers row) c.ranges.edges.fits (row_rising row c.args.edges bound) other is)
+    (pieces_are c.args.edges c.args.words.now (numbers_of row) c.ranges.edges.fits (AreRising-numbers_of row c.args.edges bound) other is)

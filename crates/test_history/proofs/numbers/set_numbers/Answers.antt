@@ -1,8 +1,8 @@
 use Rattle.std.proofs.Common.{◌≡◌, ◌≤◌, ◌∙◌, ◌∷◌, [], true, length, length-set, refl, arith, append-nil}
 use Rattle.line_text.specs.Words.{pieces}
 use Rattle.test_history.proofs.NumbersLemmas.{begins, no_word, no_number, bad_number, next_left, clear_set, said_more, said_first, clear_first}
-use Rattle.test_history.specs.HistoryTexts.{crossed_numbers}
-use Rattle.test_history.proofs.RowLemmas.{row_rising}
+use Rattle.edge_trace.specs.Rows.{numbers_of}
+use Rattle.edge_trace.proofs.LawsOfNumbers.{AreRising-numbers_of}
 use Rattle.test_history.proofs.numbers.set_numbers.Goals as goal
 use Rattle.test_history.proofs.numbers.set_numbers.Goals.{then-number-least-via-then-number-least, then-number-least-via-else-number-least+then-number-edges}
 
@@ -16,17 +16,17 @@ loop-word-init c = record {
 
 pub returns-in_default-clause-numbers : goal.returns-in_default-clause-numbers
 returns-in_default-clause-numbers c = λ other size is.
-    no_word (length c.args.row.now) c.loop-word.least (pieces c.loop-word.rest.now) c.in_default.ensures.pieces.0 c.requires.bound (c.loop-word.invariant.left (crossed_numbers other) (row_rising other (length c.args.row.now) size) is) c.in_default.ensures.pieces.1
+    no_word (length c.args.row.now) c.loop-word.least (pieces c.loop-word.rest.now) c.in_default.ensures.pieces.0 c.requires.bound (c.loop-word.invariant.left (numbers_of other) (AreRising-numbers_of other (length c.args.row.now) size) is) c.in_default.ensures.pieces.1
 
 pub returns-in_default-read_decimal-clause-numbers : goal.returns-in_default-read_decimal-clause-numbers
 returns-in_default-read_decimal-clause-numbers c = λ other size is.
     let first = begins (λ rest. rest.now) (pieces c.loop-word.rest.now) c.in-Some.word.bytes.now c.in-Some.word.rest c.in-Some.ensures.pieces in
-    no_number (length c.args.row.now) c.loop-word.least (pieces c.loop-word.rest.now) first.0 c.in-Some.word.bytes.now c.requires.bound (c.loop-word.invariant.left (crossed_numbers other) (row_rising other (length c.args.row.now) size) is) first.1 c.in_default-read_decimal.ensures
+    no_number (length c.args.row.now) c.loop-word.least (pieces c.loop-word.rest.now) first.0 c.in-Some.word.bytes.now c.requires.bound (c.loop-word.invariant.left (numbers_of other) (AreRising-numbers_of other (length c.args.row.now) size) is) first.1 c.in_default-read_decimal.ensures
 
 pub returns-then-number-least-clause-numbers : goal.returns-then-number-least-clause-numbers
 returns-then-number-least-clause-numbers c = λ other size is.
     let first = begins (λ rest. rest.now) (pieces c.loop-word.rest.now) c.in-Some.word.bytes.now c.in-Some.word.rest c.in-Some.ensures.pieces in
-    bad_number (length c.args.row.now) c.loop-word.least c.in-Some-read_decimal.number (pieces c.loop-word.rest.now) first.0 c.in-Some.word.bytes.now c.requires.bound (c.loop-word.invariant.left (crossed_numbers other) (row_rising other (length c.args.row.now) size) is) first.1
+    bad_number (length c.args.row.now) c.loop-word.least c.in-Some-read_decimal.number (pieces c.loop-word.rest.now) first.0 c.in-Some.word.bytes.now c.requires.bound (c.loop-word.invariant.left (numbers_of other) (AreRising-numbers_of other (length c.args.row.now) size) is) first.1
     c.in-Some-read_decimal.ensures.1 (omega (arith, c.in-Some-read_decimal.ensures.0))
     (λ low. elim c.then-number-least.branch [
       | then-number-least-via-then-number-least w ↦ absurd (omega (arith, low, w.if-number-least.true))

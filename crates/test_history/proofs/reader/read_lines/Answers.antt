@@ -1,7 +1,7 @@
 use Rattle.std.proofs.Common.{◌∙◌, sym, ap}
 use Rattle.test_history.specs.Faults.{IsRefusalOf}
 use Rattle.test_history.specs.HistoryTexts.{text_before_end}
-use Rattle.test_history.proofs.TextLemmas.{passed_err, front_is}
+use Rattle.line_text.proofs.LawsOfTexts.{passed_err, front_is}
 use Rattle.test_history.proofs.WholeLemmas.{head_read, refusal_of, end_refusal, before_is}
 use Rattle.test_history.proofs.reader.read_lines.Goals as goal
 

@@ -1,6 +1,6 @@
 use Rattle.std.proofs.Common.{codes, subst}
 use Rattle.test_suite.specs.Tests.{IsTestName}
-use Rattle.test_history.proofs.ValueLemmas.{one_value}
+use Rattle.line_text.proofs.LawsOfValues.{one_value}
 use Rattle.test_history.proofs.values.read_name.Goals as goal
 
 pub returns-else-is_test_name : goal.returns-else-is_test_name

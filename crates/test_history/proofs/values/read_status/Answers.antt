@@ -1,6 +1,7 @@
 use Rattle.std.proofs.Common.{codes, subst}
-use Rattle.test_history.specs.Rules.{HasLine}
-use Rattle.test_history.proofs.ValueLemmas.{one_value, status_line}
+use Rattle.line_text.specs.Lines.{HasLine}
+use Rattle.line_text.proofs.LawsOfValues.{one_value}
+use Rattle.test_history.proofs.StatusLemmas.{status_line}
 use Rattle.test_history.proofs.values.read_status.Goals as goal
 
 pub returns-in_err-status : goal.returns-in_err-status

@@ -1,8 +1,9 @@
 use Rattle.std.proofs.Common.{◌≡◌, ◌∙◌, ◌++◌, ◌∷◌, [], codes, ap}
 use Rattle.line_text.specs.Bytes.{bytes_or_dash}
 use Rattle.test_history.specs.declared.version.Version.TheVariants.{Third}
-use Rattle.test_history.specs.HistoryTexts.{entry_lines, value_line, row_bytes}
-use Rattle.test_history.proofs.TextLemmas.{with_lines-text_of_lines}
+use Rattle.line_text.specs.Values.{value_line}
+use Rattle.test_history.specs.HistoryTexts.{entry_lines, row_bytes}
+use Rattle.line_text.proofs.LawsOfTexts.{with_lines-text_of_lines}
 use Rattle.test_history.proofs.writer.push_entry.Goals as goal
 
 pub returns : goal.returns

@@ -1,6 +1,6 @@
 use Rattle.test_history.specs.declared.version.Version.TheVariants.{Third}
 use Rattle.test_history.specs.HistoryTexts.{first_lines}
-use Rattle.test_history.proofs.TextLemmas.{with_lines-text_of_lines}
+use Rattle.line_text.proofs.LawsOfTexts.{with_lines-text_of_lines}
 use Rattle.test_history.proofs.writer.push_first_lines.Goals as goal
 
 pub returns : goal.returns

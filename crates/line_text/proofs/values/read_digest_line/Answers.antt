@@ -1,5 +1,5 @@
-use Rattle.test_history.proofs.ValueLemmas.{one_value}
-use Rattle.test_history.proofs.values.read_digest_line.Goals as goal
+use Rattle.line_text.proofs.LawsOfValues.{one_value}
+use Rattle.line_text.proofs.values.read_digest_line.Goals as goal
 
 pub returns-in_err-digest : goal.returns-in_err-digest
 returns-in_err-digest c = rw c.from_residual-in_err-digest.ensures (λ has.

@@ -1,8 +1,8 @@
 use Rattle.std.proofs.Common.{◌≡◌, ◌∙◌, ap, length, sym, arith}
 use Rattle.line_text.specs.Bytes.{bytes_or_dash}
 use Rattle.line_text.proofs.Laws.{bytes_or_dash-injective}
-use Rattle.test_history.proofs.ValueLemmas.{one_value}
-use Rattle.test_history.proofs.values.read_bytes.Goals as goal
+use Rattle.line_text.proofs.LawsOfValues.{one_value}
+use Rattle.line_text.proofs.values.read_bytes_line.Goals as goal
 
 pub returns-in_default-2 : goal.returns-in_default-2
 returns-in_default-2 c = λ has.

@@ -1,8 +1,8 @@
 use Rattle.std.proofs.Common.{◌∷◌, [], Some, None}
 use Rattle.std.proofs.lemmas.Bool.Decides.{Decides-eqb}
 use Rattle.std.proofs.lemmas.Slice.Eq.{strip_prefix_is}
-use Rattle.test_history.proofs.ValueLemmas.{no_prefix, value_cut, value_here}
-use Rattle.test_history.proofs.values.cut_value.Goals as goal
+use Rattle.line_text.proofs.ValueLemmas.{no_prefix, value_cut, value_here}
+use Rattle.line_text.proofs.values.cut_value.Goals as goal
 
 pub returns-in_err-strip_prefix-clause-cut : goal.returns-in_err-strip_prefix-clause-cut
 returns-in_err-strip_prefix-clause-cut c =

@@ -1,5 +1,5 @@
-use Rattle.test_history.proofs.ValueLemmas.{one_value}
-use Rattle.test_history.proofs.values.read_number.Goals as goal
+use Rattle.line_text.proofs.LawsOfValues.{one_value}
+use Rattle.line_text.proofs.values.read_number_line.Goals as goal
 
 pub returns-in_err-number : goal.returns-in_err-number
 returns-in_err-number c = rw c.from_residual-in_err-number.ensures (λ number has.

@@ -1,4 +1,4 @@
--- Lines that are written one after the other.
+-- Laws of texts that are written and read line by line, for proofs above.
 use Rattle.std.proofs.Common.{◌≡◌, ◌-◌, ℕ, Result, Ok, Err, List, [], ◌∷◌, ◌++◌, length, length-append, take, subst, arith, refl, sym, ap, ◌∙◌, append-nil, append_assoc}
 use Rattle.std.specs.Result.{IfOk, IfErr, IsErrAnd}
 use Rattle.std.proofs.lemmas.List.{take_at}
@@ -41,3 +41,8 @@ pub front_is : (text front rest : List ℕ) → text ≡ front ++ rest → take 
 front_is text front rest is =
     let size : length text - length rest ≡ length front = omega (arith, ap length is, length-append front rest) in
     rw (size, is) (take_at front rest (length front) refl)
+
+-- a text of three parts and what follows them
+pub three_parts : (text one two three r1 r2 r3 : List ℕ) → text ≡ one ++ r1 → r1 ≡ two ++ r2 → r2 ≡ three ++ r3 → text ≡ (one ++ (two ++ three)) ++ r3
+three_parts text one two three r1 r2 r3 cut1 cut2 cut3 =
+    cut1 ∙ ap (λ r. one ++ r) (cut2 ∙ ap (λ r. two ++ r) cut3 ∙ sym (append_assoc two three r3)) ∙ sym (append_assoc one (two ++ three) r3)

@@ -1,12 +1,12 @@
--- The numbers of a row rise, are below its bound, and determine it.
+-- Laws of the numbers of a row, for proofs above: they rise, are below its bound, and determine it.
 use Rattle.std.proofs.Common.{◌≡◌, ◌≢◌, ℕ, zero, suc, ◌+◌, ◌<◌, ◌≤◌, Bool, true, false, cond, List, [], ◌∷◌, ◌++◌, length, length-append, set, replicate, refl, sym, ap, subst, ◌∙◌, arith, append_assoc}
 use Rattle.std.specs.List.{All, AllPairs, filter, range_with_len}
 use Rattle.std.proofs.Math.Seq.{get_or-append_seam}
 use Rattle.std.proofs.lemmas.List.Elements.{All-nil, All-cons, All-weaker}
 use Rattle.std.proofs.lemmas.List.Kept.{AllPairs-cons}
-use Rattle.edge_trace.specs.Rows.{has}
+use Rattle.std.proofs.lemmas.List.Sums.{count_by-le-length, sum_by-cons}
+use Rattle.edge_trace.specs.Rows.{has, size, numbers_of}
 use Rattle.edge_trace.proofs.Laws.{has-replicate}
-use Rattle.test_history.specs.HistoryTexts.{crossed_numbers}
 
 -- each number is less than every later one, and less than the bound
 pub record AreRising (bound : ℕ) (numbers : List ℕ) : Type 0 where
@@ -18,8 +18,8 @@ abbrev pub places : ℕ → List Bool → List ℕ
 places off [] = []
 places off (is_in ∷ row) = cond is_in (off ∷ places (off + 1) row) (places (off + 1) row)
 
-pub crossed_numbers-places : (row : List Bool) → crossed_numbers row ≡ places 0 row
-crossed_numbers-places row = from [] row
+pub numbers_of-places : (row : List Bool) → numbers_of row ≡ places 0 row
+numbers_of-places row = from [] row
   where
     from : (before row : List Bool) → filter (has (before ++ row)) (range_with_len (length before) (length row)) ≡ places (length before) row
     from before [] = refl
@@ -38,8 +38,8 @@ places-none off (is_in ∷ row) none =
     let here : is_in ≡ false = none 0 in
     rw here (places-none (off + 1) row (λ k. none (suc k)))
 
-pub crossed_numbers-empty : (bound : ℕ) → crossed_numbers (replicate bound false) ≡ []
-crossed_numbers-empty bound = crossed_numbers-places (replicate bound false) ∙ places-none 0 (replicate bound false) (has-replicate bound)
+pub numbers_of-empty : (bound : ℕ) → numbers_of (replicate bound false) ≡ []
+numbers_of-empty bound = numbers_of-places (replicate bound false) ∙ places-none 0 (replicate bound false) (has-replicate bound)
 
 -- one more number after all others
 places-set : (off n : ℕ) (row : List Bool) → n < length row → ((k : ℕ) → n ≤ k → has row k ≡ false) → places off (set row n true) ≡ places off row ++ (off + n) ∷ []
@@ -56,11 +56,11 @@ places-set off (suc n) (false ∷ row) within none =
     let at : off + 1 + n ≡ off + suc n = omega arith in
     places-set (off + 1) n row (omega arith) (λ k past. none (suc k) (omega arith)) ∙ ap (λ number. places (off + 1) row ++ number ∷ []) at
 
-pub crossed_numbers-set : (row : List Bool) (n : ℕ) → n < length row → ((k : ℕ) → n ≤ k → has row k ≡ false) → crossed_numbers (set row n true) ≡ crossed_numbers row ++ n ∷ []
-crossed_numbers-set row n within none =
+pub numbers_of-set : (row : List Bool) (n : ℕ) → n < length row → ((k : ℕ) → n ≤ k → has row k ≡ false) → numbers_of (set row n true) ≡ numbers_of row ++ n ∷ []
+numbers_of-set row n within none =
     let at : 0 + n ≡ n = omega arith in
-    crossed_numbers-places (set row n true) ∙ places-set 0 n row within none ∙ ap (λ number. places 0 row ++ number ∷ []) at
-    ∙ ap (λ numbers. numbers ++ n ∷ []) (sym (crossed_numbers-places row))
+    numbers_of-places (set row n true) ∙ places-set 0 n row within none ∙ ap (λ number. places 0 row ++ number ∷ []) at
+    ∙ ap (λ numbers. numbers ++ n ∷ []) (sym (numbers_of-places row))
 
 -- the numbers rise
 places-bounds : (off : ℕ) (row : List Bool) → All (λ n. (off ≤ n) × (n < off + length row)) (places off row)
@@ -79,15 +79,28 @@ places-rising off (true ∷ row) =
     (places-rising (off + 1) row)
 places-rising off (false ∷ row) = places-rising (off + 1) row
 
-pub AreRising-crossed_numbers : (row : List Bool) → AreRising (length row) (crossed_numbers row)
-AreRising-crossed_numbers row =
-    subst (AreRising (length row)) (sym (crossed_numbers-places row)) (record {
-      rising = places-rising 0 row;
-      below = All-weaker (λ n. (0 ≤ n) × (n < 0 + length row)) (λ n. n < length row) (λ n h. omega (arith, h.1)) (places 0 row) (places-bounds 0 row);
-    })
+pub below-numbers_of : (row : List Bool) → All (λ n. n < length row) (numbers_of row)
+below-numbers_of row =
+    subst (All (λ n. n < length row)) (sym (numbers_of-places row))
+    (All-weaker (λ n. (0 ≤ n) × (n < 0 + length row)) (λ n. n < length row) (λ n h. omega (arith, h.1)) (places 0 row) (places-bounds 0 row))
 
-pub row_rising : (row : List Bool) (bound : ℕ) → length row ≡ bound → AreRising bound (crossed_numbers row)
-row_rising row bound size = subst (λ n. AreRising n (crossed_numbers row)) size (AreRising-crossed_numbers row)
+pub AreRising-numbers_of : (row : List Bool) (bound : ℕ) → length row ≡ bound → AreRising bound (numbers_of row)
+AreRising-numbers_of row bound size = subst (λ n. AreRising n (numbers_of row)) size (record {
+  rising = subst (AllPairs (λ number later. number < later)) (sym (numbers_of-places row)) (places-rising 0 row);
+  below = below-numbers_of row;
+})
+
+-- there are as many as the row has
+length-places : (off : ℕ) (row : List Bool) → length (places off row) ≡ size row
+length-places off [] = refl
+length-places off (true ∷ row) = omega (arith, length-places (off + 1) row, sum_by-cons (λ t. cond t 1 0) true row)
+length-places off (false ∷ row) = omega (arith, length-places (off + 1) row, sum_by-cons (λ t. cond t 1 0) false row)
+
+pub length-numbers_of : (row : List Bool) → length (numbers_of row) ≡ size row
+length-numbers_of row = ap length (numbers_of-places row) ∙ length-places 0 row
+
+pub few-numbers_of : (row : List Bool) → length (numbers_of row) ≤ length row
+few-numbers_of row = omega (arith, length-numbers_of row, count_by-le-length (λ is_in. is_in) row)
 
 -- two rows of one bound with the same numbers are one
 places-same : (off : ℕ) (a b : List Bool) → length a ≡ length b → places off a ≡ places off b → a ≡ b
@@ -113,5 +126,5 @@ places-same off (false ∷ a) (true ∷ b) bounds is = absurd (not_first off a (
         let head = first 0 0 (omega arith) in
         omega (arith, head.0)
 
-pub crossed_numbers-injective : (a b : List Bool) → length a ≡ length b → crossed_numbers a ≡ crossed_numbers b → a ≡ b
-crossed_numbers-injective a b bounds is = places-same 0 a b bounds (sym (crossed_numbers-places a) ∙ is ∙ crossed_numbers-places b)
+pub numbers_of-injective : (a b : List Bool) → length a ≡ length b → numbers_of a ≡ numbers_of b → a ≡ b
+numbers_of-injective a b bounds is = places-same 0 a b bounds (sym (numbers_of-places a) ∙ is ∙ numbers_of-places b)
