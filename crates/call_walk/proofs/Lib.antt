@@ -9,5 +9,6 @@ mod Turns
 mod Together
 mod Respecting
 pub mod LawsCalls
+pub mod LawsWalks
 mod Marking
 mod Entering

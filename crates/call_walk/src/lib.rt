@@ -9,7 +9,8 @@
 //! [`walk`] finds the reached pairs and the dangerous edges. Its steps are those of a `dual_walk::Walk`; what is done here
 //! is to enter the callees and to mark the edges.
 //!
-//! Proofs above cite `proofs/LawsCalls`: the only way out of a call is the next point.
+//! Proofs above cite `proofs/LawsCalls`, the only way out of a call is the next point, and `proofs/LawsWalks`, the facts of
+//! a walk hold just the reached pairs.
 #![tactic(auto)]
 
 pub mod answer;

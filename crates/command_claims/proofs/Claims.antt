@@ -1,48 +1,35 @@
 -- From a walk to its certificate: the row holds the dangerous edges, the pairs are the reached ones, and they are few.
 use Rattle.std.proofs.Common.{◌≡◌, ◌<◌, ◌↔◌, ℕ, List, length, Bool, false, Some, IsTrue, refl, sym, ap, subst, ◌∙◌, inl, inr, arith}
 use Rattle.std.specs.Prelude.{slice_get}
-use Rattle.std.proofs.Math.ListN.{get_or-eq_default}
-use Rattle.std.proofs.lemmas.Bool.{cases_lt}
-use Rattle.std.proofs.lemmas.Option.{slice_get-map, slice_get_cases, slice_get_within}
+use Rattle.std.proofs.lemmas.Option.{slice_get_cases, slice_get_within}
 use Rattle.sha2.specs.Sha256.{sha256}
 use Rattle.csub_objects.specs.Types.{Name}
 use Rattle.csub_semantics.specs.Points.{PointTree}
 use Rattle.csub_semantics.specs.Syntax.{ProgramTree}
 use Rattle.csub_semantics.specs.Flows.{edge_list, point_list}
 use Rattle.csub_semantics.specs.Numbers.{Site, site_at, site_of}
-use Rattle.csub_semantics.specs.Books as books
 use Rattle.csub_validity.specs.Valid.{IsValid}
 use Rattle.edge_trace.specs.Rows.{has}
+use Rattle.edge_trace.proofs.Laws.{has-within}
 use Rattle.flow_graph.proofs.LawsLists.{made_of}
 use Rattle.dual_walk.specs.declared.fact.Fact.{Fact}
-use Rattle.dual_walk.specs.Books.{IsNamed, named_fact, named_facts}
 use Rattle.dual_walk.specs.Held as held
 use Rattle.dual_walk.specs.Held.{AreAt}
-use Rattle.dual_walk.proofs.LawsFacts.{at_named, named_as, held_reached, held_pair, fact_held, pair_held}
-use Rattle.dual_walk.proofs.LawsLists.{contained}
+use Rattle.dual_walk.proofs.LawsFacts.{held_pair, pair_held}
 use Rattle.call_walk.specs.declared.answer.WalkResult.{WalkResult}
 use Rattle.call_walk.specs.Walks.{IsWalk}
+use Rattle.call_walk.proofs.LawsWalks.{held_reached, reached_held}
 use Rattle.cert_text.specs.Certificates.{CertificateParts, IsWithin}
 use Rattle.walk_cert.specs.Claims.{IsClosedClaim}
 use Rattle.walk_cert.specs.Made.{IsOfWalk}
 use Rattle.command_claims.specs.Certified.{IsDangerAt, AreReachedAt, IsCertificateOf}
 use Rattle.command_claims.proofs.Few.{few, AreSmall}
 
-has_within : (row : List Bool) (e : ℕ) → IsTrue (has row e) → e < length row
-has_within row e is = elim (cases_lt e (length row)) [
-  | inl within ↦ within
-  | inr past ↦ let other : has row e ≡ false = get_or-eq_default row false past in cc
-]
-
 -- a valid program has at most 10,000 points
 few_points : (P : ProgramTree) → IsValid P → (n : ℕ) (s : Site) → site_at P n ≡ Some s → n < 10000
 few_points P valid n s at =
     let m = made_of site_of (slice_get (point_list P) n) s at in
     omega (arith, slice_get_within (point_list P) n m.value m.is, valid.points)
-
--- a fact that is known by names
-at_fact : (P P' : ProgramTree) (c : Fact) (f : Name) (p p' : PointTree) → IsNamed P P' c → named_fact P P' c ≡ books.fact f p p' → AreAt P P' c.old c.new f p p'
-at_fact P P' c f p p' n same = subst (λ (b : books.Fact). AreAt P P' c.old c.new b.function b.old b.new) (sym (named_as P P' c n) ∙ same) (at_named P P' c n)
 
 module _ (P P' : ProgramTree) (walked : WalkResult) (walk : IsWalk P P' walked) where
   abbrev facts : List Fact
@@ -54,7 +41,7 @@ module _ (P P' : ProgramTree) (walked : WalkResult) (walk : IsWalk P P' walked) 
       marked : IsTrue (has walked.danger e) → IsDangerAt P P' e
       marked is = elim ((slice_get_cases (edge_list P) e).1) [
         | inl h ↦ record { edge = h.0; numbered = h.2; danger = (walk.danger e h.0 h.2).0 is }
-        | inr h ↦ absurd (omega (arith, h.0, has_within walked.danger e is, walk.edges))
+        | inr h ↦ absurd (omega (arith, h.0, has-within walked.danger e is, walk.edges))
       ]
 
   -- a fact is of points that are reached together
@@ -67,17 +54,12 @@ module _ (P P' : ProgramTree) (walked : WalkResult) (walk : IsWalk P P' walked) 
         point = named.point;
         other = named.other;
         at = at;
-        reached = held_reached P P' facts (record { each = walk.reasons }) named.name named.point named.other (pair_held P P' facts n n' named.name named.point named.other at h);
+        reached = held_reached P P' walked walk named.name named.point named.other (pair_held P P' facts n n' named.name named.point named.other at h);
       }
 
   -- points that are reached together are those of a fact
   reached_fact : IsValid P → IsValid P' → (n n' : ℕ) → AreReachedAt P P' n n' → held.HasPair facts n n'
-  reached_fact valid valid' n n' r =
-      let fact = books.fact r.function r.point r.other in
-      let at = contained (named_facts P P' facts) fact (walk.all r.function r.point r.other r.reached) in
-      let of = made_of (named_fact P P') (slice_get facts at.0) fact (sym (slice_get-map (named_fact P P') facts at.0) ∙ at.1) in
-      held_pair P P' facts n n' r.function r.point r.other valid valid' r.at
-      (fact_held P P' facts at.0 of.value r.function r.point r.other of.is (at_fact P P' of.value r.function r.point r.other (walk.reasons at.0 of.value of.is).named of.gives))
+  reached_fact valid valid' n n' r = held_pair P P' facts n n' r.function r.point r.other valid valid' r.at (reached_held P P' walked walk r.function r.point r.other r.reached)
 
   module _ (valid : IsValid P) (valid' : IsValid P') (certificate : CertificateParts) (made : IsOfWalk facts certificate.pairs) where
     are_small : AreSmall certificate.pairs

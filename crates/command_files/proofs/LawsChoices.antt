@@ -1,12 +1,11 @@
 -- From the row of a walk to choices.
-use Rattle.std.proofs.Common.{◌≡◌, ℕ, ◌<◌, List, [], ◌∷◌, length, Bool, false, IsTrue, refl, arith, inl, inr}
+use Rattle.std.proofs.Common.{◌≡◌, ℕ, List, [], ◌∷◌, length, Bool, IsTrue, refl, arith, inl, inr}
 use Rattle.std.specs.List.{AllZip}
-use Rattle.std.proofs.Math.ListN.{get_or-eq_default}
-use Rattle.std.proofs.lemmas.Bool.{cases_lt}
 use Rattle.std.proofs.lemmas.Option.{slice_get_cases}
 use Rattle.csub_semantics.specs.Syntax.{ProgramTree}
 use Rattle.csub_semantics.specs.Flows.{edge_list}
 use Rattle.edge_trace.specs.Rows.{has}
+use Rattle.edge_trace.proofs.Laws.{has-within}
 use Rattle.call_walk.specs.declared.answer.WalkResult.{WalkResult}
 use Rattle.call_walk.specs.Walks.{IsWalk}
 use Rattle.test_history.specs.Histories.{EntryParts}
@@ -14,12 +13,6 @@ use Rattle.test_select.specs.declared.choice.Choice.{Choice}
 use Rattle.test_select.specs.declared.choice.Choice.TheVariants.{Selected, Left}
 use Rattle.test_select.specs.Selection.{Chooses}
 use Rattle.command_files.specs.Choices.{CrossesDanger, IsChoice}
-
-has_within : (row : List Bool) (e : ℕ) → IsTrue (has row e) → e < length row
-has_within row e is = elim (cases_lt e (length row)) [
-  | inl within ↦ within
-  | inr past ↦ let other : has row e ≡ false = get_or-eq_default row false past in cc
-]
 
 module _ (P P' : ProgramTree) (walked : WalkResult) (is : IsWalk P P' walked) where
   -- a dangerous edge that was crossed is in both rows
@@ -29,7 +22,7 @@ module _ (P P' : ProgramTree) (walked : WalkResult) (is : IsWalk P P' walked) wh
   crosses_danger : (crossed : List Bool) (e : ℕ) → IsTrue (has crossed e) → IsTrue (has walked.danger e) → CrossesDanger P P' crossed e
   crosses_danger crossed e first second = elim ((slice_get_cases (edge_list P) e).1) [
     | inl h ↦ record { crosses = first; edge = h.0; numbered = h.2; danger = (is.danger e h.0 h.2).0 second }
-    | inr h ↦ absurd (omega (arith, h.0, has_within walked.danger e second, is.edges))
+    | inr h ↦ absurd (omega (arith, h.0, has-within walked.danger e second, is.edges))
   ]
 
   choice_is : (entry : EntryParts) (choice : Choice) → Chooses entry.crossed walked.danger choice → IsChoice P P' entry choice

@@ -10,17 +10,15 @@ use Rattle.test_history.specs.Causes.{HasTextCause}
 use Rattle.test_history.specs.Histories.{HistoryParts, IsHistoryWithin}
 use Rattle.test_history.specs.HistoryTexts.{history_text}
 use Rattle.test_history.specs.declared.error.HistoryTextError.TheVariants.{TooLong}
-use Rattle.test_history.specs.declared.version.Version.TheVariants.{Third}
 use Rattle.test_select.specs.declared.choice.Choice.{Choice}
 use Rattle.edge_images.specs.declared.image.Image.{Image}
 use Rattle.edge_images.specs.Images.{AreImages}
 use Rattle.carry_history.specs.Carried.{IsCarried}
 use Rattle.carry_history.specs.Recorded.{CarriesRecords}
 use Rattle.command_refusals.specs.declared.refusal.Product.TheVariants.{History}
-use Rattle.command_refusals.specs.declared.refusal.Refusal.{Refusal}
 use Rattle.command_refusals.specs.declared.refusal.Refusal.TheVariants as refusal
 use Rattle.command_files.specs.declared.choosing.Selection.{Selection}
-use Rattle.command_files.specs.Steps.{IsHistoryCause, IsSelectionOf}
+use Rattle.command_files.specs.Steps.{IsSelectionOf}
 use Rattle.command_histories.specs.Carried.{IsCarriedText, IsCarriedCause}
 use Rattle.command_histories.specs.Steps.{HasCarried}
 use Rattle.command_histories.proofs.Recorded.{recorded_anew}
@@ -41,11 +39,6 @@ module _ (P P' : ProgramTree) (new : List ℕ) (images : List Image) (choices : 
 -- ---- its text
 
 module _ (old new bytes : List ℕ) (P P' : ProgramTree) where
-  pub not_carried : (r : Refusal) → IsHistoryCause Third old bytes P r → IsCarriedCause old new bytes P P' r
-  not_carried refusal.Memory cause = tt
-  not_carried (refusal.History why) cause = cause
-  not_carried r cause = absurd cause
-
   module _ (selection : Selection) (after : HistoryParts) (selected : IsSelectionOf old bytes P P' selection) (accepted : Accepted new P') (carries : CarriesRecords P P')
       (has : HasCarried P P' new selection.chosen.choices.items selection.history after) where
     is_carried : IsCarriedText old new bytes P P' (history_text after)

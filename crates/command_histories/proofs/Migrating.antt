@@ -7,18 +7,11 @@ use Rattle.test_history.specs.HistoryTexts.{history_text}
 use Rattle.test_history.specs.declared.error.HistoryTextError.TheVariants.{TooLong}
 use Rattle.test_history.specs.declared.version.Version.TheVariants.{Second}
 use Rattle.command_refusals.specs.declared.refusal.Product.TheVariants.{History}
-use Rattle.command_refusals.specs.declared.refusal.Refusal.{Refusal}
 use Rattle.command_refusals.specs.declared.refusal.Refusal.TheVariants as refusal
 use Rattle.command_files.specs.Record.{IsHistoryFile}
-use Rattle.command_files.specs.Steps.{IsHistoryCause}
 use Rattle.command_histories.specs.Migrations.{IsMigration, IsMigrationCause}
 
 module _ (source bytes : List ℕ) (P : ProgramTree) where
-  pub not_migrated : (r : Refusal) → IsHistoryCause Second source bytes P r → IsMigrationCause source bytes P r
-  not_migrated refusal.Memory cause = tt
-  not_migrated (refusal.History why) cause = cause
-  not_migrated r cause = absurd cause
-
   pub is_migration : (history : HistoryParts) → IsHistoryFile Second source bytes P history → (text : List ℕ) → text ≡ history_text history → IsMigration source bytes P text
   is_migration history reads text is = record { history = history; reads = reads; is = is }
 

@@ -68,6 +68,10 @@ module _ (P P' : ProgramTree) where
       let same = one_at c.old c.new n.name f n.point n.other p p' (at_named c n) at in
       named_as c n ∙ (λ i. books.fact (same.function i) (same.old i) (same.new i))
 
+  -- such a fact is of the points that it names
+  pub fact_at : (c : Fact) (f : Name) (p p' : PointTree) → IsNamed P P' c → named_fact P P' c ≡ books.fact f p p' → AreAt P P' c.old c.new f p p'
+  fact_at c f p p' n same = subst (λ (b : books.Fact). AreAt P P' c.old c.new b.function b.old b.new) (sym (named_as c n) ∙ same) (at_named c n)
+
   pub get_named : (facts : List Fact) (i : ℕ) (c : Fact) (f : Name) (p p' : PointTree) → slice_get facts i ≡ Some c → IsNamed P P' c → AreAt P P' c.old c.new f p p' → slice_get (named_facts P P' facts) i ≡ Some (books.fact f p p')
   get_named facts i c f p p' e n at = slice_get-map (named_fact P P') facts i ∙ ap (option_map (named_fact P P')) e ∙ ap Some (named_at c f p p' n at)
 

@@ -16,10 +16,10 @@ use Rattle.dual_walk.specs.declared.fact.Fact.{Fact}
 use Rattle.dual_walk.specs.declared.fact.Why.TheVariants.{Start}
 use Rattle.dual_walk.specs.Books.{IsNamed, named_fact, named_facts, AreReasoned}
 use Rattle.dual_walk.specs.Held.{AreAt, IsHeld}
-use Rattle.dual_walk.proofs.LawsFacts.{named_as, held_reached}
-use Rattle.dual_walk.proofs.LawsLists.{contained, get_some}
+use Rattle.dual_walk.proofs.LawsLists.{get_some}
 use Rattle.call_walk.specs.declared.answer.WalkResult.{WalkResult}
 use Rattle.call_walk.specs.Walks.{IsWalk}
+use Rattle.call_walk.proofs.LawsWalks.{held_reached, reached_held}
 use Rattle.edge_images.specs.declared.image.Image.{Image}
 use Rattle.edge_images.specs.declared.image.Image.TheVariants.{Absent, One, Many}
 use Rattle.edge_images.specs.Images.{IsImageAt, Says, AreImages, IsBelow}
@@ -52,41 +52,22 @@ module _ (P P' : ProgramTree) (walked : WalkResult) (walk : IsWalk P P' walked) 
   pub fact_named : (i : ℕ) (c : Fact) → slice_get facts i ≡ Some c → IsNamed P P' c
   fact_named i c e = (walk.reasons i c e).named
 
-  -- a reached pair stands among the facts
-  reached_held : (f : Name) (p p' : PointTree) → Reached (flow_of P) (flow_of P') f p p' → IsHeld P P' facts f p p'
-  reached_held f p p' r =
-      let at = contained (named_facts P P' facts) (books.fact f p p') (walk.all f p p' r) in
-      let made = made_of (named_fact P P') (slice_get facts at.0) (books.fact f p p') (sym (slice_get-map (named_fact P P') facts at.0) ∙ at.1) in
-      let n = fact_named at.0 made.value made.is in
-      let same : books.fact n.name n.point n.other ≡ books.fact f p p' = sym (named_as P P' made.value n) ∙ made.gives in
-      record {
-        place = at.0;
-        fact = made.value;
-        stands = made.is;
-        at =
-            record {
-              old = n.old ∙ ap (λ (b : books.Fact). Some (site b.function b.old)) same;
-              new = n.new ∙ ap (λ (b : books.Fact). Some (site b.function b.new)) same;
-            };
-      }
-
   by_fact : (e i : ℕ) → IsImageBefore P P' facts (length facts) e i → IsImageAt P P' e i
   by_fact e i h =
       let b = h.by in
       let at : AreAt P P' h.fact.old h.fact.new b.old.function b.old.from b.new.from = record { old = b.from; new = b.from' ∙ ap (λ f. Some (site f b.new.from)) (sym b.function) } in
       let held : IsHeld P P' facts b.old.function b.old.from b.new.from = record { place = h.place; fact = h.fact; stands = h.stands; at = at } in
-      let are : AreReasoned P P' facts = record { each = walk.reasons } in
       record {
         old = b.old;
         new = b.new;
         numbered = b.numbered;
         numbered' = b.numbered';
-        image = record { function = b.function; exit = b.exit; pair = held_reached P P' facts are b.old.function b.old.from b.new.from held };
+        image = record { function = b.function; exit = b.exit; pair = held_reached P P' walked walk b.old.function b.old.from b.new.from held };
       }
 
   fact_by : (e i : ℕ) → IsImageAt P P' e i → IsImageBefore P P' facts (length facts) e i
   fact_by e i h =
-      let held = reached_held h.old.function h.old.from h.new.from h.image.pair in
+      let held = reached_held P P' walked walk h.old.function h.old.from h.new.from h.image.pair in
       record {
         place = held.place;
         fact = held.fact;

@@ -25,7 +25,8 @@ use Rattle.dual_walk.specs.Held.{HasPair, IsHeld, IsWithin}
 use Rattle.dual_walk.specs.Books.{AreReasoned}
 use Rattle.explain_report.specs.Explanations.{ComesBackBy, Shows}
 use Rattle.explain_report.specs.Dangers.{AreWithin, AreNamed, ArePartners, LeadsToNone, LeadsToNoneAt, IsEdgeWithin, IsTellable}
-use Rattle.explain_report.proofs.ReachLemmas.{held_reached, reached_held, next_held}
+use Rattle.call_walk.proofs.LawsWalks.{held_reached, reached_held}
+use Rattle.explain_report.proofs.ReachLemmas.{next_held}
 
 -- ---- numbers of a program are numbers of its graph
 

@@ -20,7 +20,7 @@ use Rattle.call_walk.specs.Walks.{IsWalk}
 use Rattle.explain_report.specs.WalkTexts.{walk_text}
 use Rattle.explain_report.specs.Walks.{AreReachedPairs, IsWalkText}
 use Rattle.dual_walk.proofs.LawsLists.{get_some}
-use Rattle.explain_report.proofs.ReachLemmas.{named_as}
+use Rattle.dual_walk.proofs.LawsFacts.{named_as}
 
 module _ (P P' : ProgramTree) where
   -- facts of the same names have the same numbers

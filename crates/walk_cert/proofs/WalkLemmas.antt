@@ -14,46 +14,36 @@ use Rattle.flow_graph.proofs.LawsLists.{made_of}
 use Rattle.dual_walk.specs.declared.fact.Fact.{Fact}
 use Rattle.dual_walk.specs.Books.{IsNamed, named_fact, named_facts}
 use Rattle.dual_walk.specs.Held.{AreAt, IsHeld}
-use Rattle.dual_walk.proofs.LawsFacts.{at_named, named_as, held_reached, fact_held, pair_held}
-use Rattle.dual_walk.proofs.LawsLists.{contained}
+use Rattle.dual_walk.proofs.LawsFacts.{pair_held}
 use Rattle.dual_walk.proofs.LawsNumbers.{edge_of}
 use Rattle.call_walk.specs.declared.answer.WalkResult.{WalkResult}
 use Rattle.call_walk.specs.Walks.{IsWalk}
+use Rattle.call_walk.proofs.LawsWalks.{held_reached, reached_held}
 use Rattle.cert_text.specs.declared.pair.Pair.{Pair}
 use Rattle.walk_cert.specs.Claims.{IsClaimed, IsInRow, AreAlike, IsClosedClaim}
 use Rattle.walk_cert.specs.Made.{IsOfWalk}
 use Rattle.walk_cert.proofs.ClaimLemmas.{claimed_of}
 use Rattle.walk_cert.proofs.LawLemmas.{closed_over}
 
--- a fact that is known by names
-at_fact : (P P' : ProgramTree) (c : Fact) (f : Name) (p p' : PointTree) → IsNamed P P' c → named_fact P P' c ≡ books.fact f p p' → AreAt P P' c.old c.new f p p'
-at_fact P P' c f p p' n same = subst (λ (b : books.Fact). AreAt P P' c.old c.new b.function b.old b.new) (sym (named_as P P' c n) ∙ same) (at_named P P' c n)
-
 module _ (P P' : ProgramTree) (valid : IsValid P) (walked : WalkResult) (walk : IsWalk P P' walked) (pairs : List Pair) (made : IsOfWalk walked.facts.items pairs) where
   abbrev facts : List Fact
   facts = walked.facts.items
 
   -- a reached pair is held, and so claimed
-  reached_held : (f : Name) (p p' : PointTree) → Reached (flow_of P) (flow_of P') f p p' → IsHeld P P' facts f p p'
-  reached_held f p p' r =
-      let at = contained (named_facts P P' facts) (books.fact f p p') (walk.all f p p' r) in
-      let of = made_of (named_fact P P') (slice_get facts at.0) (books.fact f p p') (sym (slice_get-map (named_fact P P') facts at.0) ∙ at.1) in
-      fact_held P P' facts at.0 of.value f p p' of.is (at_fact P P' of.value f p p' (walk.reasons at.0 of.value of.is).named of.gives)
-
   reached_claimed : (f : Name) (p p' : PointTree) → Reached (flow_of P) (flow_of P') f p p' → IsClaimed P P' pairs f p p'
   reached_claimed f p p' r =
-      let h = reached_held f p p' r in
+      let h = reached_held P P' walked walk f p p' r in
       claimed_of P P' pairs h.fact.old h.fact.new f p p' h.at ((made.each h.fact.old h.fact.new).1 (record { place = h.place; fact = h.fact; stands = h.stands; old = refl; new = refl }))
 
   claimed_reached : (f : Name) (p p' : PointTree) → IsClaimed P P' pairs f p p' → Reached (flow_of P) (flow_of P') f p p'
   claimed_reached f p p' c =
       let h = (made.each c.pair.old c.pair.new).0 (record { place = c.place; pair = c.pair; stands = c.stands; old_is = refl; new_is = refl }) in
-      held_reached P P' facts (record { each = walk.reasons }) f p p' (pair_held P P' facts c.pair.old c.pair.new f p p' c.at h)
+      held_reached P P' walked walk f p p' (pair_held P P' facts c.pair.old c.pair.new f p p' c.at h)
 
   -- a dangerous edge has a number, and so is in the row
   danger_in_row : (f : Name) (p : PointTree) (x : ExitTree) → Dangerous (flow_of P) (flow_of P') f p x → IsInRow P walked.danger f p x
   danger_in_row f p x d =
-      let h = reached_held f p d.other d.reached in
+      let h = reached_held P P' walked walk f p d.other d.reached in
       let e = edge_of P valid h.fact.old f p d.to x h.at.old d.leads in
       record { edge = e.0; numbered = e.1; marked = (walk.danger e.0 (record { function = f; from = p; exit = x }) e.1).1 d }
 
