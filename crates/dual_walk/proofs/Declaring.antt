@@ -7,7 +7,7 @@ use Rattle.std.proofs.lemmas.List.Elements.{All-nil, All-cons, All-head, All-tai
 use Rattle.std.proofs.lemmas.Option.{slice_get_within, slice_get-get_or, get_or_from_slice_get}
 use Rattle.csub_types.specs.declared.kind.IntKind.{IntKind}
 use Rattle.csub_objects.specs.Types.{Name, TypeTree, MemberTree, members_of}
-use Rattle.csub_semantics.specs.Types.{name_eq}
+use Rattle.csub_semantics.specs.Types.{name_eq, global_tree}
 use Rattle.csub_semantics.specs.Trees.{OwnerTree, global_owner, local_owner, Variable, object, temporary, NamedPlace, variable, element_place, member_place, NamedExpr, constant, reading, unary_operation, conversion, stepping, operation, conjunction, disjunction, choice, assignment, update, input_byte, output_byte, formatted, NamedExprs, no_expr, more_exprs, NamedArg, value_argument, array_argument}
 use Rattle.csub_semantics.specs.Labels.{LabelTree, evaluates, initialises, branches, switches, returns, halts, calls, PointLabel, CallTree, AnswerTree, InitTree, one_value, listed, InitTrees, no_init, more_inits}
 use Rattle.csub_semantics.specs.Points.{PointTree}
@@ -27,7 +27,7 @@ use Rattle.edge_label.specs.declared.standing.Standing.{Standing}
 use Rattle.edge_label.specs.Uses.{an_object, a_callee, TypeUse, parameters_type, variable_uses, place_uses, expr_uses, exprs_uses, arg_uses, init_uses, inits_uses, answer_uses, label_uses, Declarations, IsDeclaredUse, IsDeclared, AreTagged, AreDeclared, standing_tree}
 use Rattle.dual_walk.specs.LabelRows.{StandsAt, AreLabelsOf}
 use Rattle.dual_walk.proofs.LawsNumbers.{site_within, found_at}
-use Rattle.dual_walk.proofs.Tagging.{all_right, declared_members, global_tagged, object_tagged, function_tagged}
+use Rattle.dual_walk.proofs.Tagging.{all_right, declared_members, globals_tagged, global_tagged, object_tagged, function_tagged}
 
 -- what a program declares
 abbrev declarations : ProgramTree → Declarations
@@ -226,9 +226,11 @@ label_declared P valid place standing is =
     subst (λ (l : LabelTree). All (IsDeclaredUse (declarations P) standing.function) (label_uses l)) (ap (λ (l : PointLabel). l.tree) at.is)
     (node_declared P valid standing.function place.function s.function s.defined own pairs (IsPoint (function_nodes s.function)) s.node.point s.node.label s.node.ways (node_is P place.function place.point valid s))
 
--- and so in the labels of all points of a graph
-pub labels_declared : (g : Tables) (labels : List Standing) → HasProgram g → AreLabelsOf g labels → AreDeclared (map standing_tree labels)
-labels_declared g labels has are = (declarations P, All-map (IsDeclared (declarations P)) standing_tree labels each)
+-- and so in the labels of all points of a graph, and its globals have types with the members of their tags
+pub labels_declared : (g : Tables) (labels : List Standing) → HasProgram g → AreLabelsOf g labels → AreDeclared (map standing_tree labels) (map global_tree g.2)
+labels_declared g labels has are =
+    subst (AreDeclared (map standing_tree labels)) (sym has.1.globals)
+    (declarations P, All-map (IsDeclared (declarations P)) standing_tree labels each, globals_tagged P has.1.valid)
   where
     P : ProgramTree
     P = has.0

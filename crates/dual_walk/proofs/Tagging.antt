@@ -106,12 +106,15 @@ module _ (P : ProgramTree) (valid : IsValid P) where
       tagged structs (get_or (declared_types P) k d) (all_parts (HasFirst structs) structs_in (declared_types P) (all_first structs valid.tags) k d below)
 
   -- the types of globals
+  pub globals_tagged : All (λ (g : GlobalTree). IsTagged by_tag g.ctype) P.globals
+  globals_tagged =
+      let kinds = map (λ (g : GlobalTree). g.ctype) P.globals in
+      (All-of_map (IsTagged by_tag) (λ (g : GlobalTree). g.ctype) P.globals).0 (all_left (IsTagged by_tag) kinds _ types_tagged)
+
   pub global_tagged : (a : Name) (t : TypeTree) → global_type P.globals a ≡ Some t → IsTagged by_tag t
   global_tagged a t e =
-      let kinds = map (λ (g : GlobalTree). g.ctype) P.globals in
-      let all = (All-of_map (IsTagged by_tag) (λ (g : GlobalTree). g.ctype) P.globals).0 (all_left (IsTagged by_tag) kinds _ types_tagged) in
       let found = behind (λ (g : GlobalTree). g.ctype) (global_of P.globals a) t e in
-      subst (IsTagged by_tag) found.2 (all_found (λ (g : GlobalTree). IsTagged by_tag g.ctype) (λ (g : GlobalTree). name_eq g.name a) P.globals found.0 all found.1)
+      subst (IsTagged by_tag) found.2 (all_found (λ (g : GlobalTree). IsTagged by_tag g.ctype) (λ (g : GlobalTree). name_eq g.name a) P.globals found.0 globals_tagged found.1)
 
   -- those of the objects of a function
   objects_tagged : (a : Name) (f : FunctionTree) → function_of P a ≡ Some f → All (λ (o : LocalTree). IsTagged by_tag o.ctype) (objects_of f)

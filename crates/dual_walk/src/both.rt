@@ -1,6 +1,7 @@
 //! Both graphs of a walk, with the labels of their points by numbers.
 ghost use Rattle.std.specs.Prelude.{◌≡◌, ◌+◌, ◌<◌, ◌^◌, ◌↔◌, IfOk, OnOk, IsTrue, map};
 ghost use Rattle.csub_objects.specs.Types.{Name};
+ghost use Rattle.csub_semantics.specs.Types.{global_tree};
 ghost use Rattle.csub_semantics.specs.Points.{PointTree};
 ghost use Rattle.csub_semantics.specs.Syntax.{ProgramTree};
 ghost use Rattle.csub_semantics.specs.Flows.{flow_of};
@@ -47,10 +48,10 @@ pub fn number_labels(
 }
 
 /// The labels of a graph's points, each with the number of its function: in a program a name stands with the type of its
-/// declaration. An `Err` is want of memory.
+/// declaration, and a tag with the members of its own. An `Err` is want of memory.
 fn list_labels(alloc: Global, graph: &Graph) -> Result<Vec<Standing<'_>>, AllocError>
     ensures labels { IfOk result (λ labels. AreLabelsOf graph.now labels.items) }
-    ensures declared { IfOk result (λ labels. AreDeclared (map standing_tree labels.items)) }
+    ensures declared { IfOk result (λ labels. AreDeclared (map standing_tree labels.items) (map global_tree graph.now.2)) }
 {
     let mut labels = Vec::new(alloc);
     for point in 0..graph.points() {

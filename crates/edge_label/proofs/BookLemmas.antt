@@ -1,14 +1,13 @@
 -- Books of labels over the tables and the codes that they keep.
-use Rattle.std.proofs.Common.{◌≡◌, ◌≤◌, ℕ, zero, suc, List, [], ◌∷◌, ◌++◌, Bool, length, map, Vec, refl, sym, ap, ap₂, subst, ◌∙◌, inl, inr, arith, slice_get, length-append, append-nil, Some}
+use Rattle.std.proofs.Common.{◌≡◌, ◌≤◌, ℕ, zero, suc, List, [], ◌∷◌, ◌++◌, Bool, length, map, Vec, refl, sym, ap, ap₂, subst, ◌∙◌, inl, inr, arith, slice_get, length-append, Some}
 use Rattle.std.specs.Prelude.{Result, Ok, Err, IfOk, OnErr}
 use Rattle.std.specs.declared.alloc.Global.{Global}
 use Rattle.std.proofs.lemmas.List.{map-append}
 use Rattle.std.proofs.lemmas.Option.{same_Some}
 use Rattle.csub_semantics.specs.Labels.{PointLabel}
-use Rattle.edge_label.specs.Numbers.{HasNumber, HaveNumbers, KeepsNumbers, AddsOnly, HasEachOnce}
+use Rattle.edge_label.specs.Numbers.{HasNumber, HaveNumbers, KeepsNumbers, AddsOnly}
 use Rattle.edge_label.specs.declared.table.Tables.{Tables}
-use Rattle.edge_label.specs.Structs.{Table}
-use Rattle.edge_label.specs.Tables.{Extends, Extend, AreTables, IsCode, label_in, IsBook, IsInterned, Grows}
+use Rattle.edge_label.specs.Tables.{Extend, AreTables, IsCode, label_in, IsBook, IsInterned, Grows}
 use Rattle.edge_label.proofs.CodeLemmas.{Keys, codes, Inserted, Distinct, StandsAt, inserted, one_number}
 use Rattle.edge_label.proofs.TableLemmas.{head_tail, label_read, one_code, still_labels, still_written}
 
@@ -80,16 +79,6 @@ more_codes tables first second third n label before after = record {
 pub one_more_code : (tables : Tables) (codes new : List (List ℕ)) (numbers : List ℕ) (given : List PointLabel) (n : ℕ) (label : PointLabel) → IsInterned tables codes new n label
     → HaveNumbers (map (label_in tables) codes) numbers given → HaveNumbers (map (label_in tables) new) (numbers ++ n ∷ []) (given ++ label ∷ [])
 one_more_code tables codes new numbers given n label after have = one_more _ _ numbers given n label (keeps _ _ label after.adds_only) have after.number
-
--- tables with more types and globals
-abbrev pub with_parts : Tables → Table → Tables
-with_parts tables parts = record { structs = tables.structs; parts = parts }
-
-pub parts_extend : (tables : Tables) (parts : Table) → Extends tables.parts parts → Extend tables (with_parts tables parts)
-parts_extend tables parts grown = record { structs = ([], sym (append-nil tables.structs)); parts = grown }
-
-pub parts_sound : (tables : Tables) (parts : Table) → (HasEachOnce tables.parts → HasEachOnce parts) → AreTables tables → AreTables (with_parts tables parts)
-parts_sound tables parts once sound = record { structs = sound.structs; parts = once sound.parts }
 
 -- what holds after a success and after a failure holds
 pub at_either : {X E : Type 0} (r : Result X E) (P : X → Type 0) {Q R : Type 0} → IfOk r P → OnErr r Q → ((x : X) → P x → R) → (Q → R) → R

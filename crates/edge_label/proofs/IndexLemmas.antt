@@ -1,77 +1,76 @@
 -- Numbers of globals by their names.
-use Rattle.std.proofs.Common.{◌≡◌, ℕ, List, [], ◌∷◌, ◌++◌, Bool, true, false, cond, Option, Some, None, Bor, is_some, option_map, slice_get, refl, sym, ap, subst, ◌∙◌}
+use Rattle.std.proofs.Common.{◌≡◌, ℕ, List, [], ◌∷◌, ◌++◌, Bool, true, false, cond, Option, Some, None, Bor, is_some, refl, sym, subst, subst₂}
 use Rattle.std.specs.Option.{option_or}
 use Rattle.std.specs.Str.{bytes_eq}
 use Rattle.std.specs.Map.{lookup}
 use Rattle.std.proofs.lemmas.List.Folds.{find-append}
-use Rattle.std.proofs.lemmas.Option.{same_Some}
 use Rattle.std.proofs.lemmas.Slice.Eq.{bytes_eq-Decides}
 use Rattle.csub_objects.specs.Types.{Name}
 use Rattle.csub_semantics.specs.Types.{name_eq, GlobalTree}
-use Rattle.csub_semantics.specs.Globals.{global_of}
-use Rattle.edge_label.specs.Codes.{global_code}
-use Rattle.edge_label.specs.Structs.{Table}
-use Rattle.edge_label.specs.Tables.{Extends}
-use Rattle.edge_label.proofs.ListLemmas.{kept}
+use Rattle.csub_semantics.specs.Globals.{global_of, globals_of, found_first}
+use Rattle.edge_label.specs.Indices.{Agree}
+use Rattle.edge_label.specs.Tables.{Extend, IsGlobalNumber, AppendsGlobals}
+use Rattle.edge_label.specs.declared.table.Tables.{Tables}
+use Rattle.edge_label.proofs.TableLemmas.{IsGlobalNumber-extends, one_global}
 
 -- the number of a name among entries
 abbrev pub number_of : List (Bor (List ℕ) × ℕ) → Name → Option ℕ
 number_of entries name = lookup (λ key. bytes_eq name key.now) entries
 
--- what stands at the number of a global
-abbrev pub found_code : GlobalTree → Option (List ℕ)
-found_code g = Some (global_code g)
+module _ {A B : Type 0} (R : A → B → Type 0) where
+  -- one more value under a name that has something already, or under another name
+  stays : (same : Bool) (o : Option A) (f : Option B) (b : B) → (same ≡ true → is_some o ≡ true) → Agree R o f → Agree R o (option_or f (cond same (Some b) None))
+  stays false o None b has h = h
+  stays false o (Some c) b has h = h
+  stays true None f b has h = absurd (let bad = has refl in cc)
+  stays true (Some a) None b has h = absurd h
+  stays true (Some a) (Some c) b has h = h
+
+  -- one more value under a name that had nothing, or under another name
+  added : (same : Bool) (a : A) (o : Option A) (f : Option B) (b : B) → (same ≡ true → is_some o ≡ false) → R a b → Agree R o f
+      → Agree R (cond same (Some a) o) (option_or f (cond same (Some b) None))
+  added false a o None b lacks here h = h
+  added false a o (Some c) b lacks here h = h
+  added true a (Some x) f b lacks here h = absurd (let bad = lacks refl in cc)
+  added true a None None b lacks here h = here
+  added true a None (Some c) b lacks here h = absurd h
+
+  -- what is related stays so
+  weaker : (S : A → B → Type 0) → ((a : A) (b : B) → R a b → S a b) → (o : Option A) (f : Option B) → Agree R o f → Agree S o f
+  weaker S still None None h = h
+  weaker S still None (Some b) h = h
+  weaker S still (Some a) None h = h
+  weaker S still (Some a) (Some b) h = still a b h
 
 -- numbers tell the first global of each name
-abbrev pub Tells : Table → (Name → Option ℕ) → List GlobalTree → Type 0
-Tells table numbers globals = (name : Name) → option_map (slice_get table) (numbers name) ≡ option_map found_code (global_of globals name)
-
--- one more global of a name that has a number already, or of another name
-stays : (all : Table) (same : Bool) (o : Option ℕ) (f : Option GlobalTree) (g : GlobalTree) → (same ≡ true → is_some o ≡ true)
-    → option_map (slice_get all) o ≡ option_map found_code f → option_map (slice_get all) o ≡ option_map found_code (option_or f (cond same (Some g) None))
-stays all false o None g has e = e
-stays all false o (Some h) g has e = e
-stays all true None f g has e = absurd (let bad = has refl in cc)
-stays all true (Some p) None g has e = absurd cc
-stays all true (Some p) (Some h) g has e = e
-
--- one more global of a name that had no number, or of another name
-added : (all : Table) (same : Bool) (i : ℕ) (o : Option ℕ) (f : Option GlobalTree) (g : GlobalTree) → (same ≡ true → is_some o ≡ false) → slice_get all i ≡ found_code g
-    → option_map (slice_get all) o ≡ option_map found_code f → option_map (slice_get all) (cond same (Some i) o) ≡ option_map found_code (option_or f (cond same (Some g) None))
-added all false i o None g lacks at e = e
-added all false i o (Some h) g lacks at e = e
-added all true i (Some p) f g lacks at e = absurd (let bad = lacks refl in cc)
-added all true i None None g lacks at e = ap Some at
-added all true i None (Some h) g lacks at e = absurd cc
-
--- a number stays where the table grows
-grown : (table new : Table) (o : Option ℕ) (f : Option GlobalTree) → Extends table new → option_map (slice_get table) o ≡ option_map found_code f → option_map (slice_get new) o ≡ option_map found_code f
-grown table new None f grows e = e
-grown table new (Some n) None grows e = absurd cc
-grown table new (Some n) (Some g) grows e =
-    let at : slice_get table n ≡ found_code g = same_Some _ _ e in
-    ap Some (ap (λ t. slice_get t n) grows.1 ∙ kept table grows.0 n (global_code g) at)
+abbrev pub Tells : Tables → (Name → Option ℕ) → List GlobalTree → Type 0
+Tells tables numbers globals = (name : Name) → Agree (IsGlobalNumber tables) (numbers name) (global_of globals name)
 
 one_more : (before : List GlobalTree) (g : GlobalTree) (name : Name) → global_of (before ++ g ∷ []) name ≡ option_or (global_of before name) (cond (name_eq g.name name) (Some g) None)
 one_more before g name = find-append (λ (h : GlobalTree). name_eq h.name name) before (g ∷ [])
 
 module _ (before : List GlobalTree) (g : GlobalTree) where
   -- a name that has a number keeps it
-  pub first_stays : (table : Table) (numbers new : Name → Option ℕ) → Tells table numbers before → is_some (numbers g.name) ≡ true
-      → ((name : Name) → new name ≡ numbers name) → Tells table new (before ++ g ∷ [])
-  first_stays table numbers new tells has same_numbers name =
-      ap (option_map (slice_get table)) (same_numbers name)
-      ∙ stays table (name_eq g.name name) (numbers name) (global_of before name) g
-      (λ same. subst (λ n. is_some (numbers n) ≡ true) ((bytes_eq-Decides g.name name).0 same) has) (tells name)
-      ∙ ap (option_map found_code) (sym (one_more before g name))
+  pub first_stays : (tables : Tables) (numbers : Name → Option ℕ) → Tells tables numbers before → is_some (numbers g.name) ≡ true → Tells tables numbers (before ++ g ∷ [])
+  first_stays tables numbers tells has name =
+      subst (Agree (IsGlobalNumber tables) (numbers name)) (sym (one_more before g name))
+      (stays (IsGlobalNumber tables) (name_eq g.name name) (numbers name) (global_of before name) g
+      (λ same. subst (λ n. is_some (numbers n) ≡ true) ((bytes_eq-Decides g.name name).0 same) has) (tells name))
 
   -- a name that has none gets this one
-  pub first_added : (table grows_to : Table) (number : ℕ) (numbers new : Name → Option ℕ) → Extends table grows_to → slice_get grows_to number ≡ found_code g
-      → Tells table numbers before → is_some (numbers g.name) ≡ false
-      → ((name : Name) → new name ≡ cond (name_eq g.name name) (Some number) (numbers name)) → Tells grows_to new (before ++ g ∷ [])
-  first_added table grows_to number numbers new grows at tells lacks puts name =
-      ap (option_map (slice_get grows_to)) (puts name)
-      ∙ added grows_to (name_eq g.name name) number (numbers name) (global_of before name) g
-      (λ same. subst (λ n. is_some (numbers n) ≡ false) ((bytes_eq-Decides g.name name).0 same) lacks) at
-      (grown table grows_to (numbers name) (global_of before name) grows (tells name))
-      ∙ ap (option_map found_code) (sym (one_more before g name))
+  pub first_added : (tables new : Tables) (number : ℕ) (numbers more : Name → Option ℕ) → Extend tables new → IsGlobalNumber new number g
+      → Tells tables numbers before → is_some (numbers g.name) ≡ false
+      → ((name : Name) → more name ≡ cond (name_eq g.name name) (Some number) (numbers name)) → Tells new more (before ++ g ∷ [])
+  first_added tables new number numbers more grown has tells lacks puts name =
+      subst₂ (Agree (IsGlobalNumber new)) (sym (puts name)) (sym (one_more before g name))
+      (added (IsGlobalNumber new) (name_eq g.name name) number (numbers name) (global_of before name) g
+      (λ same. subst (λ n. is_some (numbers n) ≡ false) ((bytes_eq-Decides g.name name).0 same) lacks) has
+      (weaker (IsGlobalNumber tables) (IsGlobalNumber new) (IsGlobalNumber-extends tables new grown) (numbers name) (global_of before name) (tells name)))
+
+-- the number of a name's global behind what was there
+pub found_number : (tables : Tables) (globals : List GlobalTree) (name : Name) (n : ℕ) (a b : List ℕ) → Agree (IsGlobalNumber tables) (Some n) (global_of globals name) → b ≡ a ++ n ∷ []
+    → AppendsGlobals tables (globals_of globals (name ∷ [])) a b
+found_number tables globals name n a b h appended = by (global_of globals name) h where
+  by : (o : Option GlobalTree) → Agree (IsGlobalNumber tables) (Some n) o → AppendsGlobals tables (found_first o []) a b
+  by None h = absurd h
+  by (Some g) h = one_global tables g n a b h appended

@@ -1,9 +1,11 @@
 -- Numbers of types by names.
-use Rattle.std.proofs.Common.{◌≡◌, ◌⊎◌, ◌<◌, ◌≤◌, ◌+◌, ◌∙◌, ℕ, List, [], ◌∷◌, ◌++◌, length, map, get_or, take, Some, refl, sym, ap, ap₂, subst, subst₂, inl, inr, arith, slice_get, length-append, false, true≢false}
+use Rattle.std.proofs.Common.{◌≡◌, ◌⊎◌, ◌<◌, ◌≤◌, ◌+◌, ◌∙◌, ℕ, List, [], ◌∷◌, ◌++◌, length, map, get_or, take, Some, refl, sym, ap, ap₂, subst, subst₂, inl, inr, arith, slice_get, length-append, Bool, true, false, true≢false, None}
+use Rattle.std.specs.Prelude.{IsTrue}
 use Rattle.std.specs.List.{All}
 use Rattle.std.proofs.lemmas.Option.{slice_get_within, same_Some}
 use Rattle.std.proofs.lemmas.List.Elements.{All-append, All-cons, All-nil}
 use Rattle.std.proofs.lemmas.List.{map-append, map_more, length-map, get_or-map}
+use Rattle.csub_semantics.specs.Types.{GlobalTree}
 use Rattle.csub_semantics.specs.Trees.{global_owner, local_owner}
 use Rattle.csub_semantics.specs.Labels.{label_tree}
 use Rattle.edge_label.specs.declared.types.Typed.{Typed}
@@ -15,7 +17,7 @@ use Rattle.edge_label.specs.Structs.{Table, IsStructTable}
 use Rattle.edge_label.specs.declared.structs.TagNumbers.{TagNumbers}
 use Rattle.edge_label.specs.Tables.{Extend, IsTypeNumber, AreTypeNumbers, use_type, types_of}
 use Rattle.edge_label.specs.declared.table.Tables.{Tables}
-use Rattle.edge_label.specs.Uses.{Named, an_object, a_callee, TypeUse, use_tree, Tags, Declarations, declared_type, IsDeclaredUse}
+use Rattle.edge_label.specs.Uses.{Named, an_object, a_callee, TypeUse, use_tree, Tags, IsTagged, Declarations, declared_type, IsDeclaredUse}
 use Rattle.edge_label.proofs.ListLemmas.{last_or_before, last_is}
 use Rattle.edge_label.proofs.StructLemmas.{one_more_code}
 use Rattle.edge_label.proofs.TableLemmas.{IsTypeNumber-extends, AreTypeNumbers-extends}
@@ -51,6 +53,12 @@ none_known tables d = record { once = λ i j name at_i at_j. absurd cc; as_many 
 -- where no tag is trusted, nothing is asked of their numbers
 pub none_trusted : (structs : Table) (by_tag : Tags) (tags : TagNumbers) → tags.trusted ≡ false → IsStructTable structs → AreStructs by_tag structs tags
 none_trusted structs by_tag tags untrusted is = record { table = is; numbers = λ trusted. absurd (true≢false (sym trusted ∙ untrusted)) }
+
+-- tags of globals, where they are trusted, and else any
+pub some_tags : (trusted : Bool) (globals : List GlobalTree) → (IsTrue trusted → (by_tag : Tags) × All (λ g. IsTagged by_tag g.ctype) globals)
+    → (by_tag : Tags) × (IsTrue trusted → All (λ g. IsTagged by_tag g.ctype) globals)
+some_tags true globals tagged = let its = tagged refl in (its.0, λ trusted. its.1)
+some_tags false globals tagged = ((λ tag. None), λ trusted. absurd (true≢false (sym trusted)))
 
 -- what is known stays where the table grows
 pub known_stays : (tables new : Tables) (d : Declarations) (names : Table) (numbers : List ℕ) → Extend tables new → AreKnown tables d names numbers → AreKnown new d names numbers

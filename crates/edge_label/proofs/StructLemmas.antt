@@ -129,11 +129,13 @@ module _ (structs : Table) (once : HasEachOnce structs) where
     members_same (more_members x t rest) us vs h i =
         h.2 ∙ ap₂ (more_members x) (short_same t h.0 i.0 h.3 i.3) (members_same rest h.1 i.1 h.4 i.4) ∙ sym i.2
 
+  pub type_code_same : (t : TypeTree) (code other : List ℕ) → IsTypeCode structs t code → IsTypeCode structs t other → code ≡ other
+  type_code_same t code other h i = h.1 ∙ ap type_code (short_same t h.0 i.0 h.2 i.2) ∙ sym i.1
+
   pub type_codes_same : (types : List TypeTree) (codes others : List (List ℕ)) → AreTypeCodes structs types codes → AreTypeCodes structs types others → codes ≡ others
   type_codes_same [] codes others h i = h ∙ sym i
   type_codes_same (t ∷ types) codes others h i =
-      let first : h.0 ≡ i.0 = h.3.1 ∙ ap type_code (short_same t h.3.0 i.3.0 h.3.2 i.3.2) ∙ sym i.3.1 in
-      h.2 ∙ ap₂ (λ x xs. x ∷ xs) first (type_codes_same types h.1 i.1 h.4 i.4) ∙ sym i.2
+      h.2 ∙ ap₂ (λ x xs. x ∷ xs) (type_code_same t h.0 i.0 h.3 i.3) (type_codes_same types h.1 i.1 h.4 i.4) ∙ sym i.2
 
 -- the codes of some types, and of one more
 pub one_more_code : (structs : Table) (types : List TypeTree) (codes : List (List ℕ)) (t : TypeTree) (code : List ℕ) → AreTypeCodes structs types codes → IsTypeCode structs t code

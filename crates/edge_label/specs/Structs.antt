@@ -12,7 +12,7 @@ use Rattle.edge_label.specs.Readers.{coded_type}
 abbrev pub Table : Type 0
 Table = List (List ℕ)
 
--- a number in the place of a struct: it stands as the tag of a struct without members
+-- a number in the place of a struct, or of a whole type: it stands as the tag of a struct without members
 abbrev pub numbered : ℕ → TypeTree
 numbered s = struct_type (s ∷ []) no_member
 

@@ -1,16 +1,18 @@
 -- How a book keeps labels: one table has structs, another one types and globals, each once, and the code of a label is that of the
--- bare label, with the numbers behind it that its types and its globals have in the second table.
-use Rattle.std.specs.Prelude.{◌≡◌, ◌-◌, ℕ, List, [], ◌++◌, Some, map, length, drop, slice_get}
+-- bare label, with the numbers behind it that its types and its globals have in the second table. The code of a global has the number
+-- of its type there.
+use Rattle.std.specs.Prelude.{◌≡◌, ◌-◌, ℕ, List, [], ◌∷◌, ◌++◌, Some, map, length, drop, slice_get}
 use Rattle.std.specs.List.{All}
 use Rattle.std.proofs.Common.{get_or}
 use Rattle.csub_objects.specs.Types.{TypeTree}
+use Rattle.csub_semantics.specs.Types.{GlobalTree}
 use Rattle.csub_semantics.specs.Labels.{LabelTree, PointLabel}
 use Rattle.edge_label.specs.Bare.{bare_label}
 use Rattle.edge_label.specs.Codes.{global_code, label_code}
 use Rattle.edge_label.specs.Fills.{fill_label}
 use Rattle.edge_label.specs.Readers.{read_tree, coded_global}
 use Rattle.edge_label.specs.Numbers.{HasNumber, KeepsNumbers, AddsOnly, HasEachOnce}
-use Rattle.edge_label.specs.Structs.{Table, IsStructTable, IsTypeCode, AreTypeCodes, type_in}
+use Rattle.edge_label.specs.Structs.{Table, numbered, IsStructTable, IsTypeCode, AreTypeCodes, whole_type, type_in}
 use Rattle.edge_label.specs.declared.table.Tables.{Tables}
 use Rattle.edge_label.specs.Uses.{TypeUse, label_uses}
 
@@ -58,6 +60,32 @@ pub record AreTypeNumbers (tables : Tables) (numbers : List ℕ) (types : List T
   pub are : AreTypeCodes tables.structs types codes
   pub stand : AreNumbers tables.parts numbers codes
 
+-- a global with another type in the type's place
+abbrev pub with_type : GlobalTree → TypeTree → GlobalTree
+with_type g t = record { name = g.name; ctype = t; initial = g.initial }
+
+-- a list is the code of a global: the number of its type stands in the place of the type
+pub record IsGlobalCode (tables : Tables) (global : GlobalTree) (code : List ℕ) : Type 0 where
+  pub number : ℕ
+  pub ctype : IsTypeNumber tables number global.ctype
+  pub is : code ≡ global_code (with_type global (numbered number))
+
+-- such codes, each of its global
+abbrev pub AreGlobalCodes : Tables → List GlobalTree → List (List ℕ) → Type 0
+AreGlobalCodes tables [] codes = codes ≡ []
+AreGlobalCodes tables (g ∷ globals) codes =
+    (code : List ℕ) × (more : List (List ℕ)) × (codes ≡ code ∷ more) × IsGlobalCode tables g code × AreGlobalCodes tables globals more
+
+-- this is the number of this global: its code stands there
+pub record IsGlobalNumber (tables : Tables) (number : ℕ) (global : GlobalTree) : Type 0 where
+  pub code : List ℕ
+  pub is : IsGlobalCode tables global code
+  pub stands : slice_get tables.parts number ≡ Some code
+
+-- numbers of these globals stand behind what was there
+abbrev pub AppendsGlobals : Tables → List GlobalTree → List ℕ → List ℕ → Type 0
+AppendsGlobals tables globals old new = (codes : List (List ℕ)) × AreGlobalCodes tables globals codes × AppendsNumbers tables.parts codes old new
+
 -- the codes that stand at some numbers
 abbrev pub codes_at : Table → List ℕ → List (List ℕ)
 codes_at table numbers = map (λ n. get_or table n []) numbers
@@ -66,6 +94,12 @@ codes_at table numbers = map (λ n. get_or table n []) numbers
 abbrev pub last_of : {A : Type 0} → ℕ → List A → List A
 last_of n xs = drop (length xs - n) xs
 
+-- the global that a code stands for: its type is put back, which has the number there
+unfoldable pub global_in : Tables → List ℕ → GlobalTree
+global_in tables code =
+    let global = coded_global code in
+    with_type global (whole_type (λ n. type_in tables.structs (get_or tables.parts n [])) global.ctype)
+
 -- The label that a code stands for. The types are put back into the bare label; what is left of them is read from the codes of its
 -- globals, so there are as many of these, at the end.
 unfoldable pub label_in : Tables → List ℕ → PointLabel
@@ -73,13 +107,15 @@ label_in tables code =
     let read = read_tree code in
     let codes = codes_at tables.parts read.1 in
     let filled = fill_label read.0 (map (type_in tables.structs) codes) in
-    record { tree = filled.0; globals = map coded_global (last_of (length filled.1) codes) }
+    record { tree = filled.0; globals = map (global_in tables) (last_of (length filled.1) codes) }
 
 -- a list is the code of a label
 pub record IsCode (tables : Tables) (label : PointLabel) (code : List ℕ) : Type 0 where
   pub codes : List (List ℕ)
   pub are : AreTypeCodes tables.structs (types_of label.tree) codes
-  pub written : AppendsNumbers tables.parts (codes ++ map global_code label.globals) (label_code (bare_label label.tree)) code
+  pub globals : List (List ℕ)
+  pub named : AreGlobalCodes tables label.globals globals
+  pub written : AppendsNumbers tables.parts (codes ++ globals) (label_code (bare_label label.tree)) code
 
 -- a book over tables, by the codes of its labels
 pub record IsBook (tables : Tables) (codes : List (List ℕ)) : Type 0 where

@@ -1,10 +1,11 @@
 -- The types that a label writes beside names: beside an object its type, and beside a callee those of its parameters. In a
--- program a name stands with one type, that of its declaration, and a tag with the members of its own.
+-- program a name stands with one type, that of its declaration, and a tag with the members of its own, also in the types of globals.
 use Rattle.std.specs.Prelude.{ℕ, ◌≡◌, List, [], ◌∷◌, ◌++◌, map, Option, Some, None}
 use Rattle.std.specs.List.{All, flat_map}
 use Rattle.csub_objects.specs.Types.{Name, TypeTree, number_type, array_type, struct_type, loose_type}
 use Rattle.csub_objects.specs.Types.{MemberTree, MemberTrees, no_member, more_members, members_of}
 use Rattle.csub_objects.specs.Meaning.{type_tree, member_tree}
+use Rattle.csub_semantics.specs.Types.{GlobalTree}
 use Rattle.csub_semantics.specs.Trees.{OwnerTree, global_owner, local_owner, Variable, object, temporary, owner_tree}
 use Rattle.csub_semantics.specs.Trees.{NamedPlace, variable, element_place, member_place, NamedExpr}
 use Rattle.csub_semantics.specs.Trees.{constant}
@@ -154,8 +155,9 @@ pub record StandingTree : Type 0 where
 abbrev pub IsDeclared : Declarations → StandingTree → Type 0
 IsDeclared d s = All (IsDeclaredUse d s.function) (label_uses s.tree)
 
-abbrev pub AreDeclared : List StandingTree → Type 0
-AreDeclared labels = (d : Declarations) × All (IsDeclared d) labels
+-- so in each of some labels; and a global has a type in which each struct has the members of its tag
+abbrev pub AreDeclared : List StandingTree → List GlobalTree → Type 0
+AreDeclared labels globals = (d : Declarations) × All (IsDeclared d) labels × All (λ g. IsTagged d.by_tag g.ctype) globals
 
 -- the values of the code
 abbrev pub use_tree : CodeUse → TypeUse

@@ -64,8 +64,8 @@ impl LabelBook {
     /// has, or the next one. An `Err` is want of memory or of numbers, of which there are 2^32 - 1; the labels are then
     /// as before.
     ///
-    /// It goes over the contents of all globals, and over the members of each struct wherever it stands. Whoever numbers
-    /// more than one label calls [`LabelBook::intern_all`].
+    /// It goes over the types and the contents of all globals, and over the members of each struct wherever it stands.
+    /// Whoever numbers more than one label calls [`LabelBook::intern_all`].
     pub fn intern(&mut self, label: &Label, globals: &[GlobalVar]) -> Result<u32, AllocError>
         ensures number { IfOk result (λ n. HasNumber self.new n (whole (map global_tree globals.now) (label_tree label.now))) }
         ensures only { IfOk result (λ n. (m : ℕ) → HasNumber self.new m (whole (map global_tree globals.now) (label_tree label.now)) → m ≡ n) }
@@ -76,26 +76,26 @@ impl LabelBook {
         ensures err { OnErr result (self.new ≡ self.old) }
     {
         let types = number_types(self.alloc, &mut self.tables, label)?;
-        let numbers = number_globals(self.alloc, &mut self.tables.parts, globals)?;
+        let numbers = number_globals(self.alloc, &mut self.tables, false, globals)?;
         intern_code(self.alloc, &mut self.codes, label, &types, &numbers)
     }
 
-    /// The numbers of the whole labels of a program, in the order of the labels, as [`LabelBook::intern`] gives them. The
-    /// contents of the globals are gone over once, the members of a struct once for each tag, the parameters of a callee
-    /// once, and the type of an object once for each name in a function, where each struct takes a look-up of its tag;
-    /// beside that it takes a look-up for each object and each callee that a label names. At an `Err` some of the labels
-    /// may have got a number.
+    /// The numbers of the whole labels of a program, in the order of the labels, as [`LabelBook::intern`] gives them.
+    /// The members of a struct are gone over once for each tag in the labels, and once for each in the globals; the
+    /// type and the contents of a global once, the parameters of a callee once, and the type of an object once for each
+    /// name in a function, where each struct takes a look-up of its tag. Beside that it takes a look-up for each object
+    /// and each callee that a label names. At an `Err` some of the labels may have got a number.
     pub fn intern_all(
         &mut self,
         labels: &[Standing<'_>],
         globals: &[GlobalVar],
     ) -> Result<Vec<u32>, AllocError>
-        requires declared { AreDeclared (map standing_tree labels.now) }
+        requires declared { AreDeclared (map standing_tree labels.now) (map global_tree globals.now) }
         ensures numbers { IfOk result (λ row. HaveNumbers self.new row.items (map (λ s. whole (map global_tree globals.now) (label_tree s.label.now)) labels.now)) }
         ensures keeps { KeepsNumbers self.old self.new }
     {
         let typed = number_all_types(self.alloc, &mut self.tables, labels)?;
-        let numbers = number_globals(self.alloc, &mut self.tables.parts, globals)?;
+        let numbers = number_globals(self.alloc, &mut self.tables, true, globals)?;
         intern_codes(self.alloc, &mut self.codes, &typed, &numbers)
     }
 
@@ -120,7 +120,7 @@ fn code_of(
     numbers: &GlobalNumbers<'_>,
 ) -> Result<Vec<u64>, AllocError>
     ensures { IfOk result (λ code. (tables : Tables) (globals : List GlobalTree) → AreTypeNumbers tables types.now (types_of (label_tree label.now)) →
-        IsIndex tables.parts globals numbers.now.by_name.entries → IsCode tables (whole globals (label_tree label.now)) code.items) }
+        IsIndex tables globals numbers.now.by_name.entries → IsCode tables (whole globals (label_tree label.now)) code.items) }
 {
     let names = global_names(alloc, label)?;
     let mut code = Vec::new(alloc);
@@ -140,7 +140,7 @@ fn intern_code(
     numbers: &GlobalNumbers<'_>,
 ) -> Result<u32, AllocError>
     ensures interned { IfOk result (λ n. (tables : Tables) (globals : List GlobalTree) → AreTypeNumbers tables types.now (types_of (label_tree label.now)) →
-        IsIndex tables.parts globals numbers.now.by_name.entries → IsBook tables (map (λ code. code.items) codes.old.keys) →
+        IsIndex tables globals numbers.now.by_name.entries → IsBook tables (map (λ code. code.items) codes.old.keys) →
         IsInterned tables (map (λ code. code.items) codes.old.keys) (map (λ code. code.items) codes.new.keys) n (whole globals (label_tree label.now))) }
     ensures err { OnErr result (codes.new.keys ≡ codes.old.keys) }
 {
@@ -160,10 +160,10 @@ fn intern_codes(
     numbers: &GlobalNumbers<'_>,
 ) -> Result<Vec<u32>, AllocError>
     ensures numbers { IfOk result (λ row. (tables : Tables) (globals : List GlobalTree) → AreTyped tables labels.now →
-        IsIndex tables.parts globals numbers.now.by_name.entries → IsBook tables (map (λ code. code.items) codes.old.keys) →
+        IsIndex tables globals numbers.now.by_name.entries → IsBook tables (map (λ code. code.items) codes.old.keys) →
         HaveNumbers (map (label_in tables) (map (λ code. code.items) codes.new.keys)) row.items (map (λ t. whole globals (label_tree t.label.now)) labels.now)) }
     ensures grows { (tables : Tables) (globals : List GlobalTree) → AreTyped tables labels.now →
-        IsIndex tables.parts globals numbers.now.by_name.entries → IsBook tables (map (λ code. code.items) codes.old.keys) →
+        IsIndex tables globals numbers.now.by_name.entries → IsBook tables (map (λ code. code.items) codes.old.keys) →
         Grows tables (map (λ code. code.items) codes.old.keys) (map (λ code. code.items) codes.new.keys) }
 {
     let mut row = Vec::new(alloc);

@@ -1,16 +1,16 @@
-//! The codes of bare labels, types and globals, number by number.
+//! The codes of bare labels and of globals, number by number.
 ghost use Rattle.std.specs.Prelude.{◌≡◌, ◌++◌, ◌∷◌, [], OnOk, map, option_map};
-ghost use Rattle.csub_objects.specs.Types.{members_of};
-ghost use Rattle.csub_objects.specs.Meaning.{type_tree, member_tree};
 ghost use Rattle.csub_semantics.specs.Types.{global_tree};
 ghost use Rattle.csub_semantics.specs.Trees.{constant, reading, stepping, variable, object, temporary, owner_tree, place_tree, expr_tree, formatted, exprs_of, arg_tree};
 ghost use Rattle.csub_semantics.specs.Labels.{answer_tree, call_tree, init_tree, inits_of, label_tree};
 ghost use Rattle.edge_label.specs.Bare.{bare_answer, bare_arg, bare_call, bare_expr, bare_exprs, bare_init, bare_inits, bare_label, bare_place, no_type};
-ghost use Rattle.edge_label.specs.Codes.{integer_code, name_code, list_code, option_code, number_code, kind_code, kind_number, unary_number, step_number, operator_number, piece_number, piece_code, rule_number, type_code, members_code, member_code, owner_code, place_code, expr_code, exprs_code, arg_code, answer_code, call_code, init_code, inits_code, label_code, global_code};
+ghost use Rattle.edge_label.specs.Codes.{integer_code, name_code, list_code, option_code, number_code, kind_code, kind_number, unary_number, step_number, operator_number, piece_number, piece_code, rule_number, type_code, owner_code, place_code, expr_code, exprs_code, arg_code, answer_code, call_code, init_code, inits_code, label_code, global_code};
+ghost use Rattle.edge_label.specs.Structs.{numbered};
+ghost use Rattle.edge_label.specs.Tables.{with_type};
 
 use csub_semantics::{
-    Answer, BinOp, CType, CallLabel, EndRule, GlobalVar, IntKind, Label, Member, Owner, Piece,
-    Place, RArg, RExpr, RInit, StepOp, UnaryOp,
+    Answer, BinOp, CallLabel, EndRule, GlobalVar, IntKind, Label, Owner, Piece, Place, RArg, RExpr,
+    RInit, StepOp, UnaryOp,
 };
 use std::alloc::AllocError;
 
@@ -47,12 +47,12 @@ pub fn push_label(out: &mut Vec<u64>, label: &Label) -> Result<(), AllocError>
     Ok(())
 }
 
-/// Appends the code of a global. An `Err` is want of memory.
-pub fn push_global(out: &mut Vec<u64>, global: &GlobalVar) -> Result<(), AllocError>
-    ensures { OnOk result (out.new.items ≡ out.old.items ++ global_code (global_tree global.now)) }
+/// Appends the code of a global, with a number in the place of its type. An `Err` is want of memory.
+pub fn push_global(out: &mut Vec<u64>, global: &GlobalVar, number: u64) -> Result<(), AllocError>
+    ensures { OnOk result (out.new.items ≡ out.old.items ++ global_code (with_type (global_tree global.now) (numbered number))) }
 {
     push_name(out, global.name.bytes())?;
-    push_type(out, &global.ctype)?;
+    push_numbered(out, number)?;
     push_integers(out, &global.initial)
 }
 
@@ -149,50 +149,13 @@ fn push_no_type(out: &mut Vec<u64>) -> Result<(), AllocError>
     Ok(out.push(0)?)
 }
 
-#[cycle(types)]
-fn push_member(out: &mut Vec<u64>, member: &Member) -> Result<(), AllocError>
-    ensures { OnOk result (out.new.items ≡ out.old.items ++ member_code (member_tree member.now)) }
+/// Appends the code of a number in the place of a type or of a struct in one.
+pub fn push_numbered(out: &mut Vec<u64>, number: u64) -> Result<(), AllocError>
+    ensures { OnOk result (out.new.items ≡ out.old.items ++ type_code (numbered number)) }
 {
-    push_name(out, member.name.bytes())?;
-    push_type(out, &member.ctype)
-}
-
-/// Appends the code of a type.
-#[cycle(types)]
-fn push_type(out: &mut Vec<u64>, ctype: &CType) -> Result<(), AllocError>
-    ensures { OnOk result (out.new.items ≡ out.old.items ++ type_code (type_tree ctype.now)) }
-{
-    match ctype {
-        CType::Num(kind) => {
-            out.push(0)?;
-            Ok(out.push(kind_number(*kind))?)
-        }
-        CType::Array(element, length) => {
-            out.push(1)?;
-            out.push(u64::from(*length))?;
-            push_type(out, element.ctype())
-        }
-        CType::Struct(tag, members) => {
-            out.push(2)?;
-            push_name(out, tag.bytes())?;
-            push_struct_members(out, members.items())
-        }
-        CType::Loose(element) => {
-            out.push(3)?;
-            push_type(out, element.ctype())
-        }
-    }
-}
-
-/// Appends the code of the members of a struct.
-#[cycle(types)]
-fn push_struct_members(out: &mut Vec<u64>, members: &[Member]) -> Result<(), AllocError>
-    ensures { OnOk result (out.new.items ≡ out.old.items ++ members_code (members_of (map member_tree members.now))) }
-{
-    for member in members {
-        out.push(1)?;
-        push_member(out, member)?;
-    }
+    out.push(2)?;
+    out.push(1)?;
+    out.push(number)?;
     Ok(out.push(0)?)
 }
 

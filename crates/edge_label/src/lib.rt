@@ -3,19 +3,21 @@
 //! A whole label is a label's tree and, for each object of file scope that the tree names, its name, type and initial
 //! contents. [`LabelBook`] gives the numbers. What is promised: a whole label keeps the one number that it was given, and
 //! a refused label changes nothing ([`LabelBook::intern`]; [`LabelBook::intern_all`] numbers the labels of a program, in
-//! which a name stands with the type of its declaration and a tag with the members of its own, and goes over the members of
-//! each struct and over the contents of the globals once); two numbers of one book are the same exactly where their whole
-//! labels are equal, and the question counts one step and takes no memory ([`LabelBook::same`]). [`Steps`] is that count,
-//! which takes no bytes. In contracts a book is the list of its whole labels, in the order of their numbers.
+//! which a name stands with the type of its declaration and a tag with the members of its own, and goes over the contents
+//! of the globals once, and over the members of each struct once for the labels and once for the globals); two numbers of
+//! one book are the same exactly where their whole labels are equal, and the question counts one step and takes no memory
+//! ([`LabelBook::same`]). [`Steps`] is that count, which takes no bytes. In contracts a book is the list of its whole
+//! labels, in the order of their numbers.
 //!
 //! `specs/Numbers` has the words of these contracts, and `Uses` which names a label has with their types; which globals a
-//! tree names stands in `csub_semantics`. A book itself keeps a code of each label, a list of numbers: that of the bare label
-//! (`Bare`), with the numbers of its types and globals in a table behind it (`Tables`), where each type and each global
-//! stands once; in a type a number stands in the place of each struct, that of the struct in a table of structs (`Structs`).
-//! `Codes` has the codes, `Readers` reads them back, and `ReadBack` proves that no two labels have one code; `Fills` puts the
-//! types back into a bare label; `Indices` says what an index of globals keeps, `Known` what is kept of the types of names
-//! and of the structs of tags, and `Stored` how codes stand for labels. Laws for proofs above stand in `proofs/LawsNumbers`:
-//! a book has each label once, so its numbers are equal exactly where the labels are.
+//! tree names stands in `csub_semantics`. A book itself keeps a code of each label, a list of numbers: that of the bare
+//! label (`Bare`), with the numbers of its types and globals in a table behind it (`Tables`), where each type and each
+//! global stands once; in a global the number of its type there stands in the place of the type, and in a type a number in
+//! the place of each struct, that of the struct in a table of structs (`Structs`). `Codes` has the codes, `Readers` reads
+//! them back, and `ReadBack` proves that no two labels have one code; `Fills` puts the types back into a bare label;
+//! `Indices` says what an index of globals keeps, `Known` what is kept of the types of names and of the structs of tags,
+//! and `Stored` how codes stand for labels. Laws for proofs above stand in `proofs/LawsNumbers`: a book has each label
+//! once, so its numbers are equal exactly where the labels are.
 #![tactic(auto)]
 
 pub mod book;

@@ -1,16 +1,15 @@
 //! Types with numbers in the place of structs.
-ghost use Rattle.std.specs.Prelude.{◌≡◌, ◌++◌, [], IsTrue, IfOk, OnOk, IfSome, map};
+ghost use Rattle.std.specs.Prelude.{◌≡◌, IsTrue, IfOk, OnOk, IfSome, map};
 ghost use Rattle.std.specs.Map.{lookup};
 ghost use Rattle.std.specs.Str.{bytes_eq};
 ghost use Rattle.csub_objects.specs.Types.{struct_type, members_of};
 ghost use Rattle.csub_objects.specs.Meaning.{type_tree, member_tree};
-ghost use Rattle.edge_label.specs.Codes.{type_code};
 ghost use Rattle.edge_label.specs.Known.{AreStructs};
-ghost use Rattle.edge_label.specs.Structs.{numbered, HasStruct, AppendsType, AppendsMembers};
+ghost use Rattle.edge_label.specs.Structs.{HasStruct, AppendsType, AppendsMembers};
 ghost use Rattle.edge_label.specs.Tables.{Extends};
 ghost use Rattle.edge_label.specs.Uses.{Tags, IsTagged, AreTagged};
 
-use crate::code::{kind_number, push_name};
+use crate::code::{kind_number, push_name, push_numbered};
 use crate::table::CodeTable;
 use csub_semantics::{CType, Member};
 use std::alloc::{AllocError, Global};
@@ -142,14 +141,4 @@ fn known_number(tags: &TagNumbers<'_>, tag: &[u8]) -> Option<u64>
     }
     let number = tags.by_tag.get(tag)?;
     Some(*number)
-}
-
-/// Appends the code of a number in the place of a struct.
-pub fn push_numbered(out: &mut Vec<u64>, number: u64) -> Result<(), AllocError>
-    ensures { OnOk result (out.new.items ≡ out.old.items ++ type_code (numbered number)) }
-{
-    out.push(2)?;
-    out.push(1)?;
-    out.push(number)?;
-    Ok(out.push(0)?)
 }

@@ -17,7 +17,7 @@ pub struct CodeTable {
 pub struct Tables {
     /// Structs, with numbers in the place of the structs in the types of their members.
     pub structs: CodeTable,
-    /// Types, with numbers in the place of structs, and globals.
+    /// Types, with numbers in the place of structs, and globals, with numbers in the place of types.
     pub parts: CodeTable,
 }
 

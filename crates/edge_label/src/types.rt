@@ -7,11 +7,11 @@ ghost use Rattle.edge_label.specs.Numbers.{HasEachOnce};
 ghost use Rattle.edge_label.specs.Structs.{AppendsType};
 ghost use Rattle.edge_label.specs.Tables.{Extends, Extend, AreTables, IsTypeNumber, AreTypeNumbers, use_type, types_of};
 ghost use Rattle.edge_label.specs.Known.{named_code, AreStructs, AreKnown, AreTyped};
-ghost use Rattle.edge_label.specs.Uses.{an_object, Tags, HasTags, Declarations, IsDeclaredUse, IsDeclared, AreDeclared, use_tree, standing_tree};
+ghost use Rattle.edge_label.specs.Uses.{an_object, Tags, HasTags, Declarations, IsDeclaredUse, IsDeclared, use_tree, standing_tree};
 
-use crate::code::push_name;
+use crate::code::{push_name, push_numbered};
 use crate::standing::Standing;
-use crate::structs::{TagNumbers, number_struct, push_numbered, push_short};
+use crate::structs::{TagNumbers, number_struct, push_short};
 use crate::table::{CodeTable, Tables};
 use crate::uses::{TypeUse, uses_of};
 use csub_semantics::{Label, Owner};
@@ -234,7 +234,7 @@ pub fn number_all_types<'a>(
     tables: &mut Tables,
     labels: &[Standing<'a>],
 ) -> Result<Vec<Typed<'a>>, AllocError>
-    requires declared { AreDeclared (map standing_tree labels.now) }
+    requires declared { (d : Declarations) × All (IsDeclared d) (map standing_tree labels.now) }
     ensures typed { IfOk result (λ rows. AreTables tables.old → AreTyped tables.new rows.items) }
     ensures labels { IfOk result (λ rows. map (λ t. label_tree t.label.now) rows.items ≡ map (λ s. label_tree s.label.now) labels.now) }
     ensures sound { AreTables tables.old → AreTables tables.new }

@@ -1,4 +1,4 @@
-use Rattle.std.proofs.Common.{map, sym, subst}
+use Rattle.std.proofs.Common.{map, sym, subst, subst₂}
 use Rattle.std.proofs.lemmas.Result.{IfOk-weaker}
 use Rattle.csub_semantics.specs.Types.{global_tree}
 use Rattle.edge_label.specs.Uses.{AreDeclared, standing_tree}
@@ -7,7 +7,9 @@ use Rattle.dual_walk.proofs.Labelling.{row_numbered}
 use Rattle.dual_walk.proofs.both.number_labels.Goals as goal
 
 pub intern_all-requires : goal.intern_all-requires
-intern_all-requires c = record { declared = subst (λ labels. AreDeclared (map standing_tree labels)) (sym c.deref.ensures.value) c.in_ok-labels.ensures.declared }
+intern_all-requires c = record {
+  declared = subst₂ (λ labels globals. AreDeclared (map standing_tree labels) (map global_tree globals)) (sym c.deref.ensures.value) (sym c.globals.ensures.value) c.in_ok-labels.ensures.declared;
+}
 
 pub returns-clause-row : goal.returns-clause-row
 returns-clause-row c =

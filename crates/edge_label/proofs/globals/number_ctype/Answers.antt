@@ -1,0 +1,18 @@
+use Rattle.std.proofs.Common.{subst}
+use Rattle.std.proofs.lemmas.Result.{IfOk-weaker}
+use Rattle.csub_objects.specs.Meaning.{type_tree}
+use Rattle.edge_label.specs.declared.table.Tables.{Tables}
+use Rattle.edge_label.specs.Structs.{AppendsType}
+use Rattle.edge_label.proofs.TableLemmas.{type_numbered}
+use Rattle.edge_label.proofs.globals.number_ctype.Goals as goal
+
+pub returns-clause-number : goal.returns-clause-number
+returns-clause-number c =
+    let structs = c.push_short.new.structs in
+    let tables : Tables = record { structs = structs; parts = c.number.new.self } in
+    let ctype = type_tree c.args.ctype.now in
+    let code = c.push_short.new.out.items in
+    IfOk-weaker c.number.result _ _
+    (λ n at by_tag tagged are. type_numbered tables ctype code n
+    (subst (λ old. AppendsType structs ctype old code) c.new-code.ensures.items (c.in_ok-push_short.ensures.short by_tag tagged are)) at)
+    c.number.ensures.number
