@@ -1,10 +1,9 @@
 -- A text has a certificate or one cause of refusal and never both, and its certificate is determined.
-use Rattle.std.proofs.Common.{◌≡◌, ◌≢◌, ◌<◌, ◌≤◌, ◌+◌, ℕ, zero, suc, List, [], ◌∷◌, ◌++◌, length, codes, get_or, None, Result, Ok, Err, MatchResult, refl, sym, ap, subst, ◌∙◌, inl, inr, arith, append_assoc}
+use Rattle.std.proofs.Common.{◌≡◌, ◌≢◌, ◌<◌, ◌≤◌, ◌+◌, ℕ, List, [], ◌∷◌, ◌++◌, length, codes, None, Result, Ok, Err, MatchResult, refl, sym, ap, subst, ◌∙◌, inl, inr, arith, append_assoc}
 use Rattle.std.specs.Result.{IsErrAnd}
-use Rattle.std.specs.Int.{w32, to_be_bytes, bytes_high_first, byte_at}
 use Rattle.std.proofs.lemmas.Bool.{cases_lt}
-use Rattle.hex.specs.Hex.{encode_lower, IsBytes}
-use Rattle.sha2.specs.Sha256.{sha256, digest_bytes}
+use Rattle.hex.specs.Hex.{encode_lower}
+use Rattle.sha2.specs.Sha256.{sha256}
 use Rattle.line_text.specs.Lines.{text_of_lines, line_at}
 use Rattle.cert_text.specs.declared.bounds.Bounds.{Bounds}
 use Rattle.cert_text.specs.declared.error.CertificateError.{CertificateError}
@@ -14,10 +13,12 @@ use Rattle.cert_text.specs.Certificates.{CertificateParts}
 use Rattle.edge_trace.specs.Rows.{numbers_of}
 use Rattle.cert_text.specs.CertificateTexts.{title, danger_lines, pairs_lines, end_line, text_before_end, text_with_sum, most_certificate_bytes}
 use Rattle.cert_text.specs.Faults.{IsReadTo, IsRefusalOf}
-use Rattle.line_text.specs.Values.{IsDigest, value_line}
+use Rattle.line_text.specs.Values.{value_line}
 use Rattle.cert_text.specs.Rules.{c9, Keeps, IsFirstFault, SaysPairs}
 use Rattle.cert_text.proofs.AskedLemmas.{same_rule, asked_once, asked_after, asked_within}
-use Rattle.cert_text.proofs.ReadLemmas.{line_next, at_line}
+use Rattle.line_text.proofs.LawsOfDigests.{IsDigest-sha256}
+use Rattle.line_text.proofs.LawsOfTexts.{line_next}
+use Rattle.cert_text.proofs.ReadLemmas.{at_line}
 use Rattle.cert_text.proofs.SameLemmas.{IsSmall, certificates_same}
 use Rattle.cert_text.proofs.WholeLemmas.{head_read, edges_read, pairs_read, end_read}
 
@@ -57,41 +58,6 @@ says_no_fault bounds text certificate sum n r small says fault =
 
 pub says_same : (bounds : Bounds) (text : List ℕ) (a b : CertificateParts) (s t : List ℕ) → IsSmall bounds → SaysCertificate bounds text a s → SaysCertificate bounds text b t → (a ≡ b) × (s ≡ t)
 says_same bounds text a b s t small one other = certificates_same bounds a b s t small one.readable other.readable one.written other.written (sym one.is ∙ other.is)
-
--- ---- the digest that SHA-256 gives
-
-bytes_append : (xs ys : List ℕ) → IsBytes xs → IsBytes ys → IsBytes (xs ++ ys)
-bytes_append [] ys hx hy i = hy i
-bytes_append (x ∷ xs) ys hx hy zero = hx 0
-bytes_append (x ∷ xs) ys hx hy (suc i) = bytes_append xs ys (λ k. hx (suc k)) hy i
-
-bytes_none : IsBytes []
-bytes_none i = omega arith
-
-byte_at-small : (k n : ℕ) → byte_at k n < 256
-byte_at-small k n = grind arith
-
-word_bytes : (k n : ℕ) → IsBytes (bytes_high_first k n)
-word_bytes zero n i = bytes_none i
-word_bytes (suc k) n zero = byte_at-small k n
-word_bytes (suc k) n (suc i) = word_bytes k n i
-
-digest_all : (h : List ℕ) (n : ℕ) → IsBytes (digest_bytes h n)
-unfolding digest_bytes
-digest_all h zero = bytes_none
-digest_all h (suc n) = bytes_append (digest_bytes h n) (to_be_bytes w32 (get_or h n 0)) (digest_all h n) (word_bytes 4 (get_or h n 0))
-
-IsBytes-sha256 : (bytes : List ℕ) → IsBytes (sha256 bytes)
-unfolding sha256
-IsBytes-sha256 bytes = digest_all _ 8
-
--- a digest has 32 bytes
-pub length-sha256 : (bytes : List ℕ) → length (sha256 bytes) ≡ 32
-unfolding sha256 digest_bytes
-length-sha256 bytes = refl
-
-IsDigest-sha256 : (bytes : List ℕ) → IsDigest (sha256 bytes)
-IsDigest-sha256 bytes = record { size = length-sha256 bytes; bytes = IsBytes-sha256 bytes }
 
 pub says_whole : (bounds : Bounds) (text : List ℕ) (certificate : CertificateParts) → IsTextOf bounds text certificate → SaysCertificate bounds text certificate (sha256 (text_before_end certificate))
 says_whole bounds text certificate is = record { readable = is.readable; written = IsDigest-sha256 (text_before_end certificate); is = is.is }

@@ -8,8 +8,9 @@ use Rattle.cert_text.specs.Certificates.{IsAfter, RiseAfter}
 use Rattle.cert_text.specs.Faults.{IsReadTo}
 use Rattle.cert_text.specs.Rules.{Rule, number_of, IsAsked, Keeps, IsFirstFault}
 use Rattle.cert_text.proofs.AskedLemmas.{IsOnly}
+use Rattle.line_text.proofs.LawsOfTexts.{in_rest, has_next}
 use Rattle.line_text.proofs.LawsOfValues.{IsPlain, one_line}
-use Rattle.cert_text.proofs.ReadLemmas.{in_rest, has_next, one_more, fault_next, at_line}
+use Rattle.cert_text.proofs.ReadLemmas.{one_more, fault_next, at_line}
 
 -- the last of a list, and what stands before where it is empty
 abbrev pub last_of : {X : Type 0} → Option X → List X → Option X
@@ -58,7 +59,7 @@ module _ (bounds : Bounds) (text : List ℕ) (X : Type 0) (rule : Rule) (begin c
       let only : IsOnly bounds text (n + 1) rule = items.asked (n + 1) (omega arith) (omega arith) in
       let plain : IsPlain (line x) = items.plain x fine in (
         one_more bounds text rest (line x) left n rule only read cut plain (λ has. items.keeps (n + 1) x fine has (rises n last x is after)),
-        (fine, has_next bounds text rest (line x) left n read cut plain, only.asked),
+        (fine, has_next text rest (line x) left n read.lines cut plain, only.asked),
       )
 
   pub fault_item : (n : ℕ) (rest : List ℕ) (last : Option X) → IsReadTo bounds text n rest → IsLast n last → begin ≤ n → n < begin + count
@@ -66,7 +67,7 @@ module _ (bounds : Bounds) (text : List ℕ) (X : Type 0) (rule : Rule) (begin c
   fault_item n rest last read is low few none =
       let only : IsOnly bounds text (n + 1) rule = items.asked (n + 1) (omega arith) (omega arith) in
       fault_next bounds text rest n rule only.asked read
-      (λ keeps. let kept = items.kept (n + 1) keeps in none kept.0 kept.1 (follows n last kept.0 is kept.3) (in_rest bounds text rest n (line kept.0) read kept.2))
+      (λ keeps. let kept = items.kept (n + 1) keeps in none kept.0 kept.1 (follows n last kept.0 is kept.3) (in_rest text rest n (line kept.0) read.lines kept.2))
 
   pub items_read : (xs : List X) (n : ℕ) (rest left : List ℕ) (last : Option X) → IsReadTo bounds text n rest → IsLast n last → begin ≤ n → n + length xs ≤ begin + count → All good xs → RiseAfter before last xs
       → rest ≡ text_of_lines (map line xs) ++ left → IsReadTo bounds text (n + length xs) left × IsLast (n + length xs) (last_of last xs)

@@ -1,35 +1,15 @@
 -- A text that is read line by line, and the first line that breaks the rule of its place.
-use Rattle.std.proofs.Common.{◌≡◌, ◌+◌, ◌-◌, ℕ, zero, suc, true, List, [], ◌∷◌, ◌++◌, drop, refl, sym, ap, subst, ◌∙◌, inl, inr, arith}
+use Rattle.std.proofs.Common.{◌≡◌, ◌+◌, ℕ, List, ◌∷◌, ◌++◌, drop, refl, sym, ap, subst, ◌∙◌, inl, inr, arith}
 use Rattle.std.specs.List.{slice_get}
 use Rattle.std.proofs.lemmas.Bool.{cases_lt}
 use Rattle.std.proofs.lemmas.List.{drop-drop}
-use Rattle.line_text.specs.Lines.{lines_of, line_with, HasLine, line_at}
-use Rattle.line_text.proofs.Laws.{lines_of-ended}
+use Rattle.line_text.specs.Lines.{lines_of, HasLine}
 use Rattle.cert_text.specs.declared.bounds.Bounds.{Bounds}
 use Rattle.cert_text.specs.Faults.{IsReadTo}
 use Rattle.cert_text.specs.Rules.{Rule, number_of, IsAsked, Keeps, IsFirstFault}
 use Rattle.cert_text.proofs.AskedLemmas.{IsOnly, asked_some}
+use Rattle.line_text.proofs.LawsOfTexts.{lines_cut, has_next}
 use Rattle.line_text.proofs.LawsOfValues.{IsPlain}
-
-slice_get-drop : {X : Type 0} (n : ℕ) (xs : List X) → slice_get (drop n xs) 0 ≡ slice_get xs n
-slice_get-drop zero xs = refl
-slice_get-drop (suc n) [] = refl
-slice_get-drop (suc n) (x ∷ xs) = slice_get-drop n xs
-
--- the line after those that are read is the first of the rest
-pub line_next : (text rest : List ℕ) (n : ℕ) → drop n (lines_of text) ≡ lines_of rest → line_at text (n + 1) ≡ line_at rest 1
-line_next text rest n lines =
-    let at : n + 1 - 1 ≡ n = omega arith in
-    ap (slice_get (lines_of text)) at ∙ sym (slice_get-drop n (lines_of text)) ∙ ap (λ ls. slice_get ls 0) lines
-
-pub in_rest : (bounds : Bounds) (text rest : List ℕ) (n : ℕ) (line : List ℕ) → IsReadTo bounds text n rest → HasLine text (n + 1) line → HasLine rest 1 line
-in_rest bounds text rest n line read has = sym (line_next text rest n read.lines) ∙ has
-
-lines_cut : (rest line left : List ℕ) → rest ≡ line ++ 10 ∷ left → IsPlain line → lines_of rest ≡ line_with line true ∷ lines_of left
-lines_cut rest line left cut plain = ap lines_of cut ∙ lines_of-ended line left plain
-
-pub has_next : (bounds : Bounds) (text rest line left : List ℕ) (n : ℕ) → IsReadTo bounds text n rest → rest ≡ line ++ 10 ∷ left → IsPlain line → HasLine text (n + 1) line
-has_next bounds text rest line left n read cut plain = line_next text rest n read.lines ∙ ap (λ ls. slice_get ls 0) (lines_cut rest line left cut plain)
 
 -- nothing is read at first
 pub none_read : (bounds : Bounds) (text : List ℕ) → IsReadTo bounds text 0 text
@@ -47,7 +27,7 @@ one_more bounds text rest line left n rule only read cut plain keeps = record {
     | inl last ↦
         let same : m ≡ n + 1 = omega arith in
         let is : other ≡ rule = only.only other (subst (IsAsked bounds text other) same asked) in
-        subst (Keeps bounds text other) (sym same) (subst (λ r. Keeps bounds text r (n + 1)) (sym is) (keeps (has_next bounds text rest line left n read cut plain)))
+        subst (Keeps bounds text other) (sym same) (subst (λ r. Keeps bounds text r (n + 1)) (sym is) (keeps (has_next text rest line left n read.lines cut plain)))
     | inr before ↦ read.keeps m other before asked
   ];
 }

@@ -10,7 +10,7 @@ use Rattle.line_text.specs.Lines.{text_of_lines}
 use Rattle.cert_text.specs.Certificates.{CertificateParts}
 use Rattle.cert_text.specs.CertificateTexts.{edge_line, pair_line, title, first_lines, danger_lines, pairs_lines, end_line, text_before_end, certificate_text}
 use Rattle.line_text.specs.Values.{value_line}
-use Rattle.cert_text.proofs.CauseLemmas.{length-sha256}
+use Rattle.line_text.proofs.LawsOfDigests.{length-sha256}
 
 -- the numbers of a row from one on
 abbrev pub numbers_from : List Bool → ℕ → List ℕ

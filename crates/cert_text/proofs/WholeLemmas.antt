@@ -1,10 +1,9 @@
 -- A whole text, read from its first line to its last.
-use Rattle.std.proofs.Common.{◌≡◌, ◌≢◌, ◌<◌, ◌≤◌, ◌+◌, ◌^◌, ◌⊎◌, ℕ, Bool, true, eqb, false, List, [], ◌∷◌, ◌++◌, length, map, codes, None, refl, sym, ap, subst, ◌∙◌, inl, inr, arith, append_assoc}
+use Rattle.std.proofs.Common.{◌≡◌, ◌≢◌, ◌<◌, ◌≤◌, ◌+◌, ◌^◌, ℕ, Bool, true, List, [], ◌∷◌, ◌++◌, length, map, codes, None, refl, sym, subst, ◌∙◌, arith, append_assoc}
 use Rattle.std.specs.Fmt.{decimal}
-use Rattle.std.specs.List.{All, slice_get, slice_split, join_with_byte}
-use Rattle.std.proofs.lemmas.List.Splits.{join_with_byte-slice_split}
+use Rattle.std.specs.List.{All}
 use Rattle.hex.specs.Hex.{encode_lower}
-use Rattle.line_text.specs.Lines.{lines_of, lines_between, text_of_lines, HasLine, line_at}
+use Rattle.line_text.specs.Lines.{text_of_lines, HasLine}
 use Rattle.cert_text.specs.declared.bounds.Bounds.{Bounds}
 use Rattle.cert_text.specs.declared.pair.Pair.{Pair}
 use Rattle.cert_text.specs.Certificates.{IsBefore, IsBelow, Rise, most_pairs}
@@ -15,9 +14,10 @@ use Rattle.line_text.specs.Values.{IsDigest, HasNumber, HasDigest, value_line}
 use Rattle.cert_text.specs.Rules.{Rule, c1, c2, c3, c4, c5, c6, c7, c8, c9, Keeps, IsFirstFault, SaysEdges, SaysPairs}
 use Rattle.cert_text.proofs.AskedLemmas.{IsOnly, only_head, only_one, edges_same}
 use Rattle.cert_text.proofs.ItemLemmas.{AreItems, items_read}
+use Rattle.line_text.proofs.LawsOfTexts.{in_rest, has_next, line_next, some_line}
 use Rattle.line_text.proofs.LawsOfValues.{IsPlain, lacks_newline, plain_word, plain_value, plain_decimal, plain_digest}
 use Rattle.cert_text.proofs.PlainLemmas.{plain_edge, plain_pair}
-use Rattle.cert_text.proofs.ReadLemmas.{in_rest, has_next, none_read, one_more, fault_next, at_line, line_next}
+use Rattle.cert_text.proofs.ReadLemmas.{none_read, one_more, fault_next, at_line}
 use Rattle.edge_trace.proofs.LawsOfNumbers.{few-numbers_of}
 use Rattle.cert_text.proofs.RowLemmas.{rise-numbers_of}
 use Rattle.cert_text.proofs.SameLemmas.{IsSmall, number_same, pair_same, danger_below}
@@ -33,7 +33,7 @@ pub number_read : (bounds : Bounds) (text rest left word : List ℕ) (most numbe
     → IsReadTo bounds text n rest → rest ≡ value_line word (decimal number) ++ 10 ∷ left → number ≤ most → number < 2 ^ 64 → IsReadTo bounds text (n + 1) left × HasNumber text (n + 1) word most number
 number_read bounds text rest left word most number n rule only plain keeps read cut few small =
     let line_plain : IsPlain (value_line word (decimal number)) = plain_value word (decimal number) plain (plain_decimal number small) in
-    (one_more bounds text rest (value_line word (decimal number)) left n rule only read cut line_plain (λ has. keeps (few, has)), (few, has_next bounds text rest (value_line word (decimal number)) left n read cut line_plain))
+    (one_more bounds text rest (value_line word (decimal number)) left n rule only read cut line_plain (λ has. keeps (few, has)), (few, has_next text rest (value_line word (decimal number)) left n read.lines cut line_plain))
 
 -- ---- the first three lines
 
@@ -61,10 +61,10 @@ pub title_fault : (bounds : Bounds) (text : List ℕ) → ¬ HasLine text 1 titl
 title_fault bounds text none = fault_next bounds text text 0 c1 refl (none_read bounds text) none
 
 pub old_fault : (bounds : Bounds) (text rest : List ℕ) → IsReadTo bounds text 1 rest → ¬ HasDigest rest 1 (codes "old") → IsFirstFault bounds text 2 2
-old_fault bounds text rest read none = fault_next bounds text rest 1 c2 refl read (λ keeps. none (keeps.0, keeps.1, in_rest bounds text rest 1 (value_line (codes "old") (encode_lower keeps.0)) read keeps.2))
+old_fault bounds text rest read none = fault_next bounds text rest 1 c2 refl read (λ keeps. none (keeps.0, keeps.1, in_rest text rest 1 (value_line (codes "old") (encode_lower keeps.0)) read.lines keeps.2))
 
 pub new_fault : (bounds : Bounds) (text rest : List ℕ) → IsReadTo bounds text 2 rest → ¬ HasDigest rest 1 (codes "new") → IsFirstFault bounds text 3 3
-new_fault bounds text rest read none = fault_next bounds text rest 2 c3 refl read (λ keeps. none (keeps.0, keeps.1, in_rest bounds text rest 2 (value_line (codes "new") (encode_lower keeps.0)) read keeps.2))
+new_fault bounds text rest read none = fault_next bounds text rest 2 c3 refl read (λ keeps. none (keeps.0, keeps.1, in_rest text rest 2 (value_line (codes "new") (encode_lower keeps.0)) read.lines keeps.2))
 
 -- ---- the edges
 
@@ -73,7 +73,7 @@ pub count_read : (bounds : Bounds) (text rest left : List ℕ) (count : ℕ) →
 count_read bounds text rest left count small read cut few = number_read bounds text rest left (codes "dangerous") bounds.edges count 3 c4 (only_head bounds text 4 c4 (omega arith) refl) refl (λ has. (count, has)) read cut few (omega arith)
 
 pub count_fault : (bounds : Bounds) (text rest : List ℕ) → IsReadTo bounds text 3 rest → ((count : ℕ) → ¬ HasNumber rest 1 (codes "dangerous") bounds.edges count) → IsFirstFault bounds text 4 4
-count_fault bounds text rest read none = fault_next bounds text rest 3 c4 refl read (λ keeps. none keeps.0 (keeps.1.0, in_rest bounds text rest 3 (value_line (codes "dangerous") (decimal keeps.0)) read keeps.1.1))
+count_fault bounds text rest read none = fault_next bounds text rest 3 c4 refl read (λ keeps. none keeps.0 (keeps.1.0, in_rest text rest 3 (value_line (codes "dangerous") (decimal keeps.0)) read.lines keeps.1.1))
 
 pub edge_items : (bounds : Bounds) (text : List ℕ) (count : ℕ) → bounds.edges ≤ 10000 → SaysEdges bounds text count → AreItems bounds text ℕ c5 4 count edge_line (λ e. e < bounds.edges) (λ a b. a < b)
 edge_items bounds text count small says = record {
@@ -107,7 +107,7 @@ pub pairs_count_fault : (bounds : Bounds) (text rest : List ℕ) (edges : ℕ) �
 pairs_count_fault bounds text rest edges says read none =
     let next : 4 + edges + 1 ≡ 5 + edges = omega arith in
     subst (λ k. IsFirstFault bounds text k 6) next
-    (fault_next bounds text rest (4 + edges) c6 (edges, says, next) read (λ keeps. none keeps.0 (keeps.1.0, in_rest bounds text rest (4 + edges) (value_line (codes "pairs") (decimal keeps.0)) read keeps.1.1)))
+    (fault_next bounds text rest (4 + edges) c6 (edges, says, next) read (λ keeps. none keeps.0 (keeps.1.0, in_rest text rest (4 + edges) (value_line (codes "pairs") (decimal keeps.0)) read.lines keeps.1.1)))
 
 pub pair_items : (bounds : Bounds) (text : List ℕ) (edges count : ℕ) → IsSmall bounds → SaysPairs bounds text edges count → AreItems bounds text Pair c7 (5 + edges) count pair_line (IsBelow bounds) IsBefore
 pair_items bounds text edges count small says = record {
@@ -137,33 +137,7 @@ end_read bounds text rest left sum edges pairs n small says at read cut good =
 pub no_end : (bounds : Bounds) (text rest : List ℕ) (edges pairs n : ℕ) → SaysPairs bounds text edges pairs → n ≡ 5 + edges + pairs → IsReadTo bounds text n rest → ¬ HasDigest rest 1 (codes "end") → IsFirstFault bounds text (n + 1) 8
 no_end bounds text rest edges pairs n says at read none =
     fault_next bounds text rest n c8 (edges, pairs, says, omega arith) read
-    (λ keeps. none (keeps.0, keeps.1, in_rest bounds text rest n (value_line (codes "end") (encode_lower keeps.0)) read keeps.2))
-
-not_zero : (n : ℕ) → 0 < n → eqb n 0 ≡ false
-not_zero n h = grind arith
-
-no_parts : (parts : List (List ℕ)) → lines_between parts ≡ [] → (parts ≡ []) ⊎ (parts ≡ [] ∷ [])
-no_parts [] none = inl refl
-no_parts ([] ∷ []) none = inr refl
-no_parts ((byte ∷ line) ∷ []) none =
-    let some : eqb (length (byte ∷ line)) 0 ≡ false = not_zero (length (byte ∷ line)) (omega arith) in
-    absurd (cc (rw some at none))
-no_parts (line ∷ next ∷ more) none = absurd (cc none)
-
-no_lines : (text : List ℕ) → lines_of text ≡ [] → text ≡ []
-no_lines text none =
-    let whole : join_with_byte 10 (slice_split (λ byte. eqb byte 10) text) ≡ text = join_with_byte-slice_split 10 text in
-    elim (no_parts (slice_split (λ byte. eqb byte 10) text) none) [
-      | inl is ↦ sym whole ∙ ap (join_with_byte 10) is
-      | inr is ↦ sym whole ∙ ap (join_with_byte 10) is
-    ]
-
-some_line : (text : List ℕ) → text ≢ [] → line_at text 1 ≢ None
-some_line text some none = some (no_lines text (first_none (lines_of text) none))
-  where
-    first_none : {X : Type 0} (xs : List X) → slice_get xs 0 ≡ None → xs ≡ []
-    first_none [] none = refl
-    first_none (x ∷ xs) none = cc none
+    (λ keeps. none (keeps.0, keeps.1, in_rest text rest n (value_line (codes "end") (encode_lower keeps.0)) read.lines keeps.2))
 
 pub more_after : (bounds : Bounds) (text rest left sum : List ℕ) (edges pairs n : ℕ) → bounds.edges ≤ 10000 → SaysPairs bounds text edges pairs → n ≡ 5 + edges + pairs → IsReadTo bounds text n rest
     → rest ≡ end_line sum ++ 10 ∷ left → IsDigest sum → left ≢ [] → IsFirstFault bounds text (n + 2) 9

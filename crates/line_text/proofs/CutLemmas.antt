@@ -54,7 +54,8 @@ nothing_left text = grind (arith, common_steps)
 
 -- ---- lines
 
-not_zero : (n : ℕ) → 0 < n → eqb n 0 ≡ false
+-- a number above 0 is not 0, as the test says it
+pub not_zero : (n : ℕ) → 0 < n → eqb n 0 ≡ false
 not_zero n h = grind arith
 
 -- a text without a newline is one line

@@ -2,6 +2,7 @@ mod BytesLemmas
 mod CutLemmas
 mod HexadecimalLemmas
 pub mod Laws
+pub mod LawsOfDigests
 pub mod LawsOfNumbers
 pub mod LawsOfTexts
 pub mod LawsOfValues

@@ -14,7 +14,8 @@
 //! `read_digest_line` read them off the front of a text, by `specs/Values`.
 //!
 //! Proofs above cite `proofs/Laws` (words and lines), `proofs/LawsOfNumbers` (decimal digits),
-//! `proofs/LawsOfValues` (lines of a word and a value) and `proofs/LawsOfTexts` (texts of many lines).
+//! `proofs/LawsOfValues` (lines of a word and a value), `proofs/LawsOfTexts` (texts of many lines,
+//! written or read line by line) and `proofs/LawsOfDigests` (what SHA-256 gives is a digest).
 #![tactic(auto)]
 
 mod bytes;

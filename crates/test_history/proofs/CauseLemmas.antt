@@ -1,26 +1,26 @@
 -- A text has a history or one cause of refusal and never both, and its history is determined.
-use Rattle.std.proofs.Common.{◌≡◌, ◌≢◌, ◌<◌, ◌≤◌, ◌+◌, ◌*◌, ℕ, zero, suc, List, [], ◌∷◌, ◌++◌, length, codes, get_or, None, Result, Ok, Err, MatchResult, refl, sym, ap, subst, ◌∙◌, inl, inr, arith, append_assoc}
+use Rattle.std.proofs.Common.{◌≡◌, ◌≢◌, ◌<◌, ◌≤◌, ◌+◌, ◌*◌, ℕ, List, [], ◌∷◌, ◌++◌, length, codes, None, Result, Ok, Err, MatchResult, refl, sym, ap, subst, ◌∙◌, inl, inr, arith, append_assoc}
 use Rattle.std.specs.List.{flat_map}
 use Rattle.std.specs.Fmt.{decimal}
 use Rattle.std.specs.Result.{IsErrAnd}
 use Rattle.std.proofs.lemmas.Bool.{cases_lt}
 use Rattle.std.proofs.lemmas.Fmt.{decimal_injective}
-use Rattle.hex.specs.Hex.{encode_lower, IsBytes}
-use Rattle.std.specs.Int.{w32, to_be_bytes, bytes_high_first, byte_at}
-use Rattle.sha2.specs.Sha256.{sha256, digest_bytes}
+use Rattle.hex.specs.Hex.{encode_lower}
+use Rattle.sha2.specs.Sha256.{sha256}
 use Rattle.line_text.specs.Lines.{text_of_lines, HasLine, line_at}
 use Rattle.test_history.specs.declared.error.HistoryError.{HistoryError}
 use Rattle.test_history.specs.declared.error.HistoryError.TheVariants.{TooLong, Version, Malformed, Sum, Foreign, EdgeCount, Memory}
 use Rattle.test_history.specs.declared.version.Version.{Version as Format}
 use Rattle.test_history.specs.Causes.{IsOfOther, SaysHistory, HasHistoryCause, IsOnlyCause}
 use Rattle.test_history.specs.Faults.{IsReadTo, IsHead, IsRefusalOf, head_lines}
-use Rattle.line_text.specs.Values.{IsDigest, value_line}
+use Rattle.line_text.specs.Values.{value_line}
 use Rattle.test_history.specs.Histories.{HistoryParts, IsReadable}
 use Rattle.test_history.specs.HistoryTexts.{version_line, entry_lines, text_before_end, text_with_sum, versioned_text, most_history_bytes}
 use Rattle.test_history.specs.Rules.{h14, number_of, IsFirstFault, SaysTests}
 use Rattle.test_history.proofs.AskedLemmas.{keeps_same, asked_after, asked_within}
-use Rattle.test_history.proofs.LengthLemmas.{length-sha256}
-use Rattle.test_history.proofs.ReadLemmas.{line_next, at_line}
+use Rattle.line_text.proofs.LawsOfDigests.{IsDigest-sha256}
+use Rattle.line_text.proofs.LawsOfTexts.{line_next}
+use Rattle.test_history.proofs.ReadLemmas.{at_line}
 use Rattle.test_history.proofs.SameLemmas.{good_entries, histories_same}
 use Rattle.test_history.proofs.WholeLemmas.{head_read, entries_end, end_read, no_version}
 use Rattle.line_text.proofs.LawsOfValues.{one_value}
@@ -62,36 +62,6 @@ says_no_version version text history sum number says = no_version version text n
 
 pub says_same : (version : Format) (text : List ℕ) (a b : HistoryParts) (s t : List ℕ) → SaysHistory version text a s → SaysHistory version text b t → (a ≡ b) × (s ≡ t)
 says_same version text a b s t one other = histories_same version a b s t one.readable other.readable one.written other.written (sym one.is ∙ other.is)
-
--- ---- the digest that SHA-256 gives
-
-bytes_append : (xs ys : List ℕ) → IsBytes xs → IsBytes ys → IsBytes (xs ++ ys)
-bytes_append [] ys hx hy i = hy i
-bytes_append (x ∷ xs) ys hx hy zero = hx 0
-bytes_append (x ∷ xs) ys hx hy (suc i) = bytes_append xs ys (λ k. hx (suc k)) hy i
-
-bytes_none : IsBytes []
-bytes_none i = omega arith
-
-byte_at-small : (k n : ℕ) → byte_at k n < 256
-byte_at-small k n = grind arith
-
-word_bytes : (k n : ℕ) → IsBytes (bytes_high_first k n)
-word_bytes zero n i = bytes_none i
-word_bytes (suc k) n zero = byte_at-small k n
-word_bytes (suc k) n (suc i) = word_bytes k n i
-
-digest_all : (h : List ℕ) (n : ℕ) → IsBytes (digest_bytes h n)
-unfolding digest_bytes
-digest_all h zero = bytes_none
-digest_all h (suc n) = bytes_append (digest_bytes h n) (to_be_bytes w32 (get_or h n 0)) (digest_all h n) (word_bytes 4 (get_or h n 0))
-
-IsBytes-sha256 : (bytes : List ℕ) → IsBytes (sha256 bytes)
-unfolding sha256
-IsBytes-sha256 bytes = digest_all _ 8
-
-pub IsDigest-sha256 : (bytes : List ℕ) → IsDigest (sha256 bytes)
-IsDigest-sha256 bytes = record { size = length-sha256 bytes; bytes = IsBytes-sha256 bytes }
 
 pub says_whole : (version : Format) (text : List ℕ) (history : HistoryParts) → IsReadable history → text ≡ versioned_text version history → SaysHistory version text history (sha256 (text_before_end version history))
 says_whole version text history readable is = record { readable = readable; written = IsDigest-sha256 (text_before_end version history); is = is }

@@ -19,8 +19,8 @@ use Rattle.test_history.specs.Rules.{h7, h8, h9, h10, h11, h12, IsFirstFault, Ha
 use Rattle.test_history.proofs.AskedLemmas.{edges_same}
 use Rattle.line_text.proofs.LawsOfValues.{IsPlain, plain_value, plain_decimal, plain_bytes, one_value}
 use Rattle.test_history.proofs.PlainLemmas.{plain_status, plain_crossed}
-use Rattle.test_history.proofs.ReadLemmas.{in_rest, has_next, at_line, entry_line, entry_fault, name_line}
-use Rattle.line_text.proofs.LawsOfTexts.{lines_cons}
+use Rattle.test_history.proofs.ReadLemmas.{at_line, entry_line, entry_fault, name_line}
+use Rattle.line_text.proofs.LawsOfTexts.{in_rest, has_next, lines_cons}
 
 -- an entry is being read: n lines stand before it
 module _ (version : Version) (text : List ℕ) (edges : ℕ) (names : List (List ℕ)) (n : ℕ) (at : IsAtEntry text edges names) (first : n ≡ 4 + 7 * length names) where
@@ -29,7 +29,7 @@ module _ (version : Version) (text : List ℕ) (edges : ℕ) (names : List (List
       → IsReadTo version text (n + 2) left × HasNumber text (n + 2) (codes "budget") most_budget budget
   budget_line rest left budget read cut within =
       let plain : IsPlain (value_line (codes "budget") (decimal budget)) = plain_value (codes "budget") (decimal budget) refl (plain_decimal budget (omega arith)) in
-      let here : HasLine text (n + 1 + 1) (value_line (codes "budget") (decimal budget)) = has_next version text rest (value_line (codes "budget") (decimal budget)) left (n + 1) read cut plain in
+      let here : HasLine text (n + 1 + 1) (value_line (codes "budget") (decimal budget)) = has_next text rest (value_line (codes "budget") (decimal budget)) left (n + 1) read.lines cut plain in
       let next : n + 1 + 1 ≡ n + 2 = omega arith in (
         at_line version text left (n + 1 + 1) (n + 2) next
             (entry_line version text edges names rest (value_line (codes "budget") (decimal budget)) left (n + 1) 1 h7 at (omega arith) (omega arith) (omega arith) refl read cut plain (λ has. (budget, (within, has)))),
@@ -41,7 +41,7 @@ module _ (version : Version) (text : List ℕ) (edges : ℕ) (names : List (List
       let next : n + 1 + 1 ≡ n + 2 = omega arith in
       subst (λ k. IsFirstFault version text k 7) next
       (entry_fault version text edges names rest (n + 1) 1 h7 at (omega arith) (omega arith) (omega arith) refl (at.tests, length names, at.says, at.more, omega arith) read
-      (λ keeps. none keeps.0 (keeps.1.0, in_rest version text rest (n + 1) (value_line (codes "budget") (decimal keeps.0)) read keeps.1.1)))
+      (λ keeps. none keeps.0 (keeps.1.0, in_rest text rest (n + 1) (value_line (codes "budget") (decimal keeps.0)) read.lines keeps.1.1)))
 
   -- its third
   pub input_line : (rest left input : List ℕ) → IsReadTo version text (n + 2) rest → rest ≡ value_line (codes "input") (bytes_or_dash input) ++ 10 ∷ left → IsBytes input → length input ≤ most_input → IsReadTo version text (n + 3) left
@@ -56,7 +56,7 @@ module _ (version : Version) (text : List ℕ) (edges : ℕ) (names : List (List
       let next : n + 2 + 1 ≡ n + 3 = omega arith in
       subst (λ k. IsFirstFault version text k 8) next
       (entry_fault version text edges names rest (n + 2) 2 h8 at (omega arith) (omega arith) (omega arith) refl (at.tests, length names, at.says, at.more, omega arith) read
-      (λ keeps. none (keeps.0, keeps.1, keeps.2, in_rest version text rest (n + 2) (value_line (codes "input") (bytes_or_dash keeps.0)) read keeps.3)))
+      (λ keeps. none (keeps.0, keeps.1, keeps.2, in_rest text rest (n + 2) (value_line (codes "input") (bytes_or_dash keeps.0)) read.lines keeps.3)))
 
   -- its fourth
   pub status_line : (rest left : List ℕ) (s : Status) → IsReadTo version text (n + 3) rest → rest ≡ line_of_words (codes "status" ∷ status_words s) ++ 10 ∷ left → IsByteStatus s → IsReadTo version text (n + 4) left
@@ -70,7 +70,7 @@ module _ (version : Version) (text : List ℕ) (edges : ℕ) (names : List (List
       let next : n + 3 + 1 ≡ n + 4 = omega arith in
       subst (λ k. IsFirstFault version text k 9) next
       (entry_fault version text edges names rest (n + 3) 3 h9 at (omega arith) (omega arith) (omega arith) refl (at.tests, length names, at.says, at.more, omega arith) read
-      (λ keeps. none keeps.0 keeps.1 (in_rest version text rest (n + 3) (line_of_words (codes "status" ∷ status_words keeps.0)) read keeps.2)))
+      (λ keeps. none keeps.0 keeps.1 (in_rest text rest (n + 3) (line_of_words (codes "status" ∷ status_words keeps.0)) read.lines keeps.2)))
 
   -- its fifth
   pub turns_line : (rest left : List ℕ) (budget turns : ℕ) → HasNumber text (n + 2) (codes "budget") most_budget budget → IsReadTo version text (n + 4) rest
@@ -91,7 +91,7 @@ module _ (version : Version) (text : List ℕ) (edges : ℕ) (names : List (List
       (entry_fault version text edges names rest (n + 4) 4 h10 at (omega arith) (omega arith) (omega arith) refl (at.tests, length names, at.says, at.more, omega arith) read
       (λ keeps.
       let same : keeps.0 ≡ budget = budget_same keeps.0 (subst (λ k. HasNumber text k (codes "budget") most_budget keeps.0) back keeps.2) in
-      none keeps.1 (omega (arith, keeps.3.0, same), in_rest version text rest (n + 4) (value_line (codes "turns") (decimal keeps.1)) read keeps.3.1)))
+      none keeps.1 (omega (arith, keeps.3.0, same), in_rest text rest (n + 4) (value_line (codes "turns") (decimal keeps.1)) read.lines keeps.3.1)))
     where
       budget_same : (other : ℕ) → HasNumber text (n + 2) (codes "budget") most_budget other → other ≡ budget
       budget_same other has =
@@ -110,7 +110,7 @@ module _ (version : Version) (text : List ℕ) (edges : ℕ) (names : List (List
       let next : n + 5 + 1 ≡ n + 6 = omega arith in
       subst (λ k. IsFirstFault version text k 11) next
       (entry_fault version text edges names rest (n + 5) 5 h11 at (omega arith) (omega arith) (omega arith) refl (at.tests, length names, at.says, at.more, omega arith) read
-      (λ keeps. none (keeps.0, keeps.1, keeps.2, in_rest version text rest (n + 5) (value_line (codes "output") (bytes_or_dash keeps.0)) read keeps.3)))
+      (λ keeps. none (keeps.0, keeps.1, keeps.2, in_rest text rest (n + 5) (value_line (codes "output") (bytes_or_dash keeps.0)) read.lines keeps.3)))
 
   -- its seventh
   pub crossed_read : (rest left : List ℕ) (row : List Bool) → IsReadTo version text (n + 6) rest → rest ≡ crossed_line version row ++ 10 ∷ left → length row ≡ edges → IsReadTo version text (n + 7) left
@@ -125,7 +125,7 @@ module _ (version : Version) (text : List ℕ) (edges : ℕ) (names : List (List
       let next : n + 6 + 1 ≡ n + 7 = omega arith in
       subst (λ k. IsFirstFault version text k 12) next
       (entry_fault version text edges names rest (n + 6) 6 h12 at (omega arith) (omega arith) (omega arith) refl (at.tests, length names, at.says, at.more, omega arith) read
-      (λ keeps. none keeps.1 (keeps.3 ∙ edges_same text keeps.0 edges keeps.2 at.bound) (in_rest version text rest (n + 6) (crossed_line version keeps.1) read keeps.4)))
+      (λ keeps. none keeps.1 (keeps.3 ∙ edges_same text keeps.0 edges keeps.2 at.bound) (in_rest text rest (n + 6) (crossed_line version keeps.1) read.lines keeps.4)))
 
   -- the whole entry
   pub entry_read : (rest left : List ℕ) (entry : EntryParts) → IsReadTo version text n rest → IsGoodEntry edges entry → ¬ Contains names entry.test.name → rest ≡ text_of_lines (entry_lines version entry) ++ left

@@ -1,23 +1,19 @@
 -- The lengths of a history's lines.
-use Rattle.std.proofs.Common.{◌≡◌, ℕ, ◌+◌, ◌*◌, ◌/◌, ◌<◌, Bool, List, [], ◌∷◌, ◌++◌, length, codes, refl, ap, ◌∙◌, arith, length-append}
+use Rattle.std.proofs.Common.{◌≡◌, ℕ, ◌+◌, ◌*◌, ◌/◌, ◌<◌, Bool, List, [], ◌∷◌, ◌++◌, length, codes, ap, ◌∙◌, arith, length-append}
 use Rattle.std.specs.Fmt.{decimal}
 use Rattle.std.specs.List.{flat_map}
 use Rattle.std.proofs.lemmas.Fmt.{decimal_digit}
 use Rattle.hex.specs.Hex.{encode_lower, lower_digits}
 use Rattle.hex.proofs.HexLemmas.{length-encode_with}
-use Rattle.sha2.specs.Sha256.{sha256, digest_bytes}
+use Rattle.sha2.specs.Sha256.{sha256}
 use Rattle.line_text.specs.Lines.{text_of_lines}
 use Rattle.line_text.proofs.Laws.{length-bytes_or_dash}
+use Rattle.line_text.proofs.LawsOfDigests.{length-sha256}
 use Rattle.test_history.specs.declared.version.Version.TheVariants.{Third}
 use Rattle.test_history.specs.Histories.{HistoryParts}
 use Rattle.line_text.specs.Values.{value_line}
 use Rattle.test_history.specs.HistoryTexts.{entry_lines, first_lines, end_line, text_before_end, history_text, version_line, crossed_line, row_bytes}
 use Rattle.test_history.proofs.BitsLemmas.{length-row_bytes}
-
--- a digest has 32 bytes
-pub length-sha256 : (bytes : List ℕ) → length (sha256 bytes) ≡ 32
-unfolding sha256 digest_bytes
-length-sha256 bytes = refl
 
 length-four : (a b c d : List ℕ) → length (text_of_lines (a ∷ b ∷ c ∷ d ∷ [])) ≡ 4 + length a + length b + length c + length d
 length-four a b c d = simp length-append (omega arith)

@@ -1,41 +1,21 @@
 -- A text that is read line by line, and the first line that breaks a rule.
-use Rattle.std.proofs.Common.{◌≡◌, ◌<◌, ◌+◌, ◌-◌, ◌*◌, ℕ, zero, suc, true, List, [], ◌∷◌, ◌++◌, length, drop, codes, get_or, refl, sym, ap, subst, ◌∙◌, inl, inr, arith}
-use Rattle.std.specs.List.{Contains, slice_get}
+use Rattle.std.proofs.Common.{◌≡◌, ◌<◌, ◌+◌, ◌*◌, ℕ, List, ◌∷◌, ◌++◌, length, drop, codes, get_or, refl, sym, ap, subst, ◌∙◌, inl, inr, arith}
+use Rattle.std.specs.List.{Contains}
 use Rattle.std.proofs.lemmas.Bool.{cases_lt}
 use Rattle.std.proofs.lemmas.List.{drop-drop}
 use Rattle.std.proofs.lemmas.Option.{slice_get-get_or}
-use Rattle.line_text.specs.Lines.{lines_of, line_with, HasLine, line_at}
-use Rattle.line_text.proofs.Laws.{lines_of-ended}
+use Rattle.line_text.specs.Lines.{lines_of, HasLine}
 use Rattle.test_suite.specs.Tests.{IsTestName}
 use Rattle.test_history.specs.declared.version.Version.{Version}
 use Rattle.test_history.specs.Faults.{IsReadTo, IsAtEntry}
 use Rattle.line_text.specs.Values.{value_line}
 use Rattle.test_history.specs.Rules.{Rule, h5, h6, number_of, IsAsked, Keeps, IsFirstFault, HasName}
 use Rattle.test_history.proofs.AskedLemmas.{keeps_same, asked_head, asked_entry, asked_some}
+use Rattle.line_text.proofs.LawsOfTexts.{in_rest, lines_cut, has_next}
 use Rattle.line_text.proofs.LawsOfValues.{IsPlain, plain_value, one_value}
 use Rattle.test_history.proofs.PlainLemmas.{plain_name}
 
 -- ---- lines
-
-slice_get-drop : {X : Type 0} (n : ℕ) (xs : List X) → slice_get (drop n xs) 0 ≡ slice_get xs n
-slice_get-drop zero xs = refl
-slice_get-drop (suc n) [] = refl
-slice_get-drop (suc n) (x ∷ xs) = slice_get-drop n xs
-
--- the line after those that are read is the first of the rest
-pub line_next : (text rest : List ℕ) (n : ℕ) → drop n (lines_of text) ≡ lines_of rest → line_at text (n + 1) ≡ line_at rest 1
-line_next text rest n lines =
-    let at : n + 1 - 1 ≡ n = omega arith in
-    ap (slice_get (lines_of text)) at ∙ sym (slice_get-drop n (lines_of text)) ∙ ap (λ ls. slice_get ls 0) lines
-
-pub in_rest : (version : Version) (text rest : List ℕ) (n : ℕ) (line : List ℕ) → IsReadTo version text n rest → HasLine text (n + 1) line → HasLine rest 1 line
-in_rest version text rest n line read has = sym (line_next text rest n read.lines) ∙ has
-
-lines_cut : (rest line left : List ℕ) → rest ≡ line ++ 10 ∷ left → IsPlain line → lines_of rest ≡ line_with line true ∷ lines_of left
-lines_cut rest line left cut plain = ap lines_of cut ∙ lines_of-ended line left plain
-
-pub has_next : (version : Version) (text rest line left : List ℕ) (n : ℕ) → IsReadTo version text n rest → rest ≡ line ++ 10 ∷ left → IsPlain line → HasLine text (n + 1) line
-has_next version text rest line left n read cut plain = line_next text rest n read.lines ∙ ap (λ ls. slice_get ls 0) (lines_cut rest line left cut plain)
 
 -- nothing is read at first
 pub none_read : (version : Version) (text : List ℕ) → IsReadTo version text 0 text
@@ -78,7 +58,7 @@ pub head_line : (version : Version) (text rest line left : List ℕ) (n : ℕ) (
     → (HasLine text (n + 1) line → Keeps version text rule (n + 1)) → IsReadTo version text (n + 1) left
 head_line version text rest line left n rule number few read cut plain keeps =
     one_more version text rest line left n read cut plain
-    (λ other asked. keeps_same version text (n + 1) rule other (asked_head text (n + 1) other (omega arith) asked ∙ sym number) (keeps (has_next version text rest line left n read cut plain)))
+    (λ other asked. keeps_same version text (n + 1) rule other (asked_head text (n + 1) other (omega arith) asked ∙ sym number) (keeps (has_next text rest line left n read.lines cut plain)))
 
 pub head_fault : (version : Version) (text rest : List ℕ) (n : ℕ) (rule : Rule) → number_of rule ≡ n + 1 → n < 4 → IsAsked text rule (n + 1) → IsReadTo version text n rest
     → ¬ Keeps version text rule (n + 1) → IsFirstFault version text (n + 1) (number_of rule)
@@ -94,7 +74,7 @@ pub entry_line : (version : Version) (text : List ℕ) (edges : ℕ) (names : Li
 entry_line version text edges names rest line left m k rule at is some few number read cut plain keeps =
     one_more version text rest line left m read cut plain
     (λ other asked. elim (asked_entry text at.tests (length names) k (m + 1) other at.says at.more few (omega arith) asked) [
-      | inl same ↦ keeps_same version text (m + 1) rule other (same ∙ sym number) (keeps (has_next version text rest line left m read cut plain))
+      | inl same ↦ keeps_same version text (m + 1) rule other (same ∙ sym number) (keeps (has_next text rest line left m read.lines cut plain))
       | inr first ↦ absurd (omega (arith, first.0))
     ])
 
@@ -123,7 +103,7 @@ pub name_line : (version : Version) (text : List ℕ) (edges : ℕ) (names : Lis
     → rest ≡ value_line (codes "test") name ++ 10 ∷ left → IsTestName name → ¬ Contains names name → IsReadTo version text (n + 1) left × HasName text (n + 1) name
 name_line version text edges names rest name left n at is read cut good new =
     let plain : IsPlain (value_line (codes "test") name) = plain_value (codes "test") name refl (plain_name name good) in
-    let here : HasName text (n + 1) name = (good, has_next version text rest (value_line (codes "test") name) left n read cut plain) in (
+    let here : HasName text (n + 1) name = (good, has_next text rest (value_line (codes "test") name) left n read.lines cut plain) in (
       one_more version text rest (value_line (codes "test") name) left n read cut plain
           (λ other asked. elim (asked_entry text at.tests (length names) 0 (n + 1) other at.says at.more (omega arith) (omega arith) asked) [
             | inl second ↦ keeps_same version text (n + 1) h6 other second (keeps_new version text edges names n name at is here new)
@@ -136,7 +116,7 @@ pub no_name : (version : Version) (text : List ℕ) (edges : ℕ) (names : List 
     → ((name : List ℕ) → ¬ HasName rest 1 name) → IsFirstFault version text (n + 1) 5
 no_name version text edges names rest n at is read none =
     fault_next version text rest n h5 read (at.tests, length names, at.says, at.more, omega arith)
-    (λ keeps. none keeps.0 (keeps.1.0, in_rest version text rest n (value_line (codes "test") keeps.0) read keeps.1.1))
+    (λ keeps. none keeps.0 (keeps.1.0, in_rest text rest n (value_line (codes "test") keeps.0) read.lines keeps.1.1))
     (λ other also less. elim (asked_entry text at.tests (length names) 0 (n + 1) other at.says at.more (omega arith) (omega arith) also) [
       | inl second ↦ absurd (omega (arith, second))
       | inr first ↦ absurd (omega (arith, first.1))
@@ -146,7 +126,7 @@ pub old_name : (version : Version) (text : List ℕ) (edges : ℕ) (names : List
     → rest ≡ value_line (codes "test") name ++ 10 ∷ left → IsTestName name → Contains names name → IsFirstFault version text (n + 1) 6
 old_name version text edges names rest name left n at is read cut good has =
     let plain : IsPlain (value_line (codes "test") name) = plain_value (codes "test") name refl (plain_name name good) in
-    let here : HasName text (n + 1) name = (good, has_next version text rest (value_line (codes "test") name) left n read cut plain) in
+    let here : HasName text (n + 1) name = (good, has_next text rest (value_line (codes "test") name) left n read.lines cut plain) in
     let place : ℕ = has.0 in
     let before : place < length names = has.1 in
     let there : HasName text (5 + 7 * place) (get_or names place name) = at.named place (get_or names place name) (slice_get-get_or names place name before) in

@@ -1,8 +1,7 @@
 -- A whole text, read from its first line to its last.
-use Rattle.std.proofs.Common.{◌≡◌, ◌≢◌, ◌<◌, ◌≤◌, ◌+◌, ◌*◌, ◌⊎◌, ℕ, zero, suc, eqb, false, List, [], ◌∷◌, ◌++◌, length, length-append, drop, codes, get_or, Some, None, refl, sym, ap, subst, ◌∙◌, inl, inr, arith, append_assoc, append-nil}
+use Rattle.std.proofs.Common.{◌≡◌, ◌≢◌, ◌<◌, ◌≤◌, ◌+◌, ◌*◌, ◌⊎◌, ℕ, zero, suc, List, [], ◌∷◌, ◌++◌, length, length-append, drop, codes, get_or, Some, refl, sym, ap, subst, ◌∙◌, inl, inr, arith, append_assoc, append-nil}
 use Rattle.std.specs.Fmt.{decimal}
-use Rattle.std.specs.List.{All, AllPairs, Contains, flat_map, slice_get, slice_split, join_with_byte}
-use Rattle.std.proofs.lemmas.List.Splits.{join_with_byte-slice_split}
+use Rattle.std.specs.List.{All, AllPairs, Contains, flat_map, slice_get}
 use Rattle.std.proofs.Math.Seq.{get_or-append_seam}
 use Rattle.std.proofs.lemmas.Fmt.{decimal_injective}
 use Rattle.std.proofs.lemmas.List.{get_or_append_left, get_or_default, length-map, map-append}
@@ -11,7 +10,7 @@ use Rattle.std.proofs.lemmas.List.Quantifiers.{all_pairs_push}
 use Rattle.std.proofs.lemmas.List.Elements.{All-head, All-tail}
 use Rattle.hex.specs.Hex.{encode_lower}
 use Rattle.csub_core.specs.Valid.{most_edges}
-use Rattle.line_text.specs.Lines.{lines_of, lines_between, text_of_lines, HasLine, line_at}
+use Rattle.line_text.specs.Lines.{text_of_lines, HasLine}
 use Rattle.test_suite.specs.Suites.{most_tests}
 use Rattle.test_history.specs.declared.version.Version.{Version}
 use Rattle.test_history.specs.Causes.{IsOfOther}
@@ -28,8 +27,8 @@ use Rattle.test_history.proofs.AskedLemmas.{keeps_same, asked_after}
 use Rattle.test_history.proofs.EntryLemmas.{entry_read}
 use Rattle.line_text.proofs.LawsOfValues.{IsPlain, plain_value, plain_decimal, plain_digest, one_value}
 use Rattle.test_history.proofs.PlainLemmas.{plain_version, small_version}
-use Rattle.test_history.proofs.ReadLemmas.{in_rest, has_next, none_read, one_more, fault_next, at_line, head_line, head_fault, line_next}
-use Rattle.line_text.proofs.LawsOfTexts.{lines_append, lines_cons}
+use Rattle.test_history.proofs.ReadLemmas.{none_read, one_more, fault_next, at_line, head_line, head_fault}
+use Rattle.line_text.proofs.LawsOfTexts.{in_rest, has_next, line_next, some_line, lines_append, lines_cons}
 
 -- ---- the entries
 
@@ -110,7 +109,7 @@ apart_more names name apart new = all_pairs_push (λ one other. one ≢ other) n
 pub version_read : (version : Version) (text left : List ℕ) → text ≡ version_line version ++ 10 ∷ left → IsReadTo version text 1 left × HasLine text 1 (version_line version)
 version_read version text left cut =
     let plain : IsPlain (version_line version) = plain_version version in
-    let here : HasLine text (0 + 1) (version_line version) = has_next version text text (version_line version) left 0 (none_read version text) cut plain in
+    let here : HasLine text (0 + 1) (version_line version) = has_next text text (version_line version) left 0 (none_read version text).lines cut plain in
     (at_line version text left (0 + 1) 1 refl (head_line version text text (version_line version) left 0 h1 refl (omega arith) (none_read version text) cut plain (λ has. has)), here)
 
 pub source_read : (version : Version) (text rest left digest : List ℕ) → IsReadTo version text 1 rest → rest ≡ value_line (codes "source") (encode_lower digest) ++ 10 ∷ left → IsDigest digest → IsReadTo version text 2 left
@@ -122,14 +121,14 @@ pub edges_read : (version : Version) (text rest left : List ℕ) (edges : ℕ) �
 edges_read version text rest left edges read cut few =
     let plain : IsPlain (value_line (codes "edges") (decimal edges)) = plain_value (codes "edges") (decimal edges) refl (plain_decimal edges (omega arith)) in (
       at_line version text left (2 + 1) 3 refl (head_line version text rest (value_line (codes "edges") (decimal edges)) left 2 h3 refl (omega arith) read cut plain (λ has. (edges, (few, has)))),
-      (few, has_next version text rest (value_line (codes "edges") (decimal edges)) left 2 read cut plain),
+      (few, has_next text rest (value_line (codes "edges") (decimal edges)) left 2 read.lines cut plain),
     )
 
 pub tests_read : (version : Version) (text rest left : List ℕ) (tests : ℕ) → IsReadTo version text 3 rest → rest ≡ value_line (codes "tests") (decimal tests) ++ 10 ∷ left → tests ≤ most_tests → IsReadTo version text 4 left × SaysTests text tests
 tests_read version text rest left tests read cut few =
     let plain : IsPlain (value_line (codes "tests") (decimal tests)) = plain_value (codes "tests") (decimal tests) refl (plain_decimal tests (omega arith)) in (
       at_line version text left (3 + 1) 4 refl (head_line version text rest (value_line (codes "tests") (decimal tests)) left 3 h4 refl (omega arith) read cut plain (λ has. (tests, (few, has)))),
-      (few, has_next version text rest (value_line (codes "tests") (decimal tests)) left 3 read cut plain),
+      (few, has_next text rest (value_line (codes "tests") (decimal tests)) left 3 read.lines cut plain),
     )
 
 -- what stands before the entries is read
@@ -174,7 +173,7 @@ this_version version text left number cut same = cut ∙ ap (λ n. value_line (c
 pub other_version : (version : Version) (text left : List ℕ) (number : ℕ) → text ≡ value_line (codes "dejavu history") (decimal number) ++ 10 ∷ left → number ≤ 999999999 → number ≢ version_number version → IsOfOther version text number
 other_version version text left number cut few other = record {
   other = other;
-  line = (few, has_next version text text (value_line (codes "dejavu history") (decimal number)) left 0 (none_read version text) cut (plain_value (codes "dejavu history") (decimal number) refl (plain_decimal number (omega arith))));
+  line = (few, has_next text text (value_line (codes "dejavu history") (decimal number)) left 0 (none_read version text).lines cut (plain_value (codes "dejavu history") (decimal number) refl (plain_decimal number (omega arith))));
 }
 
 pub version_fault : (version : Version) (text : List ℕ) → ((number : ℕ) → ¬ HasNumber text 1 (codes "dejavu history") 999999999 number) → ((number : ℕ) → ¬ IsOfOther version text number) × IsFirstFault version text 1 1
@@ -185,13 +184,13 @@ version_fault version text none = (
 
 -- the other lines of the head
 pub source_fault : (version : Version) (text rest : List ℕ) → IsReadTo version text 1 rest → ¬ HasDigest rest 1 (codes "source") → IsFirstFault version text 2 2
-source_fault version text rest read none = head_fault version text rest 1 h2 refl (omega arith) refl read (λ keeps. none (keeps.0, keeps.1, in_rest version text rest 1 (value_line (codes "source") (encode_lower keeps.0)) read keeps.2))
+source_fault version text rest read none = head_fault version text rest 1 h2 refl (omega arith) refl read (λ keeps. none (keeps.0, keeps.1, in_rest text rest 1 (value_line (codes "source") (encode_lower keeps.0)) read.lines keeps.2))
 
 pub edges_fault : (version : Version) (text rest : List ℕ) → IsReadTo version text 2 rest → ((edges : ℕ) → ¬ HasNumber rest 1 (codes "edges") most_edges edges) → IsFirstFault version text 3 3
-edges_fault version text rest read none = head_fault version text rest 2 h3 refl (omega arith) refl read (λ keeps. none keeps.0 (keeps.1.0, in_rest version text rest 2 (value_line (codes "edges") (decimal keeps.0)) read keeps.1.1))
+edges_fault version text rest read none = head_fault version text rest 2 h3 refl (omega arith) refl read (λ keeps. none keeps.0 (keeps.1.0, in_rest text rest 2 (value_line (codes "edges") (decimal keeps.0)) read.lines keeps.1.1))
 
 pub tests_fault : (version : Version) (text rest : List ℕ) → IsReadTo version text 3 rest → ((tests : ℕ) → ¬ HasNumber rest 1 (codes "tests") most_tests tests) → IsFirstFault version text 4 4
-tests_fault version text rest read none = head_fault version text rest 3 h4 refl (omega arith) refl read (λ keeps. none keeps.0 (keeps.1.0, in_rest version text rest 3 (value_line (codes "tests") (decimal keeps.0)) read keeps.1.1))
+tests_fault version text rest read none = head_fault version text rest 3 h4 refl (omega arith) refl read (λ keeps. none keeps.0 (keeps.1.0, in_rest text rest 3 (value_line (codes "tests") (decimal keeps.0)) read.lines keeps.1.1))
 
 -- ---- the last line
 
@@ -200,39 +199,13 @@ end_read version text rest left sum tests n says is read cut good =
     let plain : IsPlain (value_line (codes "end") (encode_lower sum)) = plain_value (codes "end") (encode_lower sum) refl (plain_digest sum good) in
     one_more version text rest (value_line (codes "end") (encode_lower sum)) left n read cut plain
     (λ other asked. keeps_same version text (n + 1) h13 other (asked_after text tests 0 (n + 1) other says (omega arith) asked)
-    (sum, good, has_next version text rest (value_line (codes "end") (encode_lower sum)) left n read cut plain))
+    (sum, good, has_next text rest (value_line (codes "end") (encode_lower sum)) left n read.lines cut plain))
 
 pub no_end : (version : Version) (text rest : List ℕ) (tests n : ℕ) → SaysTests text tests → n ≡ 4 + 7 * tests → IsReadTo version text n rest → ¬ HasDigest rest 1 (codes "end") → IsFirstFault version text (n + 1) 13
 no_end version text rest tests n says is read none =
     fault_next version text rest n h13 read (tests, says, omega arith)
-    (λ keeps. none (keeps.0, keeps.1, in_rest version text rest n (value_line (codes "end") (encode_lower keeps.0)) read keeps.2))
+    (λ keeps. none (keeps.0, keeps.1, in_rest text rest n (value_line (codes "end") (encode_lower keeps.0)) read.lines keeps.2))
     (λ other also less. absurd (omega (arith, asked_after text tests 0 (n + 1) other says (omega arith) also)))
-
-not_zero : (n : ℕ) → 0 < n → eqb n 0 ≡ false
-not_zero n h = grind arith
-
-no_parts : (parts : List (List ℕ)) → lines_between parts ≡ [] → (parts ≡ []) ⊎ (parts ≡ [] ∷ [])
-no_parts [] none = inl refl
-no_parts ([] ∷ []) none = inr refl
-no_parts ((byte ∷ line) ∷ []) none =
-    let some : eqb (length (byte ∷ line)) 0 ≡ false = not_zero (length (byte ∷ line)) (omega arith) in
-    absurd (cc (rw some at none))
-no_parts (line ∷ next ∷ more) none = absurd (cc none)
-
-no_lines : (text : List ℕ) → lines_of text ≡ [] → text ≡ []
-no_lines text none =
-    let whole : join_with_byte 10 (slice_split (λ byte. eqb byte 10) text) ≡ text = join_with_byte-slice_split 10 text in
-    elim (no_parts (slice_split (λ byte. eqb byte 10) text) none) [
-      | inl is ↦ sym whole ∙ ap (join_with_byte 10) is
-      | inr is ↦ sym whole ∙ ap (join_with_byte 10) is
-    ]
-
-some_line : (text : List ℕ) → text ≢ [] → line_at text 1 ≢ None
-some_line text some none = some (no_lines text (first_none (lines_of text) none))
-  where
-    first_none : {X : Type 0} (xs : List X) → slice_get xs 0 ≡ None → xs ≡ []
-    first_none [] none = refl
-    first_none (x ∷ xs) none = cc none
 
 pub more_after : (version : Version) (text rest left sum : List ℕ) (tests n : ℕ) → SaysTests text tests → n ≡ 4 + 7 * tests → IsReadTo version text n rest → rest ≡ value_line (codes "end") (encode_lower sum) ++ 10 ∷ left → IsDigest sum → left ≢ []
     → IsFirstFault version text (n + 2) 14
