@@ -1,22 +1,17 @@
 -- Numbers of labels, as a row of them grows and when two are compared.
-use Rattle.std.proofs.Common.{◌≡◌, ◌<◌, ◌↔◌, ℕ, ◌++◌, ◌∷◌, [], List, length, get_or, map, Option, Some, None, option_map, refl, sym, ap, subst, ◌∙◌, ◌⊎◌, inl, inr, arith}
+use Rattle.std.proofs.Common.{◌≡◌, ℕ, ◌++◌, ◌∷◌, [], List, length, map, Option, Some, None, option_map, refl, sym, ap, subst, ◌∙◌, ◌⊎◌, inl, inr}
 use Rattle.std.specs.Prelude.{slice_get}
 use Rattle.std.proofs.lemmas.List.{length-map}
-use Rattle.std.proofs.lemmas.Option.{slice_get-get_or, slice_get-map, same_Some}
-use Rattle.csub_objects.specs.Types.{Name}
+use Rattle.std.proofs.lemmas.Option.{slice_get-map}
 use Rattle.csub_semantics.specs.Types.{GlobalTree}
 use Rattle.csub_semantics.specs.Labels.{PointLabel, label_tree}
-use Rattle.csub_semantics.specs.Points.{PointTree}
 use Rattle.csub_semantics.specs.Syntax.{ProgramTree}
-use Rattle.csub_semantics.specs.Flows.{flow_of}
 use Rattle.csub_semantics.specs.Numbers.{Site, site, site_at}
-use Rattle.csub_semantics.specs.Books.{SameLabel}
 use Rattle.edge_label.specs.Numbers.{HasNumber, HaveNumbers, whole}
 use Rattle.edge_label.specs.declared.standing.Standing.{Standing}
 use Rattle.edge_label.proofs.LawsNumbers.{HaveNumbers-length, HaveNumbers-at}
-use Rattle.flow_graph.specs.Graph.{Tables, IsGraphOf, point_count}
+use Rattle.flow_graph.specs.Graph.{Tables, IsGraphOf}
 use Rattle.dual_walk.specs.LabelRows.{StandsAt, IsNumbered, AreNumbered, AreLabelsOf}
-use Rattle.dual_walk.specs.Held.{AreAt}
 use Rattle.dual_walk.proofs.LawsLists.{get_push}
 
 -- one label more behind those of the points so far
@@ -51,21 +46,3 @@ row_numbered book row g labels globals are its have = record {
           has = found.2;
           labelled = λ P place ok there. (are.each n standing P place at ok there).label ∙ ap (λ gs. Some (whole gs (label_tree standing.label.now))) (sym (its P ok)) ∙ is;
         }
-
--- the number that a row has for a point
-pub number_at : (book : List PointLabel) (row : List ℕ) (g : Tables) (n : ℕ) → AreNumbered book row g → n < point_count g → IsNumbered book g n (get_or row n 0)
-number_at book row g n h within = let points = h.points in h.each n (get_or row n 0) (slice_get-get_or row n 0 (omega (arith, points, within)))
-
--- two points have one label exactly where those of their numbers are equal
-pub same_labels : (g g' : Tables) (book : List PointLabel) (P P' : ProgramTree) (f : Name) (p p' : PointTree) (n n' number number' : ℕ) → IsGraphOf g P → IsGraphOf g' P'
-    → AreAt P P' n n' f p p' → (h : IsNumbered book g n number) (h' : IsNumbered book g' n' number') → (h.label ≡ h'.label) ↔ SameLabel (flow_of P) (flow_of P') f p p'
-same_labels g g' book P P' f p p' n n' number number' ok ok' at h h' = (
-  λ e. record { label = h.label; old = here; new = there ∙ ap Some (sym e) },
-  λ same. same_Some h.label same.label (sym here ∙ same.old) ∙ same_Some same.label h'.label (sym same.new ∙ there),
-)
-  where
-    here : (flow_of P).label f p ≡ Some h.label
-    here = h.labelled P (site f p) ok at.old
-
-    there : (flow_of P').label f p' ≡ Some h'.label
-    there = h'.labelled P' (site f p') ok' at.new

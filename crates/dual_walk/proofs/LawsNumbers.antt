@@ -1,8 +1,8 @@
 -- What the numbers of a valid program stand for: its points, its ways out, its functions and its labels.
-use Rattle.std.proofs.Common.{◌≡◌, ℕ, zero, suc, ◌+◌, ◌<◌, ◌≤◌, List, [], ◌∷◌, length, Bool, true, false, cond, Option, Some, None, find, option_map, refl, sym, ap, ◌∙◌, subst, subst₂}
+use Rattle.std.proofs.Common.{◌≡◌, ℕ, zero, suc, ◌+◌, ◌<◌, ◌≤◌, List, [], ◌∷◌, length, get_or, Bool, true, false, cond, Option, Some, None, find, option_map, refl, sym, ap, ◌∙◌, subst, subst₂, arith}
 use Rattle.std.specs.Prelude.{◌↔◌, slice_get}
 use Rattle.std.specs.List.{flat_map}
-use Rattle.std.proofs.lemmas.Option.{slice_get-map, same_Some}
+use Rattle.std.proofs.lemmas.Option.{slice_get-get_or, slice_get-map, same_Some}
 use Rattle.csub_objects.specs.Types.{Name}
 use Rattle.csub_semantics.specs.Types.{name_eq}
 use Rattle.csub_semantics.specs.Labels.{CallTree, call_of, PointLabel}
@@ -11,6 +11,7 @@ use Rattle.csub_semantics.specs.Syntax.{FunctionTree, ProgramTree}
 use Rattle.csub_semantics.specs.Successors.{Node, Way}
 use Rattle.csub_semantics.specs.Flows.{points_of, point_list, Edge, edges_from, function_of, node_of, way_in, way_of, labelled, flow_of, start_name}
 use Rattle.csub_semantics.specs.Numbers.{Site, site, site_of, site_at, edge_at}
+use Rattle.csub_semantics.specs.Books.{SameLabel}
 use Rattle.csub_validity.specs.Valid.{BeginsWithStart, IsValid}
 use Rattle.program_laws.specs.Flows.{entry_label, IsFlow}
 use Rattle.program_laws.proofs.LawsNames.{same_name, same_exit}
@@ -21,6 +22,7 @@ use Rattle.edge_label.specs.Numbers.{KeepsNumbers}
 use Rattle.dual_walk.specs.Books.{LeavesFrom}
 use Rattle.dual_walk.specs.LabelRows.{IsNumbered, AreNumbered}
 use Rattle.dual_walk.specs.Callees.{Defines}
+use Rattle.dual_walk.specs.Held.{AreAt}
 use Rattle.dual_walk.proofs.LawsLists.{get_some}
 
 -- the numbers of points are those below their count
@@ -123,3 +125,21 @@ numbered_kept book book' g n number keeps h = record { label = h.label; has = ke
 
 pub row_kept : (book book' : List PointLabel) (row : List ℕ) (g : Tables) → KeepsNumbers book book' → AreNumbered book row g → AreNumbered book' row g
 row_kept book book' row g keeps h = record { points = h.points; each = λ n number at. numbered_kept book book' g n number keeps (h.each n number at) }
+
+-- the number that a row has for a point
+pub number_at : (book : List PointLabel) (row : List ℕ) (g : Tables) (n : ℕ) → AreNumbered book row g → n < point_count g → IsNumbered book g n (get_or row n 0)
+number_at book row g n h within = let points = h.points in h.each n (get_or row n 0) (slice_get-get_or row n 0 (omega (arith, points, within)))
+
+-- two points have one label exactly where those of their numbers are equal
+pub same_labels : (g g' : Tables) (book : List PointLabel) (P P' : ProgramTree) (f : Name) (p p' : PointTree) (n n' number number' : ℕ) → IsGraphOf g P → IsGraphOf g' P'
+    → AreAt P P' n n' f p p' → (h : IsNumbered book g n number) (h' : IsNumbered book g' n' number') → (h.label ≡ h'.label) ↔ SameLabel (flow_of P) (flow_of P') f p p'
+same_labels g g' book P P' f p p' n n' number number' ok ok' at h h' = (
+  λ e. record { label = h.label; old = here; new = there ∙ ap Some (sym e) },
+  λ same. same_Some h.label same.label (sym here ∙ same.old) ∙ same_Some same.label h'.label (sym same.new ∙ there),
+)
+  where
+    here : (flow_of P).label f p ≡ Some h.label
+    here = h.labelled P (site f p) ok at.old
+
+    there : (flow_of P').label f p' ≡ Some h'.label
+    there = h'.labelled P' (site f p') ok' at.new

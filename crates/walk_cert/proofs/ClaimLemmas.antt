@@ -1,19 +1,16 @@
 -- Claimed pairs by their numbers, points that are alike, and ways out of a claim.
-use Rattle.std.proofs.Common.{◌≡◌, ◌<◌, ◌↔◌, ℕ, Bool, true, false, not, List, get_or, Some, MatchBool, refl, sym, ap, subst, subst₂, ◌∙◌, inl, inr, arith}
-use Rattle.std.proofs.lemmas.Option.{slice_get-get_or, same_Some}
+use Rattle.std.proofs.Common.{◌≡◌, ℕ, Bool, true, false, not, List, Some, MatchBool, refl, sym, ap, subst, subst₂, ◌∙◌, inl, inr}
+use Rattle.std.proofs.lemmas.Option.{same_Some}
 use Rattle.csub_objects.specs.Types.{Name}
-use Rattle.csub_semantics.specs.Labels.{PointLabel}
 use Rattle.csub_semantics.specs.Points.{PointTree, entry, exit}
 use Rattle.csub_semantics.specs.Syntax.{ProgramTree}
 use Rattle.csub_semantics.specs.Flows.{Edge, flow_of}
 use Rattle.csub_semantics.specs.Numbers.{Site, site, site_at}
-use Rattle.csub_semantics.specs.Books.{SameLabel, CallsAt, IsNoCallAt, GoesOn}
+use Rattle.csub_semantics.specs.Books.{CallsAt, IsNoCallAt, GoesOn}
 use Rattle.csub_validity.specs.Valid.{IsValid}
-use Rattle.flow_graph.specs.Graph.{Tables, IsGraphOf, point_count}
 use Rattle.flow_graph.proofs.LawsPlaces.{site_one}
 use Rattle.dual_walk.specs.Books.{LeavesFrom}
 use Rattle.dual_walk.specs.Held.{AreAt}
-use Rattle.dual_walk.specs.LabelRows.{IsNumbered, AreNumbered}
 use Rattle.dual_walk.specs.declared.ask.Callee.{Callee}
 use Rattle.dual_walk.specs.Callees.{IsCallee}
 use Rattle.dual_walk.proofs.LawsFacts.{one_at}
@@ -57,24 +54,6 @@ same_names P P' pair s t here there h =
     let old : s.function ≡ h.function = ap (λ (x : Site). x.function) (same_Some s (site h.function h.point) (sym here ∙ h.at.old)) in
     let new : t.function ≡ h.function = ap (λ (x : Site). x.function) (same_Some t (site h.function h.other) (sym there ∙ h.at.new)) in
     old ∙ sym new
-
--- the number that a row has for a point
-pub number_at : (book : List PointLabel) (row : List ℕ) (g : Tables) (n : ℕ) → AreNumbered book row g → n < point_count g → IsNumbered book g n (get_or row n 0)
-number_at book row g n h within = let points = h.points in h.each n (get_or row n 0) (slice_get-get_or row n 0 (omega (arith, points, within)))
-
--- two points have one label exactly where those of their numbers are equal
-pub same_labels : (g g' : Tables) (book : List PointLabel) (P P' : ProgramTree) (f : Name) (p p' : PointTree) (n n' number number' : ℕ) → IsGraphOf g P → IsGraphOf g' P'
-    → AreAt P P' n n' f p p' → (h : IsNumbered book g n number) (h' : IsNumbered book g' n' number') → (h.label ≡ h'.label) ↔ SameLabel (flow_of P) (flow_of P') f p p'
-same_labels g g' book P P' f p p' n n' number number' ok ok' at h h' = (
-  λ e. record { label = h.label; old = here; new = there ∙ ap Some (sym e) },
-  λ same. same_Some h.label same.label (sym here ∙ same.old) ∙ same_Some same.label h'.label (sym same.new ∙ there),
-)
-  where
-    here : (flow_of P).label f p ≡ Some h.label
-    here = h.labelled P (site f p) ok at.old
-
-    there : (flow_of P').label f p' ≡ Some h'.label
-    there = h'.labelled P' (site f p') ok' at.new
 
 -- ---- what is called
 

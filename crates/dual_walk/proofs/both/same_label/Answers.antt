@@ -3,7 +3,7 @@ use Rattle.std.proofs.lemmas.Option.{slice_get_within}
 use Rattle.csub_semantics.specs.Flows.{flow_of}
 use Rattle.csub_semantics.specs.Books.{SameLabel}
 use Rattle.dual_walk.specs.LabelRows.{IsNumbered}
-use Rattle.dual_walk.proofs.Labelling.{number_at, same_labels}
+use Rattle.dual_walk.proofs.LawsNumbers.{number_at, same_labels}
 use Rattle.dual_walk.proofs.both.same_label.Goals as goal
 
 pub same-requires-clause-a_given : goal.same-requires-clause-a_given

@@ -2,7 +2,7 @@ use Rattle.std.proofs.Common.{◌∙◌, get_or, sym}
 use Rattle.std.proofs.lemmas.Bool.{false≢true}
 use Rattle.std.proofs.lemmas.Option.{slice_get_within}
 use Rattle.dual_walk.specs.LabelRows.{IsNumbered}
-use Rattle.walk_cert.proofs.ClaimLemmas.{number_at, same_labels}
+use Rattle.dual_walk.proofs.LawsNumbers.{number_at, same_labels}
 use Rattle.walk_cert.proofs.alike.are_alike.Goals as goal
 
 pub same-requires-clause-a_given : goal.same-requires-clause-a_given
