@@ -153,6 +153,3 @@ impl<'a, R: Print> Sink for StdSink<'a, R> {
         }
     }
 }
-
-#[cfg(test)]
-mod tests;

@@ -6,6 +6,8 @@
 #[cfg(test)]
 mod certificates;
 #[cfg(test)]
+mod disk;
+#[cfg(test)]
 mod histories;
 #[cfg(test)]
 mod history_causes;
