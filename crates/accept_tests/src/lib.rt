@@ -1,6 +1,6 @@
-//! Tests of whole sources in C text: what their runs show, and why others are refused. What is expected is what C says, or the
-//! language where C leaves a choice. They stand above what they test, since a crate's tests are proved together with the whole
-//! crate.
+//! Tests of whole sources in C text: what their runs show, and which rule others break first, and where. What is expected is
+//! what C says, or the language where C leaves a choice. They stand above what they test, since a crate's tests are proved
+//! together with the whole crate.
 #![tactic(auto)]
 
 #[cfg(test)]
@@ -19,6 +19,8 @@ mod objects;
 mod operators;
 #[cfg(test)]
 mod refusals;
+#[cfg(test)]
+mod rules;
 #[cfg(test)]
 mod running;
 #[cfg(test)]

@@ -99,7 +99,7 @@ fn functions_points_and_edges_may_be_as_many_as_their_limits(rt: HostRuntime) ->
     let alloc = rt.alloc();
     let lines = "int main(void) { int x; ";
     let cases = "int main(void) { switch (1) { ";
-    for (head, before, behind, count, tail, expected) in [
+    for &(head, before, behind, count, tail, expected) in &[
         ("", "void f", "(void) { }", 499, NOTHING, "accepted"),
         ("", "void f", "(void) { }", 500, NOTHING, "limit 1 501"),
         (lines, "x = ", ";", 9994, "return 0; }", "accepted"),

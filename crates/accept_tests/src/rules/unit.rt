@@ -1,5 +1,5 @@
 //! Whole sources: what may be declared at file scope (M2 to M4, M9 to M11), and functions and their definitions (M19).
-use crate::reading::sources_agree;
+use crate::rules::sources_agree;
 use std::alloc::{AllocError, Global};
 use std::test::Fail;
 
@@ -129,6 +129,24 @@ fn lengths_and_initialisers_are_constants(rt: HostRuntime) -> Result<(), Fail> {
             ("int x = @y;", 1, "y"),
             ("int x = @1 / 0;", 9, "1 / 0"),
             ("struct s { int a[@n]; };", 1, "n"),
+        ],
+    )
+}
+
+// An object whose declaration is broken has no type, of which other rules could speak.
+#[test]
+fn a_broken_declaration_alone_is_told(rt: HostRuntime) -> Result<(), Fail> {
+    sources_agree(
+        &rt,
+        rt.alloc(),
+        MAIN,
+        &[
+            (
+                "int vague[@x]; void f(void) { vague = vague[0] + vague.x; }",
+                1,
+                "x",
+            ),
+            ("int vague[@x]; void f(void) { vague(); }", 1, "x"),
         ],
     )
 }

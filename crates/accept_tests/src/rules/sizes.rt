@@ -1,5 +1,5 @@
 //! Types of declared objects, their lengths and their initialisers (M4 and M9 to M11).
-use crate::reading::agrees;
+use crate::rules::agrees;
 use std::test::Fail;
 
 // C11 6.7.2.3p4: an enumeration's tag is that of no struct.

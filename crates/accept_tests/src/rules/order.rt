@@ -1,5 +1,5 @@
 //! Two broken rules: the one that stands first in the source is told, and at one place the lesser number.
-use crate::reading::agrees;
+use crate::rules::agrees;
 use std::test::Fail;
 
 #[test]

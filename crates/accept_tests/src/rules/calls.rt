@@ -1,5 +1,5 @@
 //! Calls (M12 to M14 and M20).
-use crate::reading::agrees;
+use crate::rules::agrees;
 use std::test::Fail;
 
 // C11 6.5.2.2p1: an object hides a function of its name.
@@ -13,7 +13,6 @@ fn functions_are_called(rt: HostRuntime) -> Result<(), Fail> {
             ("@missing(1);", 12, "missing"),
             ("add(1, 2);", 0, ""),
             ("@total(1);", 12, "total"),
-            ("@vague();", 12, "vague"),
             ("int add; @add(1, 2);", 12, "add"),
             ("{ int add; } add(1, 2);", 0, ""),
         ],

@@ -1,5 +1,5 @@
 //! Returns, jumps and the labels of a `switch` (M15 to M18).
-use crate::reading::agrees;
+use crate::rules::agrees;
 use std::test::Fail;
 
 // C11 6.8.6.4p1

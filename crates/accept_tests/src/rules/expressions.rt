@@ -1,5 +1,5 @@
 //! Members, indices, numbers and places (M5 to M8).
-use crate::reading::agrees;
+use crate::rules::agrees;
 use std::test::Fail;
 
 // C11 6.5.2.3p1; what is broken in itself has no type, of which other rules could speak.
