@@ -19,6 +19,13 @@ const TOP: i64 = 2_147_483_648;
 
 const ALL: i64 = 4_294_967_295;
 
+/// What an operation without a value gives.
+const OVERFLOW: Result<i64, Trap> = Err(Trap::Overflow);
+
+const DIVIDE: Result<i64, Trap> = Err(Trap::Divide);
+
+const SHIFT: Result<i64, Trap> = Err(Trap::Shift);
+
 /// `left op right`, with the usual arithmetic conversions.
 fn joined(left: Operand, op: BinOp, right: Operand) -> Result<i64, Trap> {
     let kind = common(left.0, right.0);
@@ -42,12 +49,11 @@ fn prefixed(op: UnaryOp, operand: Operand) -> Result<i64, Trap> {
 
 #[test]
 fn sums_and_products_wrap_for_unsigned_and_trap_for_int(rt: HostRuntime) {
-    let overflow = Err(Trap::Overflow);
-    for (left, op, right, want) in [
+    for &(left, op, right, want) in &[
         ((Int, MOST), Add, (Int, 0), Ok(MOST)),
-        ((Int, MOST), Add, (Int, 1), overflow),
+        ((Int, MOST), Add, (Int, 1), OVERFLOW),
         ((Int, MOST - 1), Add, (Int, 1), Ok(MOST)),
-        ((Int, LEAST), Add, (Int, -1), overflow),
+        ((Int, LEAST), Add, (Int, -1), OVERFLOW),
         ((Int, LEAST), Add, (Int, MOST), Ok(-1)),
         ((Char, 127), Add, (Char, 127), Ok(254)),
         ((Unsigned, ALL), Add, (Unsigned, 1), Ok(0)),
@@ -55,17 +61,17 @@ fn sums_and_products_wrap_for_unsigned_and_trap_for_int(rt: HostRuntime) {
         ((Int, -1), Add, (Unsigned, 0), Ok(ALL)),
         ((Unsigned, 1), Sub, (Unsigned, 2), Ok(ALL)),
         ((Unsigned, 0), Sub, (Unsigned, ALL), Ok(1)),
-        ((Int, LEAST), Sub, (Int, 1), overflow),
+        ((Int, LEAST), Sub, (Int, 1), OVERFLOW),
         ((Int, LEAST + 1), Sub, (Int, 1), Ok(LEAST)),
-        ((Int, MOST), Sub, (Int, -1), overflow),
+        ((Int, MOST), Sub, (Int, -1), OVERFLOW),
         ((Int, -1), Sub, (Int, MOST), Ok(LEAST)),
-        ((Int, 0), Sub, (Int, LEAST), overflow),
-        ((Int, LEAST), Mul, (Int, -1), overflow),
+        ((Int, 0), Sub, (Int, LEAST), OVERFLOW),
+        ((Int, LEAST), Mul, (Int, -1), OVERFLOW),
         ((Int, LEAST), Mul, (Int, 1), Ok(LEAST)),
         ((Int, 46_340), Mul, (Int, 46_340), Ok(2_147_395_600)),
-        ((Int, 46_341), Mul, (Int, 46_341), overflow),
+        ((Int, 46_341), Mul, (Int, 46_341), OVERFLOW),
         ((Int, 65_536), Mul, (Int, -32_768), Ok(LEAST)),
-        ((Int, 65_536), Mul, (Int, 32_768), overflow),
+        ((Int, 65_536), Mul, (Int, 32_768), OVERFLOW),
         ((Char, -128), Mul, (Char, -128), Ok(16_384)),
         ((Unsigned, 65_536), Mul, (Unsigned, 65_536), Ok(0)),
         ((Unsigned, ALL), Mul, (Unsigned, ALL), Ok(1)),
@@ -83,18 +89,16 @@ fn sums_and_products_wrap_for_unsigned_and_trap_for_int(rt: HostRuntime) {
 
 #[test]
 fn quotients_are_cut_toward_0_and_remainders_fit_them(rt: HostRuntime) {
-    let overflow = Err(Trap::Overflow);
-    let divide = Err(Trap::Divide);
-    for (left, right, quotient, remainder) in [
+    for &(left, right, quotient, remainder) in &[
         ((Int, -7), (Int, 2), Ok(-3), Ok(-1)),
         ((Int, 7), (Int, -2), Ok(-3), Ok(1)),
         ((Int, -7), (Int, -2), Ok(3), Ok(-1)),
         ((Int, -1), (Int, 2), Ok(0), Ok(-1)),
         ((Int, 0), (Int, -5), Ok(0), Ok(0)),
-        ((Int, 7), (Int, 0), divide, divide),
-        ((Int, 0), (Int, 0), divide, divide),
-        ((Int, LEAST), (Int, 0), divide, divide),
-        ((Int, LEAST), (Int, -1), overflow, overflow),
+        ((Int, 7), (Int, 0), DIVIDE, DIVIDE),
+        ((Int, 0), (Int, 0), DIVIDE, DIVIDE),
+        ((Int, LEAST), (Int, 0), DIVIDE, DIVIDE),
+        ((Int, LEAST), (Int, -1), OVERFLOW, OVERFLOW),
         ((Int, LEAST + 1), (Int, -1), Ok(MOST), Ok(0)),
         ((Int, LEAST), (Int, 1), Ok(LEAST), Ok(0)),
         ((Int, LEAST), (Int, MOST), Ok(-1), Ok(-1)),
@@ -105,7 +109,7 @@ fn quotients_are_cut_toward_0_and_remainders_fit_them(rt: HostRuntime) {
         ((Int, -7), (Unsigned, 2), Ok(2_147_483_644), Ok(1)),
         ((Unsigned, TOP), (Int, -1), Ok(0), Ok(TOP)),
         ((Unsigned, ALL), (Unsigned, ALL), Ok(1), Ok(0)),
-        ((Unsigned, 7), (Int, 0), divide, divide),
+        ((Unsigned, 7), (Int, 0), DIVIDE, DIVIDE),
     ] {
         assert_eq!(rt; joined(left, Div, right), quotient, "{left:?} / {right:?}");
         assert_eq!(rt; joined(left, Rem, right), remainder, "{left:?} % {right:?}");
@@ -114,30 +118,29 @@ fn quotients_are_cut_toward_0_and_remainders_fit_them(rt: HostRuntime) {
 
 #[test]
 fn shifts_trap_by_their_count_and_for_what_int_does_not_have(rt: HostRuntime) {
-    let shift = Err(Trap::Shift);
-    for (left, op, count, want) in [
-        ((Int, 1), Shl, -1, shift),
+    for &(left, op, count, want) in &[
+        ((Int, 1), Shl, -1, SHIFT),
         ((Int, 1), Shl, 0, Ok(1)),
         ((Int, 1), Shl, 30, Ok(1_073_741_824)),
-        ((Int, 1), Shl, 31, shift),
-        ((Int, 1), Shl, 32, shift),
+        ((Int, 1), Shl, 31, SHIFT),
+        ((Int, 1), Shl, 32, SHIFT),
         ((Int, 0), Shl, 31, Ok(0)),
-        ((Int, 0), Shl, 32, shift),
-        ((Int, 1), Shl, ALL, shift),
-        ((Int, -1), Shl, 0, shift),
-        ((Int, LEAST), Shl, 1, shift),
+        ((Int, 0), Shl, 32, SHIFT),
+        ((Int, 1), Shl, ALL, SHIFT),
+        ((Int, -1), Shl, 0, SHIFT),
+        ((Int, LEAST), Shl, 1, SHIFT),
         ((Int, MOST), Shl, 0, Ok(MOST)),
         ((Int, 1_073_741_823), Shl, 1, Ok(MOST - 1)),
-        ((Int, 1_073_741_824), Shl, 1, shift),
+        ((Int, 1_073_741_824), Shl, 1, SHIFT),
         ((Int, 65_535), Shl, 15, Ok(2_147_450_880)),
         ((Char, 127), Shl, 24, Ok(2_130_706_432)),
-        ((Char, -1), Shl, 1, shift),
+        ((Char, -1), Shl, 1, SHIFT),
         ((Unsigned, 1), Shl, 31, Ok(TOP)),
         ((Unsigned, 3), Shl, 31, Ok(TOP)),
         ((Unsigned, ALL), Shl, 1, Ok(ALL - 1)),
         ((Unsigned, ALL), Shl, 31, Ok(TOP)),
-        ((Unsigned, 1), Shl, 32, shift),
-        ((Unsigned, 1), Shl, -1, shift),
+        ((Unsigned, 1), Shl, 32, SHIFT),
+        ((Unsigned, 1), Shl, -1, SHIFT),
         ((Int, -1), Shr, 1, Ok(-1)),
         ((Int, -1), Shr, 31, Ok(-1)),
         ((Int, -5), Shr, 0, Ok(-5)),
@@ -146,12 +149,12 @@ fn shifts_trap_by_their_count_and_for_what_int_does_not_have(rt: HostRuntime) {
         ((Int, LEAST), Shr, 31, Ok(-1)),
         ((Int, MOST), Shr, 30, Ok(1)),
         ((Int, MOST), Shr, 31, Ok(0)),
-        ((Int, 1), Shr, -1, shift),
-        ((Int, 1), Shr, 32, shift),
+        ((Int, 1), Shr, -1, SHIFT),
+        ((Int, 1), Shr, 32, SHIFT),
         ((Char, -128), Shr, 7, Ok(-1)),
         ((Unsigned, ALL), Shr, 1, Ok(MOST)),
         ((Unsigned, ALL), Shr, 31, Ok(1)),
-        ((Unsigned, ALL), Shr, 32, shift),
+        ((Unsigned, ALL), Shr, 32, SHIFT),
     ] {
         assert_eq!(rt; shifted(left, op, count), want, "{left:?} {op:?} {count}");
     }
@@ -159,7 +162,7 @@ fn shifts_trap_by_their_count_and_for_what_int_does_not_have(rt: HostRuntime) {
 
 #[test]
 fn comparisons_give_0_or_1_after_the_conversions(rt: HostRuntime) {
-    for (left, op, right, want) in [
+    for &(left, op, right, want) in &[
         ((Int, -1), Lt, (Unsigned, 1), false),
         ((Int, -1), Gt, (Unsigned, 1), true),
         ((Int, -1), Lt, (Int, 1), true),
@@ -195,7 +198,7 @@ fn comparisons_give_0_or_1_after_the_conversions(rt: HostRuntime) {
 
 #[test]
 fn bitwise_operators_join_the_bits_of_the_twos_complement(rt: HostRuntime) {
-    for (left, op, right, want) in [
+    for &(left, op, right, want) in &[
         ((Int, 12), BitAnd, (Int, 10), 8),
         ((Int, 12), BitOr, (Int, 10), 14),
         ((Int, 12), BitXor, (Int, 10), 6),
@@ -225,7 +228,7 @@ fn bitwise_operators_join_the_bits_of_the_twos_complement(rt: HostRuntime) {
 
 #[test]
 fn unary_operators_promote_and_trap_for_the_least_int_alone(rt: HostRuntime) {
-    for (op, operand, want) in [
+    for &(op, operand, want) in &[
         (Plus, (Char, -128), Ok(-128)),
         (Plus, (Unsigned, ALL), Ok(ALL)),
         (Minus, (Int, 0), Ok(0)),
@@ -256,7 +259,7 @@ fn unary_operators_promote_and_trap_for_the_least_int_alone(rt: HostRuntime) {
 
 #[test]
 fn conversions_keep_the_low_bits(rt: HostRuntime) {
-    for (kind, number, want) in [
+    for &(kind, number, want) in &[
         (Char, 127, 127),
         (Char, 128, -128),
         (Char, 200, -56),
@@ -291,7 +294,7 @@ fn conversions_keep_the_low_bits(rt: HostRuntime) {
 
 #[test]
 fn unsigned_wins_and_char_is_promoted(rt: HostRuntime) {
-    for (kind, promoted, with_char, with_int, with_unsigned) in [
+    for &(kind, promoted, with_char, with_int, with_unsigned) in &[
         (Char, Int, Int, Int, Unsigned),
         (Int, Int, Int, Int, Unsigned),
         (Unsigned, Unsigned, Unsigned, Unsigned, Unsigned),

@@ -46,7 +46,7 @@ fn the_certificate_of_a_walk_has_its_dangerous_edges_and_its_pairs(
 #[test]
 fn a_claim_is_closed_or_its_first_break_is_told(rt: HostRuntime) -> Result<(), Fail> {
     let alloc = rt.alloc();
-    let rows = [
+    let rows = &[
         (CLAIM, Status8::Done, "closed pairs 9 dangerous 1\n"),
         (
             "dangerous 0\npairs 9\npair 0 0\npair 1 1\npair 2 2\npair 3 3\npair 4 4\npair 5 5\npair 6 6\npair 8 8\npair 9 9\n",
@@ -84,7 +84,7 @@ fn a_claim_is_closed_or_its_first_break_is_told(rt: HostRuntime) -> Result<(), F
             "open start\n",
         ),
     ];
-    for (lines, expected, line) in rows {
+    for &(lines, expected, line) in rows {
         let text = certificate(alloc, lines)?;
         let files = [
             ("old", ASSIGNED),
@@ -109,7 +109,7 @@ fn a_certificate_that_is_cut_or_of_other_sources_is_refused(rt: HostRuntime) -> 
         ("whole", whole.as_str()),
         ("cut", cut.as_str()),
     ];
-    let rows: [(&[&str], &str); 2] = [
+    let rows: &[(&[&str], &str)] = &[
         (
             &["check", "old", "new", "cut"],
             "refused: certificate line 16 rule C8\n",
@@ -119,7 +119,7 @@ fn a_certificate_that_is_cut_or_of_other_sources_is_refused(rt: HostRuntime) -> 
             "refused: certificate old f3e7b98b7d4d95f021635d364627ee64e4acd311669841db52966ba816eaeb96 4527ee34a73cbe49b1963da290f1fd8d7b5f74648e52c258c77127032cca9bd8\n",
         ),
     ];
-    for (words, line) in rows {
+    for &(words, line) in rows {
         let (status, told) = answer_about(&rt, alloc, &files, words)?;
         assert_eq!(rt; status, Status8::Certificate);
         assert_eq!(rt; told.as_slice(), line.as_bytes());

@@ -115,7 +115,7 @@ fn a_way_out_that_the_new_point_lacks_leads_to_none(rt: HostRuntime) -> Result<(
 
 #[test]
 fn the_first_cause_is_told_in_place_of_an_explanation(rt: HostRuntime) -> Result<(), Fail> {
-    let rows: [(&[&str], Status8, &str); 5] = [
+    let rows: &[(&[&str], Status8, &str)] = &[
         (
             &["explain", "broken", "absent", "history", "A"],
             Status8::Source,
@@ -142,7 +142,7 @@ fn the_first_cause_is_told_in_place_of_an_explanation(rt: HostRuntime) -> Result
             "refused: history no test b\n",
         ),
     ];
-    for (words, status, text) in rows {
+    for &(words, status, text) in rows {
         let (got, bytes) = answer(&rt, rt.alloc(), words)?;
         assert_eq!(rt; got, status);
         assert_eq!(rt; bytes.as_slice(), text.as_bytes());

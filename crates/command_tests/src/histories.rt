@@ -29,7 +29,7 @@ fn changed(alloc: Global, that: &str, this: &str) -> Result<String, Fail> {
 
 #[test]
 fn the_line_says_which_rule_a_history_breaks(rt: HostRuntime) -> Result<(), Fail> {
-    let rows: [(&str, &str, &str); 8] = [
+    let rows: &[(&str, &str, &str)] = &[
         ("history 3", "history 2", "refused: history version 2\n"),
         ("history 3", "history", "refused: history line 1 rule H1\n"),
         (
@@ -55,7 +55,7 @@ fn the_line_says_which_rule_a_history_breaks(rt: HostRuntime) -> Result<(), Fail
             "refused: history line 11 rule H12\n",
         ),
     ];
-    for (that, this, line) in rows {
+    for &(that, this, line) in rows {
         let history = changed(rt.alloc(), that, this)?;
         history_is_refused(&rt, rt.alloc(), history.as_str(), line)?;
     }

@@ -34,7 +34,7 @@ fn each_command_takes_its_own_version_of_the_format(rt: HostRuntime) -> Result<(
         ("earlier", EARLIER),
         ("today", TODAY),
     ];
-    let rows: [(&[&str], Status8, &str); 4] = [
+    let rows: &[(&[&str], Status8, &str)] = &[
         (
             &["migrate", "old", "today"],
             Status8::History,
@@ -56,7 +56,7 @@ fn each_command_takes_its_own_version_of_the_format(rt: HostRuntime) -> Result<(
             "refused: old rule M1 at 1:25\n",
         ),
     ];
-    for (words, expected, line) in rows {
+    for &(words, expected, line) in rows {
         let (status, text) = answer_about(&rt, rt.alloc(), &files, words)?;
         assert_eq!(rt; status, expected);
         assert_eq!(rt; text.as_slice(), line.as_bytes());

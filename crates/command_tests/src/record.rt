@@ -5,7 +5,7 @@ use std::test::Fail;
 
 #[test]
 fn record_writes_the_history(rt: HostRuntime) -> Result<(), Fail> {
-    let rows: [(&[&str], Status8, &str); 3] = [
+    let rows: &[(&[&str], Status8, &str)] = &[
         (
             &["record", "branching", "two"],
             Status8::Done,
@@ -18,7 +18,7 @@ fn record_writes_the_history(rt: HostRuntime) -> Result<(), Fail> {
             EMPTY_HISTORY,
         ),
     ];
-    for (words, status, text) in rows {
+    for &(words, status, text) in rows {
         let (got, bytes) = answer(&rt, rt.alloc(), words)?;
         assert_eq!(rt; got, status);
         assert_eq!(rt; bytes.as_slice(), text.as_bytes());
@@ -28,7 +28,7 @@ fn record_writes_the_history(rt: HostRuntime) -> Result<(), Fail> {
 
 #[test]
 fn record_names_the_first_cause(rt: HostRuntime) -> Result<(), Fail> {
-    let rows: [(&[&str], Status8, &str); 5] = [
+    let rows: &[(&[&str], Status8, &str)] = &[
         (
             &["record", "broken", "two"],
             Status8::Source,
@@ -55,7 +55,7 @@ fn record_names_the_first_cause(rt: HostRuntime) -> Result<(), Fail> {
             "refused: read fault\n",
         ),
     ];
-    for (words, status, text) in rows {
+    for &(words, status, text) in rows {
         let (got, bytes) = answer(&rt, rt.alloc(), words)?;
         assert_eq!(rt; got, status);
         assert_eq!(rt; bytes.as_slice(), text.as_bytes());

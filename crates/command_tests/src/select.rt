@@ -5,7 +5,7 @@ use std::test::Fail;
 
 #[test]
 fn select_names_the_tests(rt: HostRuntime) -> Result<(), Fail> {
-    let rows: [(&[&str], Status8, &str); 2] = [
+    let rows: &[(&[&str], Status8, &str)] = &[
         (
             &["select", "branching", "changed", "history"],
             Status8::Done,
@@ -17,7 +17,7 @@ fn select_names_the_tests(rt: HostRuntime) -> Result<(), Fail> {
             "left A\nleft B\nselected 0 of 2\n",
         ),
     ];
-    for (words, status, text) in rows {
+    for &(words, status, text) in rows {
         let (got, bytes) = answer(&rt, rt.alloc(), words)?;
         assert_eq!(rt; got, status);
         assert_eq!(rt; bytes.as_slice(), text.as_bytes());
@@ -27,7 +27,7 @@ fn select_names_the_tests(rt: HostRuntime) -> Result<(), Fail> {
 
 #[test]
 fn a_history_of_another_source_or_with_another_sum_is_refused(rt: HostRuntime) -> Result<(), Fail> {
-    let rows: [(&[&str], Status8, &str); 3] = [
+    let rows: &[(&[&str], Status8, &str)] = &[
         (
             &["select", "branching", "changed", "spoiled history"],
             Status8::History,
@@ -44,7 +44,7 @@ fn a_history_of_another_source_or_with_another_sum_is_refused(rt: HostRuntime) -
             "refused: history source 720637fdcd894bb8ccb9d36c0cd133613d681911fdf1f57983db95d5bb25131b e841ea8b95ec1bac52ed842deb3200e79c8bc48ebb059a47f511cc58e6eb1e98\n",
         ),
     ];
-    for (words, status, text) in rows {
+    for &(words, status, text) in rows {
         let (got, bytes) = answer(&rt, rt.alloc(), words)?;
         assert_eq!(rt; got, status);
         assert_eq!(rt; bytes.as_slice(), text.as_bytes());
@@ -54,7 +54,7 @@ fn a_history_of_another_source_or_with_another_sum_is_refused(rt: HostRuntime) -
 
 #[test]
 fn a_source_that_is_not_accepted_is_named(rt: HostRuntime) -> Result<(), Fail> {
-    let rows: [(&[&str], Status8, &str); 4] = [
+    let rows: &[(&[&str], Status8, &str)] = &[
         (
             &["select", "broken", "changed", "history"],
             Status8::Source,
@@ -76,7 +76,7 @@ fn a_source_that_is_not_accepted_is_named(rt: HostRuntime) -> Result<(), Fail> {
             "refused: new rule M1 at 1:25\n",
         ),
     ];
-    for (words, status, text) in rows {
+    for &(words, status, text) in rows {
         let (got, bytes) = answer(&rt, rt.alloc(), words)?;
         assert_eq!(rt; got, status);
         assert_eq!(rt; bytes.as_slice(), text.as_bytes());
@@ -86,7 +86,7 @@ fn a_source_that_is_not_accepted_is_named(rt: HostRuntime) -> Result<(), Fail> {
 
 #[test]
 fn a_file_that_is_absent_is_a_read_fault(rt: HostRuntime) -> Result<(), Fail> {
-    let rows: [(&[&str], Status8, &str); 3] = [
+    let rows: &[(&[&str], Status8, &str)] = &[
         (
             &["select", "absent", "broken", "history"],
             Status8::ReadFault,
@@ -103,7 +103,7 @@ fn a_file_that_is_absent_is_a_read_fault(rt: HostRuntime) -> Result<(), Fail> {
             "refused: read fault\n",
         ),
     ];
-    for (words, status, text) in rows {
+    for &(words, status, text) in rows {
         let (got, bytes) = answer(&rt, rt.alloc(), words)?;
         assert_eq!(rt; got, status);
         assert_eq!(rt; bytes.as_slice(), text.as_bytes());

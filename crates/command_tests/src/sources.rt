@@ -10,7 +10,7 @@ const SUITE: &str = "dejavu suite 1\ntest A 100 -\n";
 
 #[test]
 fn the_line_says_why_a_source_is_refused(rt: HostRuntime) -> Result<(), Fail> {
-    let rows: [(&str, &str); 9] = [
+    let rows: &[(&str, &str)] = &[
         (
             "int main(void) { return 0 @ 1; }",
             "refused: source lex byte at 1:27\n",
@@ -42,7 +42,7 @@ fn the_line_says_why_a_source_is_refused(rt: HostRuntime) -> Result<(), Fail> {
             "refused: source limit globals 65537\n",
         ),
     ];
-    for (source, line) in rows {
+    for &(source, line) in rows {
         let files = [("source", source), ("suite", SUITE)];
         let (status, bytes) = answer_about(
             &rt,

@@ -24,7 +24,7 @@ fn suite_is_refused<R: Threads + Abort + Sync>(
 
 #[test]
 fn the_line_says_why_a_suite_is_refused(rt: HostRuntime) -> Result<(), Fail> {
-    let rows: [(&str, &str); 8] = [
+    let rows: &[(&str, &str)] = &[
         ("", "refused: suite line 1 rule S1\n"),
         ("dejavu suite 2\n", "refused: suite line 1 rule S1\n"),
         ("dejavu suite 1", "refused: suite line 1 rule S2\n"),
@@ -49,7 +49,7 @@ fn the_line_says_why_a_suite_is_refused(rt: HostRuntime) -> Result<(), Fail> {
             "refused: suite line 3 twice\n",
         ),
     ];
-    for (suite, line) in rows {
+    for &(suite, line) in rows {
         suite_is_refused(&rt, rt.alloc(), suite, line)?;
     }
     Ok(())

@@ -5,7 +5,7 @@ use std::test::Fail;
 
 #[test]
 fn words_that_are_no_command_are_a_fault_of_usage(rt: HostRuntime) -> Result<(), Fail> {
-    let rows: [&[&str]; 38] = [
+    let rows: &[&[&str]] = &[
         &[],
         &["record", "branching"],
         &["record", "a", "b", "--workers", "0"],
@@ -45,7 +45,7 @@ fn words_that_are_no_command_are_a_fault_of_usage(rt: HostRuntime) -> Result<(),
         &["gen", "01", "1"],
         &["gen", "1", "1", "--workers=2"],
     ];
-    for words in rows {
+    for &words in rows {
         let (status, text) = answer(&rt, rt.alloc(), words)?;
         assert_eq!(rt; status, Status8::Usage);
         assert_eq!(rt; text.as_slice(), b"refused: usage\n".as_slice());

@@ -29,7 +29,7 @@ fn walks_agree<R: Threads + Abort + Sync>(
     alloc: Global,
     rows: &[(&str, &str, &str)],
 ) -> Result<(), Fail> {
-    for (old, new, expected) in rows {
+    for &(old, new, expected) in rows {
         walk_agrees(rt, alloc, old, new, expected)?;
     }
     Ok(())
@@ -118,15 +118,17 @@ fn a_line_added_to_the_word_counter_endangers_the_edge_to_it(rt: HostRuntime) ->
     walk_agrees(&rt, alloc, WORD_COUNTER, spare.as_str(), text)
 }
 
+/// A source that breaks a rule.
+const UNDECLARED: &str = "int main(void) { return x; }";
+
 #[test]
 fn a_walk_names_the_version_that_is_refused_first(rt: HostRuntime) -> Result<(), Fail> {
     let alloc = rt.alloc();
-    let broken = "int main(void) { return x; }";
-    let rows = [
-        (broken, broken, "refused: old rule M1 at 1:25\n"),
-        (ASSIGNED, broken, "refused: new rule M1 at 1:25\n"),
+    let rows = &[
+        (UNDECLARED, UNDECLARED, "refused: old rule M1 at 1:25\n"),
+        (ASSIGNED, UNDECLARED, "refused: new rule M1 at 1:25\n"),
     ];
-    for (old, new, line) in rows {
+    for &(old, new, line) in rows {
         let files = [("old", old), ("new", new)];
         let (status, bytes) = answer_about(&rt, alloc, &files, &["walk", "old", "new"])?;
         assert_eq!(rt; status, Status8::Source);

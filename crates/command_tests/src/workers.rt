@@ -27,12 +27,12 @@ fn history<R: Threads + Sync>(
 #[test]
 fn any_number_of_workers_records_the_same(rt: HostRuntime) -> Result<(), Fail> {
     let alloc = rt.alloc();
-    let rows = [
+    let rows = &[
         (WORD_COUNTER, COUNTED),
         (WORD_COUNTER, "dejavu suite 1\n"),
         (BRANCHING, "dejavu suite 1\ntest A 100 41\ntest B 100 42\n"),
     ];
-    for (source, suite) in rows {
+    for &(source, suite) in rows {
         let one = history(&rt, alloc, source, suite, "1")?;
         for workers in ["2", "3", "64"] {
             let more = history(&rt, alloc, source, suite, workers)?;

@@ -170,7 +170,7 @@ fn every_end_of_a_run_has_its_words(rt: HostRuntime) -> Result<(), Fail> {
 
 #[test]
 fn digests_are_those_of_the_standard(rt: HostRuntime) -> Result<(), Fail> {
-    for (source, want) in [
+    for &(source, want) in &[
         (
             "",
             "e3b0c44298fc1c149afbf4c8996fb92427ae41e4649b934ca495991b7852b855",

@@ -25,7 +25,7 @@ fn a_history_is_read_and_written_as_it_was(rt: HostRuntime) -> Result<(), Fail> 
     assert!(rt; second.output() == b"C".as_slice());
     let crossed = second.crossed();
     assert_eq!(rt; crossed.edges(), 9);
-    for (edge, want) in [
+    for &(edge, want) in &[
         (0, true),
         (1, true),
         (2, true),
@@ -46,7 +46,7 @@ fn a_history_is_read_and_written_as_it_was(rt: HostRuntime) -> Result<(), Fail> 
 
 #[test]
 fn another_version_is_told(rt: HostRuntime) -> Result<(), Fail> {
-    for (line, version) in [
+    for &(line, version) in &[
         ("dejavu history 1\n", 1),
         ("dejavu history 2\n", 2),
         ("dejavu history 4\n", 4),

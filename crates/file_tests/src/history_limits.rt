@@ -19,7 +19,7 @@ fn bytes_line(alloc: Global, word: &str, bytes: usize) -> Result<Vec<u8>, AllocE
 #[test]
 fn inputs_and_outputs_have_at_most_16384_bytes(rt: HostRuntime) -> Result<(), Fail> {
     let alloc = rt.alloc();
-    for (number, word, rule) in [(7, "input ", 8), (10, "output ", 11)] {
+    for &(number, word, rule) in &[(7, "input ", 8), (10, "output ", 11)] {
         let most = bytes_line(alloc, word, 16_384)?;
         let more = bytes_line(alloc, word, 16_385)?;
         let within = with_bytes(alloc, TWO_TESTS, number, &most)?;

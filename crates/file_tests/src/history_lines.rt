@@ -41,7 +41,7 @@ fn rule_of(line: u32) -> u8 {
 
 #[test]
 fn every_line_has_a_rule(rt: HostRuntime) -> Result<(), Fail> {
-    for (number, bytes, line, rule) in [
+    for &(number, bytes, line, rule) in &[
         // the version
         (1, "", 1, 1),
         (1, "Dejavu history 3\n", 1, 1),
@@ -178,7 +178,7 @@ fn a_line_that_is_missing_or_has_no_newline_breaks_its_rule(rt: HostRuntime) -> 
 
 #[test]
 fn what_is_within_the_limits_is_no_fault(rt: HostRuntime) -> Result<(), Fail> {
-    for (number, bytes) in [
+    for &(number, bytes) in &[
         (3, "edges 16\n"),
         (5, "test _9.a-B\n"),
         (6, "budget 9\n"),
@@ -207,7 +207,7 @@ fn what_is_within_the_limits_is_no_fault(rt: HostRuntime) -> Result<(), Fail> {
 fn without_edges_a_row_is_a_dash(rt: HostRuntime) -> Result<(), Fail> {
     let alloc = rt.alloc();
     let mut text = with_line(alloc, TWO_TESTS, 3, "edges 0\n")?;
-    for (line, want) in [(11, Some(HistoryError::Malformed(18, 12))), (18, None)] {
+    for &(line, want) in &[(11, Some(HistoryError::Malformed(18, 12))), (18, None)] {
         text = with_line(alloc, &text, line, "crossed -\n")?;
         let answer = refusal(alloc, &text);
         match want {

@@ -22,7 +22,7 @@ fn each_version_is_another_for_the_other(rt: HostRuntime) -> Result<(), Fail> {
 
 #[test]
 fn crossed_edges_are_numbers_that_rise(rt: HostRuntime) -> Result<(), Fail> {
-    for bytes in [
+    for &bytes in &[
         "crossed 0 1 1\n",
         "crossed 1 0\n",
         "crossed 0 9\n",
@@ -53,7 +53,7 @@ fn crossed_edges_are_numbers_that_rise(rt: HostRuntime) -> Result<(), Fail> {
 
 #[test]
 fn the_other_rules_are_those_of_version_3(rt: HostRuntime) -> Result<(), Fail> {
-    for (number, bytes, line, rule) in [
+    for &(number, bytes, line, rule) in &[
         (1, "dejavu history 02\n", 1, 1),
         (2, "source -\n", 2, 2),
         (3, "edges 8\n", 11, 12),

@@ -8,7 +8,7 @@ use std::test::Fail;
 
 #[test]
 fn unsigned_numbers_have_one_text(rt: HostRuntime) {
-    for (text, want) in [
+    for &(text, want) in &[
         ("0", Some(0)),
         ("9", Some(9)),
         ("10", Some(10)),
@@ -33,7 +33,7 @@ fn unsigned_numbers_have_one_text(rt: HostRuntime) {
 
 #[test]
 fn signed_numbers_have_one_text(rt: HostRuntime) {
-    for (text, want) in [
+    for &(text, want) in &[
         ("0", Some(0)),
         ("-1", Some(-1)),
         ("9223372036854775807", Some(i64::MAX)),
@@ -54,7 +54,7 @@ fn signed_numbers_have_one_text(rt: HostRuntime) {
 #[test]
 fn hexadecimal_has_one_text(rt: HostRuntime) -> Result<(), Fail> {
     let alloc = rt.alloc();
-    for (text, want) in [
+    for &(text, want) in &[
         ("", Some(b"".as_slice())),
         ("00", Some(b"\x00".as_slice())),
         ("ff", Some(b"\xff".as_slice())),
@@ -74,7 +74,7 @@ fn hexadecimal_has_one_text(rt: HostRuntime) -> Result<(), Fail> {
 #[test]
 fn no_bytes_are_a_dash(rt: HostRuntime) -> Result<(), Fail> {
     let alloc = rt.alloc();
-    for (text, want) in [
+    for &(text, want) in &[
         ("-", Some(b"".as_slice())),
         ("2d", Some(b"-".as_slice())),
         ("", None),

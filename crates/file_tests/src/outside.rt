@@ -12,7 +12,7 @@ const TEXT: &[u8] = b"left A\nrun B edge 5\nselected 1 of 2\n";
 
 fn two_files(alloc: Global) -> Result<Vec<(String, Vec<u8>)>, AllocError> {
     let mut files = Vec::new(alloc);
-    for (name, text) in [("one.c", "int x;"), ("empty", "")] {
+    for &(name, text) in &[("one.c", "int x;"), ("empty", "")] {
         let name = String::from_str(alloc, name)?;
         let bytes = text.as_bytes().to_vec(alloc)?;
         files.push((name, bytes))?;
@@ -22,7 +22,7 @@ fn two_files(alloc: Global) -> Result<Vec<(String, Vec<u8>)>, AllocError> {
 
 // Whether the shelf gives as much of a file as was asked for.
 fn gives_beginnings<S: Shelf>(shelf: &mut S) -> bool {
-    for (name, most, wanted) in [
+    for &(name, most, wanted) in &[
         ("one.c", 100, "int x;"),
         ("one.c", 6, "int x;"),
         ("one.c", 3, "int"),

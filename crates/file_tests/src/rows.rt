@@ -10,12 +10,12 @@ use std::thread::Threads;
 
 #[test]
 fn bytes_hold_eight_numbers_each_lowest_first(rt: HostRuntime) -> Result<(), Fail> {
-    let cases: [(&[u32], [u8; 2], u32, bool); 3] = [
+    let cases: &[(&[u32], [u8; 2], u32, bool)] = &[
         (&[0, 1, 2, 3, 4, 6, 8], [0x5f, 0x01], 7, false),
         (&[8, 0, 7, 5, 3, 2, 1, 1], [0xaf, 0x01], 7, true),
         (&[], [0, 0], 0, false),
     ];
-    for (numbers, bytes, count, has_5) in cases {
+    for &(numbers, bytes, count, has_5) in cases {
         let row = row_of_numbers(rt.alloc(), 9, numbers)?;
         let same = row.copy()?;
         assert_eq!(rt; same.edges(), 9);
@@ -33,7 +33,7 @@ fn bytes_hold_eight_numbers_each_lowest_first(rt: HostRuntime) -> Result<(), Fai
 fn sets_meet_across_the_borders_of_words(rt: HostRuntime) -> Result<(), Fail> {
     let first: [u32; 5] = [5, 63, 64, 127, 128];
     // other numbers, the least common one, how many are not in `first`, how many are in either
-    let cases: [(&[u32], Option<u32>, u32, u32); 7] = [
+    let cases: &[(&[u32], Option<u32>, u32, u32)] = &[
         (&[63, 64, 128], Some(63), 0, 5),
         (&[64, 128], Some(64), 0, 5),
         (&[62, 65, 127, 128], Some(127), 2, 7),
@@ -42,7 +42,7 @@ fn sets_meet_across_the_borders_of_words(rt: HostRuntime) -> Result<(), Fail> {
         (&[], None, 0, 5),
         (&[5, 63, 64, 127, 128], Some(5), 0, 5),
     ];
-    for (numbers, least, new, either) in cases {
+    for &(numbers, least, new, either) in cases {
         let mut seen = row_of_numbers(rt.alloc(), 130, &first)?;
         let row = row_of_numbers(rt.alloc(), 130, numbers)?;
         assert_eq!(rt; row.meets(&seen), least);
@@ -90,8 +90,8 @@ fn counts<R: Threads + Sync>(
 #[test]
 fn workers_read_rows_side_by_side(rt: HostRuntime) -> Result<(), Fail> {
     let mut rows = Vec::new(rt.alloc());
-    for numbers in [[0, 1, 2], [3, 3, 3], [0, 63, 64], [127, 1, 1], [5, 6, 7]] {
-        rows.push(row_of_numbers(rt.alloc(), 128, &numbers)?)?;
+    for numbers in &[[0, 1, 2], [3, 3, 3], [0, 63, 64], [127, 1, 1], [5, 6, 7]] {
+        rows.push(row_of_numbers(rt.alloc(), 128, numbers)?)?;
     }
     assert_eq!(rt;
         counts(&rt, rt.alloc(), &rows, 2)?.as_slice(),

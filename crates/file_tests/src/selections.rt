@@ -51,7 +51,7 @@ fn selection(alloc: Global, suite: &[u8], danger: &[u32]) -> Result<(Vec<Choice>
 #[test]
 fn the_least_dangerous_edge_of_each_test_is_named(rt: HostRuntime) -> Result<(), Fail> {
     let suite = b"dejavu suite 1\ntest A 100 41\ntest B 100 42\n";
-    let cases: [(&[u32], [Choice; 2], &str); 3] = [
+    let cases: &[(&[u32], [Choice; 2], &str)] = &[
         (
             &[4],
             [Choice::Left, Choice::Selected(4)],
@@ -68,7 +68,7 @@ fn the_least_dangerous_edge_of_each_test_is_named(rt: HostRuntime) -> Result<(),
             "run A edge 2\nrun B edge 2\nselected 2 of 2\n",
         ),
     ];
-    for (danger, want_choices, want_text) in cases {
+    for &(danger, want_choices, want_text) in cases {
         let (choices, text) = selection(rt.alloc(), suite, danger)?;
         assert!(rt;
             choices.as_slice() == want_choices.as_slice(),

@@ -20,7 +20,7 @@ fn push_line(text: &mut Vec<u8>, name: &[u8], budget: u64, input: usize) -> Resu
 
 #[test]
 fn the_parts_of_a_test_have_limits(rt: HostRuntime) -> Result<(), Fail> {
-    for (name, budget, input, rule) in [
+    for &(name, budget, input, rule) in &[
         (1, 0, 1, None),
         (64, 10_000_000, 16_384, None),
         (65, 10_000_000, 16_384, Some(4)),

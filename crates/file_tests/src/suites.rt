@@ -21,7 +21,7 @@ fn a_suite_is_read_copied_and_written_as_it_was(rt: HostRuntime) -> Result<(), F
 
 #[test]
 fn every_fault_is_named_by_its_line_and_least_rule(rt: HostRuntime) {
-    for (text, line, rule) in [
+    for &(text, line, rule) in &[
         // line 1
         ("", 1, 1),
         ("dejavu suite 2\n", 1, 1),

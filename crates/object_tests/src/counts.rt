@@ -18,7 +18,7 @@ fn struct_cells(alloc: Global, length: u32) -> Result<u64, Fail> {
 #[test]
 fn cells_are_counted_up_to_65_536(rt: HostRuntime) -> Result<(), Fail> {
     let alloc = rt.alloc();
-    for (length, count) in [
+    for &(length, count) in &[
         (6, 8),
         (65_534, 65_536),
         (65_535, 65_537),

@@ -18,7 +18,7 @@ fn first(alloc: Global, name: &[u8]) -> Result<Option<u64>, Fail> {
 #[test]
 fn members_are_found_by_their_names(rt: HostRuntime) -> Result<(), Fail> {
     let alloc = rt.alloc();
-    for (name, cell) in [
+    for &(name, cell) in &[
         ("x", Some(0)),
         ("y", Some(1)),
         ("row", Some(2)),
@@ -38,7 +38,7 @@ fn is_int(alloc: Global, name: &[u8]) -> Result<Option<bool>, Fail> {
 #[test]
 fn members_have_their_types(rt: HostRuntime) -> Result<(), Fail> {
     let alloc = rt.alloc();
-    for (name, answer) in [("y", Some(true)), ("row", Some(false)), ("z", None)] {
+    for &(name, answer) in &[("y", Some(true)), ("row", Some(false)), ("z", None)] {
         assert_eq!(rt; is_int(alloc, name.as_bytes())?, answer);
     }
     Ok(())

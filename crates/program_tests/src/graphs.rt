@@ -30,7 +30,7 @@ pub fn has_edges(graph: &Graph, ends: &[(u32, u32)]) -> bool {
 
 // Points 0 to 2 are those of `#start`, and 3 to 8 those of `main`: its entry, the branch, the two outputs, the return and
 // its exit. Edges are numbered by their source points.
-const SMALL_EDGES: [(u32, u32); 8] = [
+const SMALL_EDGES: &[(u32, u32)] = &[
     (0, 1),
     (1, 2),
     (3, 4),
@@ -49,7 +49,7 @@ pub const SMALL: &str =
 fn the_numbers_of_a_small_program(rt: HostRuntime) -> Result<(), Fail> {
     let graph = graph_of(rt.alloc(), SMALL)?;
     assert!(rt; graph.points() == 9 && graph.edges() == 8);
-    assert!(rt; has_edges(&graph, SMALL_EDGES.as_slice()));
+    assert!(rt; has_edges(&graph, SMALL_EDGES));
     assert!(rt; matches!(graph.edge_at(3).exit, ExitLabel::True));
     assert!(rt;
         graph.follow(4, &ExitLabel::Next) == None && graph.edge_number(4, &ExitLabel::Next) == None
@@ -76,7 +76,7 @@ fn has_place(graph: &Graph, point: u32, path: &[u32], part: u32, stage: u32) -> 
 }
 
 // Points 0 to 2 are those of `#start`, 3 is the entry of `main`, 4 to 13 are as their places, and 14 is its exit.
-const LOOP_EDGES: [(u32, u32); 18] = [
+const LOOP_EDGES: &[(u32, u32)] = &[
     (0, 1),
     (1, 2),
     (3, 4),
@@ -118,7 +118,7 @@ fn the_edges_of_loops(rt: HostRuntime) -> Result<(), Fail> {
     for point in 4..14u32 {
         assert!(rt; graph.span_at(point).start == point);
     }
-    assert!(rt; has_edges(&graph, LOOP_EDGES.as_slice()));
+    assert!(rt; has_edges(&graph, LOOP_EDGES));
     assert!(rt; has_place(&graph, 6, &[0], 2, 0));
     Ok(())
 }

@@ -40,7 +40,7 @@ fn an_edge_has_itself_as_its_image_where_nothing_changed(rt: HostRuntime) -> Res
 #[test]
 fn an_edge_that_no_pair_reaches_has_no_image(rt: HostRuntime) -> Result<(), Fail> {
     let found = images_of(rt.alloc(), SMALL, ONE_MORE)?;
-    let want = [
+    let want = &[
         Image::One(0),
         Image::One(1),
         Image::One(2),
@@ -57,7 +57,7 @@ fn an_edge_that_no_pair_reaches_has_no_image(rt: HostRuntime) -> Result<(), Fail
 #[test]
 fn an_edge_whose_point_is_reached_with_two_has_several(rt: HostRuntime) -> Result<(), Fail> {
     let found = images_of(rt.alloc(), JOINED, COPIED)?;
-    let want = [
+    let want = &[
         Image::One(0),
         Image::One(1),
         Image::One(2),

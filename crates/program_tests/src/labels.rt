@@ -60,7 +60,7 @@ fn a_label_has_the_contents_of_what_it_names(rt: HostRuntime) -> Result<(), Fail
     let labels = read_labels(alloc, "eval putchar read global:k int")?;
     let label = labels.first().ok_or("no label")?;
     let mut book = LabelBook::new(alloc);
-    for (other, initial, number) in [(1, 1, 0), (1, 2, 1), (2, 1, 0), (2, 2, 1)] {
+    for &(other, initial, number) in &[(1, 1, 0), (1, 2, 1), (2, 1, 0), (2, 2, 1)] {
         let given = number_beside(alloc, &mut book, label, other, initial)?;
         assert_eq!(rt; given, number, "with {other} and {initial}");
     }

@@ -30,7 +30,7 @@ fn way_of_case(graph: &Graph, point: u32, value: i64) -> Option<u32> {
 
 // Points 0 to 2 are those of `#start`; those of `main` are its entry, 3, the value of the `switch`, 4, the outputs, 5 and
 // 6, the return, 7, and its exit, 8.
-const EDGES_OF_QUESTION: [(u32, u32); 8] = [
+const EDGES_OF_QUESTION: &[(u32, u32)] = &[
     (0, 1),
     (1, 2),
     (3, 4),
@@ -49,7 +49,7 @@ const QUESTION: &str =
 fn a_default_is_known_by_the_values_of_the_cases(rt: HostRuntime) -> Result<(), Fail> {
     let alloc = rt.alloc();
     let graph = graph_of(alloc, QUESTION)?;
-    assert!(rt; has_edges(&graph, EDGES_OF_QUESTION.as_slice()));
+    assert!(rt; has_edges(&graph, EDGES_OF_QUESTION));
     assert_eq!(rt; other_way(alloc, &graph, 4, &[65])?, Some(6));
     assert_eq!(rt; other_way(alloc, &graph, 4, &[65, 66])?, None);
     assert_eq!(rt; other_way(alloc, &graph, 4, &[])?, None);
@@ -60,7 +60,7 @@ fn a_default_is_known_by_the_values_of_the_cases(rt: HostRuntime) -> Result<(), 
 
 // The points are those of the last program. The edges of the cases stand in the order of their lines, and the one of all
 // other values behind them, by the values in rising order; it leads past the `switch`, as the last line does.
-const EDGES_OF_FALLING: [(u32, u32); 10] = [
+const EDGES_OF_FALLING: &[(u32, u32)] = &[
     (0, 1),
     (1, 2),
     (3, 4),
@@ -81,7 +81,7 @@ const FALLING: &str =
 fn the_edges_of_cases_stand_in_the_order_of_their_lines(rt: HostRuntime) -> Result<(), Fail> {
     let alloc = rt.alloc();
     let graph = graph_of(alloc, FALLING)?;
-    assert!(rt; has_edges(&graph, EDGES_OF_FALLING.as_slice()));
+    assert!(rt; has_edges(&graph, EDGES_OF_FALLING));
     assert_eq!(rt; other_way(alloc, &graph, 4, &[-1, 3, 7])?, Some(7));
     assert_eq!(rt; other_way(alloc, &graph, 4, &[7, -1, 3])?, None);
     Ok(())
@@ -89,7 +89,7 @@ fn the_edges_of_cases_stand_in_the_order_of_their_lines(rt: HostRuntime) -> Resu
 
 // The points of `main` are its entry, 3, the first `goto`, 4, the test, 5, the output, 6, the `exit`, 7, the other `goto`,
 // 8, and its exit, 9. The `exit` has no way out.
-const EDGES_OF_JUMPING: [(u32, u32); 8] = [
+const EDGES_OF_JUMPING: &[(u32, u32)] = &[
     (0, 1),
     (1, 2),
     (3, 4),
@@ -109,7 +109,7 @@ fn a_goto_leads_to_its_label_and_an_exit_nowhere(rt: HostRuntime) -> Result<(), 
     let alloc = rt.alloc();
     let graph = graph_of(alloc, JUMPING)?;
     assert!(rt; graph.points() == 10);
-    assert!(rt; has_edges(&graph, EDGES_OF_JUMPING.as_slice()));
+    assert!(rt; has_edges(&graph, EDGES_OF_JUMPING));
     assert!(rt; graph.follow(7, &ExitLabel::Next).is_none());
     Ok(())
 }

@@ -196,7 +196,7 @@ fn accepts_edges(alloc: Global, ends: &str) -> Result<bool, Fail> {
 // for each line but an exit, which has none.
 #[test]
 fn each_case_is_an_edge_and_an_exit_has_none(rt: HostRuntime) -> Result<(), Fail> {
-    for (ends, accepted) in [
+    for &(ends, accepted) in &[
         (" line eval 0 line exit 0 }", true),
         (" line eval 0 line eval 0 }", false),
         (" line exit 0 line exit 0 }", true),

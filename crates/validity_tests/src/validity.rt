@@ -84,7 +84,7 @@ fn accepts_length(alloc: Global, points: usize, tests: usize) -> Result<bool, Fa
 // The entries, the exits and the call in `#start` are 5 points and 3 edges of a program with two functions.
 #[test]
 fn a_program_has_at_most_10000_points_and_edges(rt: HostRuntime) -> Result<(), Fail> {
-    for (points, tests, accepted) in [
+    for &(points, tests, accepted) in &[
         (9_995, 0, true),
         (9_996, 0, false),
         (1, 4_998, true),

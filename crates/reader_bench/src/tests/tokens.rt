@@ -267,7 +267,7 @@ fn bytes_that_begin_nothing(rt: HostRuntime) -> Result<(), Fail> {
 
 #[test]
 fn a_place_has_a_line_and_a_column_in_bytes(rt: HostRuntime) {
-    for (source, at, line, column) in [
+    for &(source, at, line, column) in &[
         ("", 0, 1, 1),
         ("ab\ncd", 0, 1, 1),
         ("ab\ncd", 1, 1, 2),
