@@ -1,6 +1,6 @@
 pub mod LawsGrows
+pub mod LawsTrees
 mod Counted
 mod Loops
 mod Switching
-mod Trees
 mod Collecting

@@ -1,5 +1,5 @@
 //! Where a statement stands.
-ghost use Rattle.std.specs.Prelude.{◌≡◌, OnOk, option_map};
+ghost use Rattle.std.specs.Prelude.{◌≡◌, IfOk, OnOk, length, option_map};
 ghost use Rattle.csub_objects.specs.Meaning.{type_tree};
 ghost use Rattle.csub_rules.specs.Here.{declaring, entering, is_declared, local_meaning};
 ghost use Rattle.csub_scopes.specs.Meanings.{meaning_of};
@@ -55,21 +55,36 @@ pub fn declare(here: &mut Here, name: &Text, ctype: Option<CType>) -> Result<(),
     Ok(())
 }
 
-/// Enters a block.
-pub fn enter(here: &mut Here) -> Result<(), AllocError>
-    ensures { OnOk result (here_of here.new ≡ entering (here_of here.old)) }
+/// What stood round a block when it was entered.
+#[derive(Clone, Copy)]
+pub struct Outer {
+    /// How many blocks stood round it.
+    pub depth: u32,
+    /// How many names were in scope.
+    pub names: usize,
+}
+
+/// Enters a block. An `Err` is a full count.
+pub fn enter(here: &mut Here) -> Result<Outer, AllocError>
+    ensures depth { IfOk result (λ outer. outer.depth ≡ (here_of here.old).depth) }
+    ensures names { IfOk result (λ outer. outer.names ≡ length (here_of here.old).scope.names) }
+    ensures entered { OnOk result (here_of here.new ≡ entering (here_of here.old)) }
 {
+    let outer = Outer {
+        depth: here.depth,
+        names: here.scope.names.count(),
+    };
     if here.depth >= 4_294_967_295 {
         return Err(AllocError);
     }
     here.depth += 1;
-    Ok(())
+    Ok(outer)
 }
 
-/// Leaves a block, which was entered at this depth and with so many names in scope.
-pub fn leave(here: &mut Here, depth: u32, mark: usize)
-    ensures scope { here_of here.new ≡ closed (here_of here.old) depth mark }
+/// Leaves a block.
+pub fn leave(here: &mut Here, outer: Outer)
+    ensures { here_of here.new ≡ closed (here_of here.old) outer.depth outer.names }
 {
-    here.scope.names.close(mark);
-    here.depth = depth;
+    here.scope.names.close(outer.names);
+    here.depth = outer.depth;
 }

@@ -7,7 +7,8 @@
 //! proportion to what it looks at, save for a hash of each name and each case value. An `Err` is want of memory, or a full
 //! count.
 //!
-//! Proofs above cite `proofs/LawsGrows`: declarations only come on top, and behind a block stands what stood before it.
+//! Proofs above cite `proofs/LawsGrows`: declarations only come on top, and behind a block stands what stood before it; and
+//! `proofs/LawsTrees`: what the statements of the code are as trees.
 #![tactic(auto)]
 
 pub mod body;

@@ -1,12 +1,14 @@
 //! Statements (C11 6.8).
 ghost use Rattle.std.specs.Prelude.{◌≡◌, [], IfOk, OnOk, map, option_map};
-ghost use Rattle.csub_rules.specs.CaseLabels.{labels_fault};
-ghost use Rattle.csub_rules.specs.Here.{entering, is_reserved};
-ghost use Rattle.csub_rules.specs.Past.{past, past_lines};
-ghost use Rattle.csub_rules.specs.StmtFaults.{lines_fault, part_fault, return_fault, stmt_fault};
+ghost use Rattle.csub_rules.specs.CaseLabels.{labels_fault, switch_kind as the_switch_kind};
+ghost use Rattle.csub_rules.specs.Faults.{◌or_earlier◌};
+ghost use Rattle.csub_rules.specs.Here.{entering, is_reserved, leaving};
+ghost use Rattle.csub_rules.specs.Past.{past, past_lines, past_perhaps};
+ghost use Rattle.csub_rules.specs.StmtFaults.{in_switch as the_switch, lines_fault, part_fault, perhaps_fault, return_fault, stmt_fault};
+ghost use Rattle.csub_rules.specs.Uses.{as_number, use_fault};
 ghost use Rattle.csub_scopes.specs.Meanings.{scope_of};
 ghost use Rattle.csub_tree.specs.Expressions.{expr_tree};
-ghost use Rattle.csub_tree.specs.Statements.{stmt_tree, stmts_of};
+ghost use Rattle.csub_tree.specs.Statements.{perhaps_of, stmt_tree, stmts_of};
 ghost use Rattle.csub_check.specs.Seen.{the_use};
 ghost use Rattle.csub_bodies.specs.Views.{here_of, the_surroundings};
 
@@ -61,24 +63,12 @@ pub fn check_statement(
         StmtKind::Declare(d) => check_declaration(alloc, here, d),
         StmtKind::Eval(e) => Ok(check_use(&here.scope, around.statement, e)),
         StmtKind::Empty => Ok(None),
-        StmtKind::Block(lines) => {
-            let depth = here.depth;
-            let mark = here.scope.names.count();
-            enter(here)?;
-            let fault = check_lines(alloc, here, around, lines.as_slice())?;
-            leave(here, depth, mark);
-            Ok(fault)
-        }
+        StmtKind::Block(lines) => check_block(alloc, here, around, lines.as_slice()),
         StmtKind::If(e, then, other) => {
             let test = check_use(&here.scope, Use::Number, e);
             let first = check_statement(alloc, here, around, then)?;
-            match other {
-                None => Ok(earlier(test, first)),
-                Some(other) => {
-                    let second = check_statement(alloc, here, around, other)?;
-                    Ok(earlier(earlier(test, first), second))
-                }
-            }
+            let second = check_perhaps(alloc, here, around, other)?;
+            Ok(earlier(earlier(test, first), second))
         }
         StmtKind::While(e, body) | StmtKind::Do(body, e) => {
             let test = check_use(&here.scope, Use::Number, e);
@@ -86,29 +76,15 @@ pub fn check_statement(
             Ok(earlier(test, inner))
         }
         StmtKind::For(first, e, third, body) => {
-            let depth = here.depth;
-            let mark = here.scope.names.count();
-            enter(here)?;
-            let start = match first {
-                None => None,
-                Some(first) => check_statement(alloc, here, in_first_part(around), first)?,
-            };
+            let outer = enter(here)?;
+            let start = check_perhaps(alloc, here, in_first_part(around), first)?;
             let test = check_part(&here.scope, Use::Number, e);
             let step = check_part(&here.scope, Use::Part, third);
             let inner = check_statement(alloc, here, in_loop(around), body)?;
-            leave(here, depth, mark);
+            leave(here, outer);
             Ok(earlier(earlier(earlier(start, test), step), inner))
         }
-        StmtKind::Switch(e, lines) => {
-            let test = check_use(&here.scope, Use::Number, e);
-            let kind = switch_kind(&here.scope, e);
-            let depth = here.depth;
-            let mark = here.scope.names.count();
-            enter(here)?;
-            let found = check_cases(alloc, here, in_switch(around), kind, lines.as_slice())?;
-            leave(here, depth, mark);
-            Ok(earlier(earlier(test, found.lines), found.labels))
-        }
+        StmtKind::Switch(e, lines) => check_switch(alloc, here, around, lines.as_slice(), e),
         StmtKind::Case(e) => Ok(check_use(&here.scope, Use::Constant, e)),
         StmtKind::Default => Ok(None),
         StmtKind::Break => Ok(fault_if(!around.can_break, 16, first_bytes(5, s.span))),
@@ -121,6 +97,60 @@ pub fn check_statement(
         }
         StmtKind::Return(e) => Ok(check_return(around, &here.scope, e, s.span)),
     }
+}
+
+/// A statement that may be left out: that behind `else`, or the first part of a `for`; see [`check_statement`].
+#[cycle(check_statement)]
+fn check_perhaps(
+    alloc: Global,
+    here: &mut Here,
+    around: Surroundings,
+    s: &Option<Box<Stmt>>,
+) -> Result<Option<Fault>, AllocError>
+    ensures fault { IfOk result (λ fault. fault ≡ perhaps_fault (the_surroundings around.entry) (here_of here.old) (perhaps_of (option_map (λ s. stmt_tree s.value) s.now))) }
+    ensures past { OnOk result (here_of here.new ≡ past_perhaps (here_of here.old) (perhaps_of (option_map (λ s. stmt_tree s.value) s.now))) }
+{
+    match s {
+        None => Ok(None),
+        Some(s) => check_statement(alloc, here, around, s),
+    }
+}
+
+/// A block of these lines; see [`check_statement`].
+#[cycle(check_statement)]
+fn check_block(
+    alloc: Global,
+    here: &mut Here,
+    around: Surroundings,
+    lines: &[Stmt],
+) -> Result<Option<Fault>, AllocError>
+    ensures fault { IfOk result (λ fault. fault ≡ lines_fault (the_surroundings around.entry) (entering (here_of here.old)) (stmts_of (map stmt_tree lines.now))) }
+    ensures past { OnOk result (here_of here.new ≡ leaving (here_of here.old) (past_lines (entering (here_of here.old)) (stmts_of (map stmt_tree lines.now)))) }
+{
+    let outer = enter(here)?;
+    let fault = check_lines(alloc, here, around, lines)?;
+    leave(here, outer);
+    Ok(fault)
+}
+
+/// A `switch`, whose lines are a block (C11 6.8.4p3); see [`check_statement`].
+#[cycle(check_statement)]
+fn check_switch(
+    alloc: Global,
+    here: &mut Here,
+    around: Surroundings,
+    lines: &[Stmt],
+    e: &Expr,
+) -> Result<Option<Fault>, AllocError>
+    ensures fault { IfOk result (λ fault. fault ≡ (use_fault (scope_of here.old.scope) as_number (expr_tree e.now) or_earlier lines_fault (the_switch (the_surroundings around.entry)) (entering (here_of here.old)) (stmts_of (map stmt_tree lines.now)) or_earlier labels_fault (the_switch_kind (scope_of here.old.scope) (expr_tree e.now)) (entering (here_of here.old)) [] (stmts_of (map stmt_tree lines.now)))) }
+    ensures past { OnOk result (here_of here.new ≡ leaving (here_of here.old) (past_lines (entering (here_of here.old)) (stmts_of (map stmt_tree lines.now)))) }
+{
+    let test = check_use(&here.scope, Use::Number, e);
+    let kind = switch_kind(&here.scope, e);
+    let outer = enter(here)?;
+    let found = check_cases(alloc, here, in_switch(around), kind, lines)?;
+    leave(here, outer);
+    Ok(earlier(earlier(test, found.lines), found.labels))
 }
 
 /// Lines, each of which sees what those before it declare.

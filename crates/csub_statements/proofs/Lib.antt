@@ -2,4 +2,3 @@ pub mod LawsResolvable
 mod Lines
 mod Made
 mod Most
-mod Trees

@@ -16,13 +16,13 @@ ghost use Rattle.csub_resolution.specs.Lines.{first_parts, line, lines as lines_
 ghost use Rattle.csub_resolution.specs.Lines.{switch_part, test_part};
 ghost use Rattle.csub_statements.specs.Resolvable.{Resolvable, ResolvableLines, ResolvablePerhaps, else_of};
 
-use crate::block::{block_lines, enter_block, leave_block, switch_lines};
+use crate::block::{block_lines, switch_lines};
 use crate::node::{
     block_node, break_node, case_node, continue_node, declared_node, default_node, do_node,
     eval_node, for_head, for_node, goto_node, if_node, mark_node, own_parts, parts_node,
     return_node, switch_node, while_node,
 };
-use csub_bodies::{Here, switch_kind};
+use csub_bodies::{Here, enter, leave, switch_kind};
 use csub_lines::part::{switch_part, test_part};
 use csub_lower::{Definitions, Known};
 use csub_semantics::{LocalVar, RPart, RStmt};
@@ -87,11 +87,11 @@ pub fn lower_statement(
         StmtKind::While(e, body) => lower_while(alloc, body, e, here, locals, within),
         StmtKind::Do(body, e) => lower_do(alloc, body, e, here, locals, within),
         StmtKind::For(first, e, third, body) => {
-            let outer = enter_block(here)?;
+            let outer = enter(here)?;
             let first = lower_first(alloc, first, here, locals, within)?;
             let head = for_head(alloc, known(here, within), first, s.span, e, third)?;
             let inner = lower_statement(alloc, body, here, locals, within, IntKind::Int)?;
-            leave_block(here, outer);
+            leave(here, outer);
             for_node(alloc, head, inner)
         }
         StmtKind::Switch(e, lines) => {
@@ -212,9 +212,9 @@ fn lower_block(
     ensures past { OnOk result (here_of here.new ≡ leaving (here_of here.old) (past_lines (entering (here_of here.old)) (stmts_of (map stmt_tree lines.now)))) }
     ensures locals { OnOk result (map local_tree locals.new.items ≡ map local_tree locals.old.items ++ locals_lines (entering (here_of here.old)) (stmts_of (map stmt_tree lines.now))) }
 {
-    let outer = enter_block(here)?;
+    let outer = enter(here)?;
     let made = lower_lines(alloc, lines, here, locals, within, IntKind::Int)?;
-    leave_block(here, outer);
+    leave(here, outer);
     block_node(alloc, made)
 }
 
@@ -236,9 +236,9 @@ fn lower_switch(
 {
     let part = switch_part(alloc, known(here, within), e)?;
     let kind = switch_kind(&here.scope, e);
-    let outer = enter_block(here)?;
+    let outer = enter(here)?;
     let made = lower_lines(alloc, lines, here, locals, within, kind)?;
-    leave_block(here, outer);
+    leave(here, outer);
     switch_node(alloc, part, made)
 }
 

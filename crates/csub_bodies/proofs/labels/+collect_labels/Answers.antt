@@ -4,7 +4,7 @@ use Rattle.csub_tree.specs.Expressions.{expr_tree}
 use Rattle.csub_tree.specs.Statements.{If, For, OneStmt, line_tree, stmt_tree}
 use Rattle.csub_rules.specs.Labels.{labels_of, labels_of_kind, past_names, twice_fault}
 use Rattle.csub_bodies.proofs.Collecting.{both_names, both_faults, names_more, faults_more}
-use Rattle.csub_bodies.proofs.Trees.{line_of}
+use Rattle.csub_bodies.proofs.LawsTrees.{line_of}
 use Rattle.csub_bodies.proofs.labels.+collect_labels.Goals as goal
 
 pub collect_from_lines-loop-line-preserved : goal.collect_from_lines-loop-line-preserved

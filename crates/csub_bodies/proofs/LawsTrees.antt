@@ -1,4 +1,4 @@
--- What a `for` stands for.
+-- What the statements of the code are as trees. Crates above cite these lemmas.
 use Rattle.std.proofs.Common.{◌≡◌, option_map, Option, Some, None, rules}
 use Rattle.std.specs.Global.{Box}
 use Rattle.csub_tree.specs.declared.expression.Expr.{Expr as CodeExpr}
