@@ -9,7 +9,7 @@ ghost use Rattle.csub_semantics.specs.Syntax.{function_tree};
 ghost use Rattle.flow_graph.specs.Numbers.{numbered_node, numbered_point, numbered_function, of_function, count_function, count_program, function_numbered, program_numbered, functions_numbered};
 
 use crate::count::count_all;
-use crate::emit::emit_list;
+use crate::emit::{Around, emit_list};
 use crate::jumps::jumps_of;
 use crate::node::{GraphFunction, GraphNode, GraphPoint, one_way};
 use crate::onward::all_to;
@@ -89,17 +89,12 @@ fn list_function(
     let exit = start + 1 + count_all(body);
     let jumps = jumps_of(alloc, body, exit)?;
     let mut nodes = exit_alone(alloc, function)?;
-    let onward = all_to(exit);
+    let around = Around {
+        jumps: &jumps,
+        onward: all_to(exit),
+    };
     let path = Vec::new(alloc);
-    let begin = emit_list(
-        alloc,
-        body,
-        path.as_slice(),
-        exit,
-        &jumps,
-        onward,
-        &mut nodes,
-    )?;
+    let begin = emit_list(alloc, body, path.as_slice(), exit, around, &mut nodes)?;
     push_entry(alloc, function.span, begin.enter, &mut nodes)?;
     nodes.reverse();
     Ok(nodes)

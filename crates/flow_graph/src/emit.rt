@@ -4,7 +4,7 @@ ghost use Rattle.std.specs.Option.{option_map};
 ghost use Rattle.csub_semantics.specs.Labels.{label_tree};
 ghost use Rattle.csub_semantics.specs.Syntax.{call_stage, part_tree, do_loop, for_loop, switch_on, stmt_tree, stmts_of};
 ghost use Rattle.flow_graph.specs.Jumps.{jump_by};
-ghost use Rattle.flow_graph.specs.Numbers.{numbered_way, numbered_node, around, count, count_parts, count_head, count_list, enter, enter_part, enter_parts, enter_head, enter_list, case_ways, default_to, main_ways as main_ways', part_numbered, parts_numbered, head_numbered, numbered, list_numbered};
+ghost use Rattle.flow_graph.specs.Numbers.{numbered_way, numbered_node, around as the_around, count, count_parts, count_head, count_list, enter, enter_part, enter_parts, enter_head, enter_list, case_ways, default_to, main_ways as main_ways', part_numbered, parts_numbered, head_numbered, numbered, list_numbered};
 
 use crate::begin::{Begin, begin_again, ends, part_begin};
 use crate::cases::{Cases, gather, switch_ways};
@@ -14,6 +14,30 @@ use crate::node::{GraphNode, GraphWay, inner_path, one_way, point_at, step, test
 use crate::onward::{Onward, looping, switching};
 use csub_semantics::{Label, RCall, RPart, RStmt, copy_call, copy_label};
 use std::alloc::{AllocError, Global};
+
+/// What stands round a statement: where the `goto`s of its function lead, and where control goes from it.
+#[derive(Clone, Copy)]
+pub struct Around<'j> {
+    pub jumps: &'j Jumps,
+    pub onward: Onward,
+}
+
+/// Which part of which statement.
+#[derive(Clone, Copy)]
+struct Spot<'p> {
+    /// The statement's path.
+    path: &'p [u32],
+    /// The part's number in it.
+    part: u32,
+}
+
+/// What stands before the body of a `for`.
+#[derive(Clone, Copy)]
+struct Head<'s> {
+    first: &'s [RPart],
+    test: &'s RPart,
+    third: &'s [RPart],
+}
 
 /// The lines of a list: where they begin, and where they lead as those of a `switch`.
 #[derive(Drop)]
@@ -26,15 +50,14 @@ struct Lines {
 fn emit_calls(
     alloc: Global,
     calls: &[RCall],
-    path: &[u32],
-    part: u32,
+    spot: Spot<'_>,
     end: u32,
     ways: Vec<GraphWay>,
     out: &mut Vec<GraphNode>,
 ) -> Result<u32, AllocError>
     requires { length calls.now ≤ end }
     ensures first { IfOk result (λ first. first + length calls.now ≡ end) }
-    ensures nodes { IfOk result (λ first. map numbered_node out.new.items ≡ map numbered_node out.old.items ++ reverse (part_numbered (map call_stage calls.now) 0 first path.now part (map numbered_way ways.items))) }
+    ensures nodes { IfOk result (λ first. map numbered_node out.new.items ≡ map numbered_node out.old.items ++ reverse (part_numbered (map call_stage calls.now) 0 first spot.entry.path.now spot.entry.part (map numbered_way ways.items))) }
 {
     let mut first = end;
     let mut ways = ways;
@@ -42,7 +65,7 @@ fn emit_calls(
         let call = &calls[k];
         first -= 1;
         out.push(GraphNode {
-            point: point_at(alloc, path, part, step(k)?)?,
+            point: point_at(alloc, spot.path, spot.part, step(k)?)?,
             label: Label::Call(copy_call(alloc, &call.label)?),
             span: call.span,
             ways,
@@ -56,29 +79,28 @@ fn emit_calls(
 fn emit_stages(
     alloc: Global,
     part: &RPart,
-    path: &[u32],
-    index: u32,
+    spot: Spot<'_>,
     end: u32,
     ways: Vec<GraphWay>,
     out: &mut Vec<GraphNode>,
 ) -> Result<u32, AllocError>
     requires { length (part_tree part.now) ≤ end }
     ensures first { IfOk result (λ first. first + length (part_tree part.now) ≡ end) }
-    ensures nodes { IfOk result (λ first. map numbered_node out.new.items ≡ map numbered_node out.old.items ++ reverse (part_numbered (part_tree part.now) 0 first path.now index (map numbered_way ways.items))) }
+    ensures nodes { IfOk result (λ first. map numbered_node out.new.items ≡ map numbered_node out.old.items ++ reverse (part_numbered (part_tree part.now) 0 first spot.entry.path.now spot.entry.part (map numbered_way ways.items))) }
 {
     let calls = part.calls.as_slice();
     match &part.main {
-        None => emit_calls(alloc, calls, path, index, end, ways, out),
+        None => emit_calls(alloc, calls, spot, end, ways, out),
         Some(label) => {
             let own = end - 1;
             out.push(GraphNode {
-                point: point_at(alloc, path, index, step(calls.len())?)?,
+                point: point_at(alloc, spot.path, spot.part, step(calls.len())?)?,
                 label: copy_label(alloc, label)?,
                 span: part.span,
                 ways,
             })?;
             let onward = one_way(alloc, own)?;
-            let first = emit_calls(alloc, calls, path, index, own, onward, out)?;
+            let first = emit_calls(alloc, calls, spot, own, onward, out)?;
             Ok(first)
         }
     }
@@ -88,8 +110,7 @@ fn emit_stages(
 fn emit_part(
     alloc: Global,
     part: &RPart,
-    path: &[u32],
-    index: u32,
+    spot: Spot<'_>,
     end: u32,
     ways: Vec<GraphWay>,
     past: u32,
@@ -98,9 +119,9 @@ fn emit_part(
     requires { length (part_tree part.now) ≤ end }
     ensures first { IfOk result (λ begin. begin.first + length (part_tree part.now) ≡ end) }
     ensures enter { IfOk result (λ begin. begin.enter ≡ enter_part (part_tree part.now) begin.first past) }
-    ensures nodes { IfOk result (λ begin. map numbered_node out.new.items ≡ map numbered_node out.old.items ++ reverse (part_numbered (part_tree part.now) 0 begin.first path.now index (map numbered_way ways.items))) }
+    ensures nodes { IfOk result (λ begin. map numbered_node out.new.items ≡ map numbered_node out.old.items ++ reverse (part_numbered (part_tree part.now) 0 begin.first spot.entry.path.now spot.entry.part (map numbered_way ways.items))) }
 {
-    let first = emit_stages(alloc, part, path, index, end, ways, out)?;
+    let first = emit_stages(alloc, part, spot, end, ways, out)?;
     let enter = if first < end { first } else { past };
     Ok(Begin { first, enter })
 }
@@ -135,7 +156,7 @@ fn emit_parts(
     requires { count_parts (map part_tree parts.now) ≤ end }
     ensures first { IfOk result (λ begin. begin.first + count_parts (map part_tree parts.now) ≡ end) }
     ensures enter { IfOk result (λ begin. begin.enter ≡ enter_parts (map part_tree parts.now) begin.first onward.leave) }
-    ensures nodes { IfOk result (λ begin. map numbered_node out.new.items ≡ map numbered_node out.old.items ++ reverse (parts_numbered (map part_tree parts.now) from begin.first path.now (around onward))) }
+    ensures nodes { IfOk result (λ begin. map numbered_node out.new.items ≡ map numbered_node out.old.items ++ reverse (parts_numbered (map part_tree parts.now) from begin.first path.now (the_around onward))) }
 {
     let mut first = end;
     let mut enter = onward.leave;
@@ -143,7 +164,8 @@ fn emit_parts(
         let part = &parts[i];
         let ways = main_ways(alloc, part, enter, onward.returned)?;
         let index = step(from as usize + i)?;
-        let begin = emit_part(alloc, part, path, index, first, ways, enter, out)?;
+        let spot = Spot { path, part: index };
+        let begin = emit_part(alloc, part, spot, first, ways, enter, out)?;
         first = begin.first;
         enter = begin.enter;
     }
@@ -153,19 +175,18 @@ fn emit_parts(
 /// Appends the points of what stands before the body of a `for`, last first.
 fn emit_head(
     alloc: Global,
-    first: &[RPart],
-    test: &RPart,
-    third: &[RPart],
+    head: Head<'_>,
     path: &[u32],
     body: Begin,
     onward: Onward,
     out: &mut Vec<GraphNode>,
 ) -> Result<Begin, AllocError>
-    requires { count_head (map part_tree first.now) (part_tree test.now) (map part_tree third.now) ≤ body.first }
-    ensures first { IfOk result (λ begin. begin.first + count_head (map part_tree first.now) (part_tree test.now) (map part_tree third.now) ≡ body.first) }
-    ensures enter { IfOk result (λ begin. begin.enter ≡ enter_head (map part_tree first.now) (part_tree test.now) begin.first onward.leave) }
-    ensures nodes { IfOk result (λ begin. map numbered_node out.new.items ≡ map numbered_node out.old.items ++ reverse (head_numbered (map part_tree first.now) (part_tree test.now) (map part_tree third.now) begin.first path.now body.enter (around onward))) }
+    requires { count_head (map part_tree head.first.now) (part_tree head.test.now) (map part_tree head.third.now) ≤ body.first }
+    ensures first { IfOk result (λ begin. begin.first + count_head (map part_tree head.entry.first.now) (part_tree head.entry.test.now) (map part_tree head.entry.third.now) ≡ body.first) }
+    ensures enter { IfOk result (λ begin. begin.enter ≡ enter_head (map part_tree head.entry.first.now) (part_tree head.entry.test.now) begin.first onward.leave) }
+    ensures nodes { IfOk result (λ begin. map numbered_node out.new.items ≡ map numbered_node out.old.items ++ reverse (head_numbered (map part_tree head.entry.first.now) (part_tree head.entry.test.now) (map part_tree head.entry.third.now) begin.first path.now body.enter (the_around onward))) }
 {
+    let Head { first, test, third } = head;
     let again = begin_again(test, third, body.first, onward.leave);
     let back = Onward {
         leave: again.test.enter,
@@ -175,7 +196,8 @@ fn emit_head(
     let end = emit_parts(alloc, third, path, behind, body.first, back, out)?.first;
     let ways = test_ways(alloc, body.enter, onward.leave)?;
     let index = step(first.len())?;
-    let end = emit_part(alloc, test, path, index, end, ways, onward.leave, out)?.first;
+    let spot = Spot { path, part: index };
+    let end = emit_part(alloc, test, spot, end, ways, onward.leave, out)?.first;
     let begin = emit_parts(alloc, first, path, 0, end, back, out)?;
     Ok(begin)
 }
@@ -187,66 +209,51 @@ fn emit(
     stmt: &RStmt,
     path: &[u32],
     end: u32,
-    jumps: &Jumps,
-    onward: Onward,
+    around: Around<'_>,
     out: &mut Vec<GraphNode>,
 ) -> Result<Begin, AllocError>
     requires { count (stmt_tree stmt.now) ≤ end }
     ensures first { IfOk result (λ begin. begin.first + count (stmt_tree stmt.now) ≡ end) }
-    ensures enter { IfOk result (λ begin. begin.enter ≡ enter (stmt_tree stmt.now) begin.first (around onward)) }
-    ensures nodes { IfOk result (λ begin. map numbered_node out.new.items ≡ map numbered_node out.old.items ++ reverse (numbered (stmt_tree stmt.now) begin.first path.now (jump_by jumps.now) (around onward))) }
+    ensures enter { IfOk result (λ begin. begin.enter ≡ enter (stmt_tree stmt.now) begin.first (the_around around.entry.onward)) }
+    ensures nodes { IfOk result (λ begin. map numbered_node out.new.items ≡ map numbered_node out.old.items ++ reverse (numbered (stmt_tree stmt.now) begin.first path.now (jump_by around.entry.jumps.now) (the_around around.entry.onward))) }
 {
+    let onward = around.onward;
     match stmt {
         RStmt::Parts(parts) => emit_parts(alloc, parts.as_slice(), path, 0, end, onward, out),
-        RStmt::Block(stmts) => emit_list(alloc, stmts.as_slice(), path, end, jumps, onward, out),
+        RStmt::Block(stmts) => emit_list(alloc, stmts.as_slice(), path, end, around, out),
         RStmt::If(test, then, other) => {
             let on_false = match other {
                 None => ends(end, onward.leave),
-                Some(stmt) => emit_inner(alloc, stmt, path, 1, end, jumps, onward, out)?,
+                Some(stmt) => emit_inner(alloc, stmt, path, 1, end, around, out)?,
             };
-            let on_true = emit_inner(alloc, then, path, 0, on_false.first, jumps, onward, out)?;
+            let on_true = emit_inner(alloc, then, path, 0, on_false.first, around, out)?;
             let ways = test_ways(alloc, on_true.enter, on_false.enter)?;
-            emit_part(alloc, test, path, 0, on_true.first, ways, onward.leave, out)
+            let spot = Spot { path, part: 0 };
+            emit_part(alloc, test, spot, on_true.first, ways, onward.leave, out)
         }
-        RStmt::While(test, body) => emit_for(
-            alloc,
-            &[],
-            test,
-            &[],
-            body,
-            path,
-            end,
-            jumps,
-            onward,
-            out,
-        ),
-        RStmt::Do(body, test) => emit_do(alloc, body, test, path, end, jumps, onward, out),
+        RStmt::While(test, body) => {
+            let (first, third): (&[RPart], &[RPart]) = (&[], &[]);
+            let head = Head { first, test, third };
+            emit_for(alloc, head, body, path, end, around, out)
+        }
+        RStmt::Do(body, test) => emit_do(alloc, body, test, path, end, around, out),
         RStmt::For(first, test, third, body) => {
             let (first, third) = (first.as_slice(), third.as_slice());
-            emit_for(
-                alloc, first, test, third, body, path, end, jumps, onward, out,
-            )
+            let head = Head { first, test, third };
+            emit_for(alloc, head, body, path, end, around, out)
         }
         RStmt::Switch(value, stmts) => {
-            emit_switch(
-                alloc,
-                value,
-                stmts.as_slice(),
-                path,
-                end,
-                jumps,
-                onward,
-                out,
-            )
+            emit_switch(alloc, value, stmts.as_slice(), path, end, around, out)
         }
         RStmt::Case(_) | RStmt::Default => Ok(ends(end, onward.leave)),
         RStmt::Break => Ok(ends(end, onward.broken)),
         RStmt::Continue => Ok(ends(end, onward.continued)),
         RStmt::Goto(name, part) => {
-            let ways = one_way(alloc, jump(jumps, name))?;
-            emit_part(alloc, part, path, 0, end, ways, onward.leave, out)
+            let ways = one_way(alloc, jump(around.jumps, name))?;
+            let spot = Spot { path, part: 0 };
+            emit_part(alloc, part, spot, end, ways, onward.leave, out)
         }
-        RStmt::Mark(_, stmt) => emit_inner(alloc, stmt, path, 0, end, jumps, onward, out),
+        RStmt::Mark(_, stmt) => emit_inner(alloc, stmt, path, 0, end, around, out),
     }
 }
 
@@ -258,17 +265,16 @@ fn emit_inner(
     path: &[u32],
     step: u32,
     end: u32,
-    jumps: &Jumps,
-    onward: Onward,
+    around: Around<'_>,
     out: &mut Vec<GraphNode>,
 ) -> Result<Begin, AllocError>
     requires { count (stmt_tree stmt.now) ≤ end }
     ensures first { IfOk result (λ begin. begin.first + count (stmt_tree stmt.now) ≡ end) }
-    ensures enter { IfOk result (λ begin. begin.enter ≡ enter (stmt_tree stmt.now) begin.first (around onward)) }
-    ensures nodes { IfOk result (λ begin. map numbered_node out.new.items ≡ map numbered_node out.old.items ++ reverse (numbered (stmt_tree stmt.now) begin.first (path.now ++ step ∷ []) (jump_by jumps.now) (around onward))) }
+    ensures enter { IfOk result (λ begin. begin.enter ≡ enter (stmt_tree stmt.now) begin.first (the_around around.entry.onward)) }
+    ensures nodes { IfOk result (λ begin. map numbered_node out.new.items ≡ map numbered_node out.old.items ++ reverse (numbered (stmt_tree stmt.now) begin.first (path.now ++ step ∷ []) (jump_by around.entry.jumps.now) (the_around around.entry.onward))) }
 {
     let inner = inner_path(alloc, path, step)?;
-    let begin = emit(alloc, stmt, inner.as_slice(), end, jumps, onward, out)?;
+    let begin = emit(alloc, stmt, inner.as_slice(), end, around, out)?;
     Ok(begin)
 }
 
@@ -278,25 +284,26 @@ fn emit_inner(
 #[cycle(emit)]
 fn emit_for(
     alloc: Global,
-    first: &[RPart],
-    test: &RPart,
-    third: &[RPart],
+    head: Head<'_>,
     body: &RStmt,
     path: &[u32],
     end: u32,
-    jumps: &Jumps,
-    onward: Onward,
+    around: Around<'_>,
     out: &mut Vec<GraphNode>,
 ) -> Result<Begin, AllocError>
-    requires { count (for_loop (map part_tree first.now) (part_tree test.now) (map part_tree third.now) (stmt_tree body.now)) ≤ end }
-    ensures first { IfOk result (λ begin. begin.first + count (for_loop (map part_tree first.now) (part_tree test.now) (map part_tree third.now) (stmt_tree body.now)) ≡ end) }
-    ensures enter { IfOk result (λ begin. begin.enter ≡ enter (for_loop (map part_tree first.now) (part_tree test.now) (map part_tree third.now) (stmt_tree body.now)) begin.first (around onward)) }
-    ensures nodes { IfOk result (λ begin. map numbered_node out.new.items ≡ map numbered_node out.old.items ++ reverse (numbered (for_loop (map part_tree first.now) (part_tree test.now) (map part_tree third.now) (stmt_tree body.now)) begin.first path.now (jump_by jumps.now) (around onward))) }
+    requires { count (for_loop (map part_tree head.first.now) (part_tree head.test.now) (map part_tree head.third.now) (stmt_tree body.now)) ≤ end }
+    ensures first { IfOk result (λ begin. begin.first + count (for_loop (map part_tree head.entry.first.now) (part_tree head.entry.test.now) (map part_tree head.entry.third.now) (stmt_tree body.now)) ≡ end) }
+    ensures enter { IfOk result (λ begin. begin.enter ≡ enter (for_loop (map part_tree head.entry.first.now) (part_tree head.entry.test.now) (map part_tree head.entry.third.now) (stmt_tree body.now)) begin.first (the_around around.entry.onward)) }
+    ensures nodes { IfOk result (λ begin. map numbered_node out.new.items ≡ map numbered_node out.old.items ++ reverse (numbered (for_loop (map part_tree head.entry.first.now) (part_tree head.entry.test.now) (map part_tree head.entry.third.now) (stmt_tree body.now)) begin.first path.now (jump_by around.entry.jumps.now) (the_around around.entry.onward))) }
 {
-    let again = begin_again(test, third, end - count_of(body), onward.leave);
-    let within = looping(onward, again.third.enter);
-    let begun = emit_inner(alloc, body, path, 0, end, jumps, within, out)?;
-    let begin = emit_head(alloc, first, test, third, path, begun, onward, out)?;
+    let onward = around.onward;
+    let again = begin_again(head.test, head.third, end - count_of(body), onward.leave);
+    let within = Around {
+        onward: looping(onward, again.third.enter),
+        ..around
+    };
+    let begun = emit_inner(alloc, body, path, 0, end, within, out)?;
+    let begin = emit_head(alloc, head, path, begun, onward, out)?;
     Ok(begin)
 }
 
@@ -310,30 +317,25 @@ fn emit_do(
     test: &RPart,
     path: &[u32],
     end: u32,
-    jumps: &Jumps,
-    onward: Onward,
+    around: Around<'_>,
     out: &mut Vec<GraphNode>,
 ) -> Result<Begin, AllocError>
     requires { count (do_loop (stmt_tree body.now) (part_tree test.now)) ≤ end }
     ensures first { IfOk result (λ begin. begin.first + count (do_loop (stmt_tree body.now) (part_tree test.now)) ≡ end) }
-    ensures enter { IfOk result (λ begin. begin.enter ≡ enter (do_loop (stmt_tree body.now) (part_tree test.now)) begin.first (around onward)) }
-    ensures nodes { IfOk result (λ begin. map numbered_node out.new.items ≡ map numbered_node out.old.items ++ reverse (numbered (do_loop (stmt_tree body.now) (part_tree test.now)) begin.first path.now (jump_by jumps.now) (around onward))) }
+    ensures enter { IfOk result (λ begin. begin.enter ≡ enter (do_loop (stmt_tree body.now) (part_tree test.now)) begin.first (the_around around.entry.onward)) }
+    ensures nodes { IfOk result (λ begin. map numbered_node out.new.items ≡ map numbered_node out.old.items ++ reverse (numbered (do_loop (stmt_tree body.now) (part_tree test.now)) begin.first path.now (jump_by around.entry.jumps.now) (the_around around.entry.onward))) }
 {
+    let onward = around.onward;
     let tested = part_begin(test, end, onward.leave);
-    let within = looping(onward, tested.enter);
+    let within = Around {
+        onward: looping(onward, tested.enter),
+        ..around
+    };
     let mut nodes = Vec::new(alloc);
-    let begun = emit_inner(
-        alloc,
-        body,
-        path,
-        0,
-        tested.first,
-        jumps,
-        within,
-        &mut nodes,
-    )?;
+    let begun = emit_inner(alloc, body, path, 0, tested.first, within, &mut nodes)?;
     let ways = test_ways(alloc, begun.enter, onward.leave)?;
-    emit_part(alloc, test, path, 0, end, ways, onward.leave, out)?;
+    let spot = Spot { path, part: 0 };
+    emit_part(alloc, test, spot, end, ways, onward.leave, out)?;
     out.append(&mut nodes)?;
     Ok(begun)
 }
@@ -346,19 +348,30 @@ fn emit_switch(
     stmts: &[RStmt],
     path: &[u32],
     end: u32,
-    jumps: &Jumps,
-    onward: Onward,
+    around: Around<'_>,
     out: &mut Vec<GraphNode>,
 ) -> Result<Begin, AllocError>
     requires { count (switch_on (part_tree value.now) (stmts_of (map stmt_tree stmts.now))) ≤ end }
     ensures first { IfOk result (λ begin. begin.first + count (switch_on (part_tree value.now) (stmts_of (map stmt_tree stmts.now))) ≡ end) }
-    ensures enter { IfOk result (λ begin. begin.enter ≡ enter (switch_on (part_tree value.now) (stmts_of (map stmt_tree stmts.now))) begin.first (around onward)) }
-    ensures nodes { IfOk result (λ begin. map numbered_node out.new.items ≡ map numbered_node out.old.items ++ reverse (numbered (switch_on (part_tree value.now) (stmts_of (map stmt_tree stmts.now))) begin.first path.now (jump_by jumps.now) (around onward))) }
+    ensures enter { IfOk result (λ begin. begin.enter ≡ enter (switch_on (part_tree value.now) (stmts_of (map stmt_tree stmts.now))) begin.first (the_around around.entry.onward)) }
+    ensures nodes { IfOk result (λ begin. map numbered_node out.new.items ≡ map numbered_node out.old.items ++ reverse (numbered (switch_on (part_tree value.now) (stmts_of (map stmt_tree stmts.now))) begin.first path.now (jump_by around.entry.jumps.now) (the_around around.entry.onward))) }
 {
-    let within = switching(onward);
-    let Lines { begin, cases } = emit_lines(alloc, stmts, path, end, jumps, within, out)?;
+    let within = Around {
+        onward: switching(around.onward),
+        ..around
+    };
+    let Lines { begin, cases } = emit_lines(alloc, stmts, path, end, within, out)?;
     let ways = switch_ways(alloc, stmts, cases)?;
-    emit_part(alloc, value, path, 0, begin.first, ways, onward.leave, out)
+    let spot = Spot { path, part: 0 };
+    emit_part(
+        alloc,
+        value,
+        spot,
+        begin.first,
+        ways,
+        around.onward.leave,
+        out,
+    )
 }
 
 /// Appends the points of the lines of the list at `path`, last first; the number behind its last point is `end`.
@@ -368,16 +381,15 @@ pub fn emit_list(
     stmts: &[RStmt],
     path: &[u32],
     end: u32,
-    jumps: &Jumps,
-    onward: Onward,
+    around: Around<'_>,
     out: &mut Vec<GraphNode>,
 ) -> Result<Begin, AllocError>
     requires { count_list (stmts_of (map stmt_tree stmts.now)) ≤ end }
     ensures first { IfOk result (λ begin. begin.first + count_list (stmts_of (map stmt_tree stmts.now)) ≡ end) }
-    ensures enter { IfOk result (λ begin. begin.enter ≡ enter_list (stmts_of (map stmt_tree stmts.now)) begin.first (around onward)) }
-    ensures nodes { IfOk result (λ begin. map numbered_node out.new.items ≡ map numbered_node out.old.items ++ reverse (list_numbered (stmts_of (map stmt_tree stmts.now)) 0 begin.first path.now (jump_by jumps.now) (around onward))) }
+    ensures enter { IfOk result (λ begin. begin.enter ≡ enter_list (stmts_of (map stmt_tree stmts.now)) begin.first (the_around around.entry.onward)) }
+    ensures nodes { IfOk result (λ begin. map numbered_node out.new.items ≡ map numbered_node out.old.items ++ reverse (list_numbered (stmts_of (map stmt_tree stmts.now)) 0 begin.first path.now (jump_by around.entry.jumps.now) (the_around around.entry.onward))) }
 {
-    let lines = emit_lines(alloc, stmts, path, end, jumps, onward, out)?;
+    let lines = emit_lines(alloc, stmts, path, end, around, out)?;
     Ok(lines.begin)
 }
 
@@ -388,17 +400,17 @@ fn emit_lines(
     stmts: &[RStmt],
     path: &[u32],
     end: u32,
-    jumps: &Jumps,
-    onward: Onward,
+    around: Around<'_>,
     out: &mut Vec<GraphNode>,
 ) -> Result<Lines, AllocError>
     requires { count_list (stmts_of (map stmt_tree stmts.now)) ≤ end }
     ensures first { IfOk result (λ lines. lines.begin.first + count_list (stmts_of (map stmt_tree stmts.now)) ≡ end) }
-    ensures enter { IfOk result (λ lines. lines.begin.enter ≡ enter_list (stmts_of (map stmt_tree stmts.now)) lines.begin.first (around onward)) }
-    ensures ways { IfOk result (λ lines. map numbered_way lines.cases.ways.items ≡ reverse (case_ways (stmts_of (map stmt_tree stmts.now)) lines.begin.first (around onward))) }
-    ensures other { IfOk result (λ lines. lines.cases.other ≡ default_to (stmts_of (map stmt_tree stmts.now)) lines.begin.first (around onward)) }
-    ensures nodes { IfOk result (λ lines. map numbered_node out.new.items ≡ map numbered_node out.old.items ++ reverse (list_numbered (stmts_of (map stmt_tree stmts.now)) 0 lines.begin.first path.now (jump_by jumps.now) (around onward))) }
+    ensures enter { IfOk result (λ lines. lines.begin.enter ≡ enter_list (stmts_of (map stmt_tree stmts.now)) lines.begin.first (the_around around.entry.onward)) }
+    ensures ways { IfOk result (λ lines. map numbered_way lines.cases.ways.items ≡ reverse (case_ways (stmts_of (map stmt_tree stmts.now)) lines.begin.first (the_around around.entry.onward))) }
+    ensures other { IfOk result (λ lines. lines.cases.other ≡ default_to (stmts_of (map stmt_tree stmts.now)) lines.begin.first (the_around around.entry.onward)) }
+    ensures nodes { IfOk result (λ lines. map numbered_node out.new.items ≡ map numbered_node out.old.items ++ reverse (list_numbered (stmts_of (map stmt_tree stmts.now)) 0 lines.begin.first path.now (jump_by around.entry.jumps.now) (the_around around.entry.onward))) }
 {
+    let onward = around.onward;
     let mut first = end;
     let mut enter = onward.leave;
     let mut cases = Cases {
@@ -412,7 +424,11 @@ fn emit_lines(
             leave: enter,
             ..onward
         };
-        let begin = emit_inner(alloc, stmt, path, step(i)?, first, jumps, past, out)?;
+        let past = Around {
+            onward: past,
+            ..around
+        };
+        let begin = emit_inner(alloc, stmt, path, step(i)?, first, past, out)?;
         first = begin.first;
         enter = begin.enter;
     }

@@ -27,4 +27,4 @@ returns c =
     let is_jump : jump_by c.in_ok-jumps.jumps ≡ jump_of tree start =
     fun_ext (λ name. c.in_ok-jumps.ensures name ∙ ap (λ n. led slice n last name) is_begin ∙ ap (λ b. led b (start + 1) last name) c.as_slice-body.ensures.value ∙ ap (λ e. led f.body.items (start + 1) e name) is_last) in
     ap (map numbered_node) c.reverse.ensures.items
-    ∙ function_made tree (stmts_of (map stmt_tree slice)) start first c.in_ok-begin.begin.enter c.as_slice.result.now (jump_by c.in_ok-jumps.jumps) (around c.all_to-onward.result) c.push_entry.new.nodes.items (map numbered_node c.in_ok-nodes.nodes.items) (map numbered_node c.emit_list.new.out.items) is_body is_first (c.as_slice.ensures.value ∙ c.new-path.ensures.items) is_jump (c.all_to-onward.ensures ∙ ap all_to is_last) c.in_ok-nodes.ensures c.in_ok-begin.ensures.enter c.in_ok-begin.ensures.nodes c.in_ok-push_entry.ensures
+    ∙ function_made tree (stmts_of (map stmt_tree slice)) start first c.in_ok-begin.begin.enter c.as_slice.result.now (jump_by c.in_ok-jumps.jumps) (around c.all_to.result) c.push_entry.new.nodes.items (map numbered_node c.in_ok-nodes.nodes.items) (map numbered_node c.emit_list.new.out.items) is_body is_first (c.as_slice.ensures.value ∙ c.new-path.ensures.items) is_jump (c.all_to.ensures ∙ ap all_to is_last) c.in_ok-nodes.ensures c.in_ok-begin.ensures.enter c.in_ok-begin.ensures.nodes c.in_ok-push_entry.ensures

@@ -31,9 +31,9 @@ emit_lines-emit_inner-requires t c =
 
 pub emit_for-returns-clause-nodes : goal.emit_for-returns-clause-nodes
 emit_for-returns-clause-nodes t c =
-    let begin = map part_tree c.args.first.now in
-    let test = part_tree c.args.test.now in
-    let third = map part_tree c.args.third.now in
+    let begin = map part_tree c.args.head.first.now in
+    let test = part_tree c.args.head.test.now in
+    let third = map part_tree c.args.head.third.now in
     let again = c.begin_again-again.result in
     let first = c.in_ok-begin.begin.first in
     let at_end : first + count_head begin test third ≡ c.in_ok-begun.begun.first = c.in_ok-begin.ensures.first in
@@ -43,9 +43,9 @@ emit_for-returns-clause-nodes t c =
     let onward =
     c.begin_again-again.ensures.third_enter
     ∙ ap (λ e. enter_parts third again.third.first e) c.begin_again-again.ensures.test_enter
-    ∙ ap (λ k. enter_parts third again.third.first (enter_part test k c.args.onward.leave)) at_test
-    ∙ ap (λ k. enter_parts third k (enter_part test (first + count_parts begin) c.args.onward.leave)) at_third in
-    for_emitted begin test third (stmt_tree c.args.body.now) first c.args.path.now (jump_by c.args.jumps.now) (around c.args.onward) (around c.looping-within.result) c.in_ok-begun.begun.enter c.in_ok-begun.begun.first again.third.enter _ _ _ at_end c.looping-within.ensures onward c.in_ok-begun.ensures.enter c.in_ok-begun.ensures.nodes c.in_ok-begin.ensures.nodes
+    ∙ ap (λ k. enter_parts third again.third.first (enter_part test k c.args.around.onward.leave)) at_test
+    ∙ ap (λ k. enter_parts third k (enter_part test (first + count_parts begin) c.args.around.onward.leave)) at_third in
+    for_emitted begin test third (stmt_tree c.args.body.now) first c.args.path.now (jump_by c.args.around.jumps.now) (around c.args.around.onward) (around c.looping.result) c.in_ok-begun.begun.enter c.in_ok-begun.begun.first again.third.enter _ _ _ at_end c.looping.ensures onward c.in_ok-begun.ensures.enter c.in_ok-begun.ensures.nodes c.in_ok-begin.ensures.nodes
 
 pub emit-emit_switch-requires : goal.emit-emit_switch-requires
 emit-emit_switch-requires t c = search (rules, row_trees-list, the_lemmas)
