@@ -26,9 +26,9 @@ impl Reading {
         outcome: Option<IntKind>,
         temps: u32,
     ) -> Result<(), Unread> {
-        let params = all(self.alloc, &mut self.members)?;
-        let locals = all(self.alloc, &mut self.locals)?;
-        let body = self.block()?;
+        let params = all(self.lines.alloc, &mut self.lines.parts.operands.members)?;
+        let locals = all(self.lines.alloc, &mut self.locals)?;
+        let body = self.lines.block()?;
         let function = Function {
             name,
             params,
@@ -42,38 +42,38 @@ impl Reading {
     }
 
     fn read_any_function(&mut self, fields: &mut Fields<'_>) -> Result<(), Unread> {
-        let name = fields.name(self.alloc)?;
+        let name = fields.name(self.lines.alloc)?;
         let outcome = fields.outcome()?;
         let temps = fields.count()?;
         self.push_function(name, outcome, temps)
     }
 
     fn read_main(&mut self) -> Result<(), Unread> {
-        let name = Text::new(self.alloc, b"main")?;
+        let name = Text::new(self.lines.alloc, b"main")?;
         self.push_function(name, Some(IntKind::Int), 0)
     }
 
     /// `#start`, which calls `main` into its temporary 1.
     fn read_start(&mut self) -> Result<(), Unread> {
         let call = CallLabel {
-            callee: Text::new(self.alloc, b"main")?,
-            params: Vec::new(self.alloc),
+            callee: Text::new(self.lines.alloc, b"main")?,
+            params: Vec::new(self.lines.alloc),
             result: Some(IntKind::Int),
-            args: Vec::new(self.alloc),
+            args: Vec::new(self.lines.alloc),
             temp: Some(1),
         };
-        self.read_close()?;
-        self.push_call(call)?;
-        self.read_lines(1)?;
-        self.read_open()?;
-        let name = Text::new(self.alloc, b"#start")?;
+        self.lines.read_close()?;
+        self.lines.parts.push_call(call)?;
+        self.lines.read_lines(1)?;
+        self.lines.read_open()?;
+        let name = Text::new(self.lines.alloc, b"#start")?;
         self.push_function(name, None, 1)
     }
 
     fn read_object(&mut self, fields: &mut Fields<'_>) -> Result<(), Unread> {
-        let name = fields.name(self.alloc)?;
+        let name = fields.name(self.lines.alloc)?;
         let number = fields.count()?;
-        let ctype = last(&mut self.types)?;
+        let ctype = last(&mut self.lines.parts.operands.types)?;
         let object = LocalVar {
             name,
             number,
@@ -83,9 +83,9 @@ impl Reading {
     }
 
     fn read_static(&mut self, fields: &mut Fields<'_>) -> Result<(), Unread> {
-        let name = fields.name(self.alloc)?;
-        let initial = fields.numbers(self.alloc)?;
-        let ctype = last(&mut self.types)?;
+        let name = fields.name(self.lines.alloc)?;
+        let initial = fields.numbers(self.lines.alloc)?;
+        let ctype = last(&mut self.lines.parts.operands.types)?;
         let object = GlobalVar {
             name,
             ctype,

@@ -2,15 +2,41 @@
 use crate::error::Unread;
 use crate::fields::Fields;
 use crate::lists::{all, last, push};
-use crate::reading::Reading;
+use crate::values::Values;
 use csub_core::{Answer, CallLabel, EndRule, Label, Place, RCall, RPart, Span};
+use std::alloc::Global;
 
 /// The place of what stands in no source.
 pub const NOWHERE: Span = Span { start: 0, end: 0 };
 
-impl Reading {
+/// The parts whose statements aren't read yet, and what is still an operand.
+#[derive(Drop)]
+pub struct Parts {
+    pub operands: Values,
+    /// The part that stands first in the text is last.
+    pub parts: Vec<RPart>,
+}
+
+impl Parts {
+    /// None.
+    pub fn new(alloc: Global) -> Parts {
+        Parts {
+            operands: Values::new(alloc),
+            parts: Vec::new(alloc),
+        }
+    }
+
+    /// Reads a word of a part, or of its operands. `false` where it is none.
+    pub fn read(&mut self, name: &str, fields: &mut Fields<'_>) -> Result<bool, Unread> {
+        Ok(
+            self.operands.read_type(name, fields)?
+                || self.operands.read_value(name, fields)?
+                || self.read_part(name, fields)?,
+        )
+    }
+
     /// Reads a word of a part. `false` where it is none.
-    pub fn read_part(&mut self, name: &str, fields: &mut Fields<'_>) -> Result<bool, Unread> {
+    fn read_part(&mut self, name: &str, fields: &mut Fields<'_>) -> Result<bool, Unread> {
         match name {
             "eval" => self.read_evaluation()?,
             "test" => self.read_test()?,
@@ -30,7 +56,7 @@ impl Reading {
 
     fn push_part(&mut self, label: Label) -> Result<(), Unread> {
         let part = RPart {
-            calls: Vec::new(self.alloc),
+            calls: Vec::new(self.operands.alloc),
             main: Some(label),
             span: NOWHERE,
         };
@@ -38,17 +64,17 @@ impl Reading {
     }
 
     fn read_evaluation(&mut self) -> Result<(), Unread> {
-        let value = last(&mut self.values)?;
+        let value = last(&mut self.operands.values)?;
         self.push_part(Label::Eval(Box::into_inner(value)))
     }
 
     fn read_test(&mut self) -> Result<(), Unread> {
-        let value = last(&mut self.values)?;
+        let value = last(&mut self.operands.values)?;
         self.push_part(Label::Branch(Box::into_inner(value)))
     }
 
     fn read_switch_value(&mut self) -> Result<(), Unread> {
-        let value = last(&mut self.values)?;
+        let value = last(&mut self.operands.values)?;
         self.push_part(Label::Switch(Box::into_inner(value)))
     }
 
@@ -57,18 +83,18 @@ impl Reading {
             return self.push_part(Label::Return(None));
         }
         let kind = fields.kind()?;
-        let value = Box::into_inner(last(&mut self.values)?);
+        let value = Box::into_inner(last(&mut self.operands.values)?);
         self.push_part(Label::Return(Some(Answer { kind, value })))
     }
 
     fn read_exit(&mut self) -> Result<(), Unread> {
-        let value = last(&mut self.values)?;
+        let value = last(&mut self.operands.values)?;
         self.push_part(Label::Halt(Box::into_inner(value)))
     }
 
     fn read_initialisation(&mut self) -> Result<(), Unread> {
-        let place = last(&mut self.places)?;
-        let contents = last(&mut self.initialisers)?;
+        let place = last(&mut self.operands.places)?;
+        let contents = last(&mut self.operands.initialisers)?;
         match Box::into_inner(place) {
             Place::Var(owner, ctype) => self.push_part(Label::Init(owner, ctype, contents)),
             _ => Err(Unread::Operand),
@@ -87,11 +113,11 @@ impl Reading {
     }
 
     fn read_call(&mut self, fields: &mut Fields<'_>) -> Result<(), Unread> {
-        let callee = fields.name(self.alloc)?;
+        let callee = fields.name(self.operands.alloc)?;
         let outcome = fields.outcome()?;
         let number = fields.count()?;
-        let params = all(self.alloc, &mut self.members)?;
-        let args = all(self.alloc, &mut self.arguments)?;
+        let params = all(self.operands.alloc, &mut self.operands.members)?;
+        let args = all(self.operands.alloc, &mut self.operands.arguments)?;
         let temp = if number == 0 { None } else { Some(number) };
         self.push_call(CallLabel {
             callee,
@@ -104,7 +130,7 @@ impl Reading {
 
     /// Adds a part that is a call as a whole.
     pub fn push_call(&mut self, label: CallLabel) -> Result<(), Unread> {
-        let mut calls = Vec::new(self.alloc);
+        let mut calls = Vec::new(self.operands.alloc);
         let span = NOWHERE;
         push(&mut calls, RCall { label, span })?;
         let part = RPart {

@@ -2,30 +2,15 @@
 use crate::error::Unread;
 use crate::fields::Fields;
 use crate::lists::{all, last, push};
-use csub_core::{
-    CType, Function, GlobalVar, Label, LocalVar, Member, Place, Program, RArg, RExpr, RInit, RPart,
-    RStmt,
-};
+use crate::statements::Lines;
+use csub_core::{Function, GlobalVar, Label, LocalVar, Program, RPart};
 use std::alloc::Global;
 
 /// What the words of the end of a text stand for: of each sort a list, in which the one that stands first in the text is
 /// last. A text is read from its end, so that a word finds its operands at the ends of these lists.
 #[derive(Drop)]
 pub struct Reading {
-    pub alloc: Global,
-    pub types: Vec<CType>,
-    pub members: Vec<Member>,
-    pub places: Vec<Box<Place>>,
-    pub values: Vec<Box<RExpr>>,
-    pub initialisers: Vec<RInit>,
-    pub arguments: Vec<RArg>,
-    pub parts: Vec<RPart>,
-    /// The statements of the innermost block whose `{` isn't read yet.
-    pub lines: Vec<RStmt>,
-    /// Those of the blocks around it.
-    pub outer: Vec<Vec<RStmt>>,
-    /// Whole blocks, each in the order of the text.
-    pub blocks: Vec<Vec<RStmt>>,
+    pub lines: Lines,
     pub locals: Vec<LocalVar>,
     pub functions: Vec<Function>,
     pub globals: Vec<GlobalVar>,
@@ -34,17 +19,7 @@ pub struct Reading {
 impl Reading {
     fn new(alloc: Global) -> Reading {
         Reading {
-            alloc,
-            types: Vec::new(alloc),
-            members: Vec::new(alloc),
-            places: Vec::new(alloc),
-            values: Vec::new(alloc),
-            initialisers: Vec::new(alloc),
-            arguments: Vec::new(alloc),
-            parts: Vec::new(alloc),
-            lines: Vec::new(alloc),
-            outer: Vec::new(alloc),
-            blocks: Vec::new(alloc),
+            lines: Lines::new(alloc),
             locals: Vec::new(alloc),
             functions: Vec::new(alloc),
             globals: Vec::new(alloc),
@@ -55,10 +30,7 @@ impl Reading {
     fn read_word(&mut self, word: &str) -> Result<(), Unread> {
         let mut fields = Fields::new(word);
         let name = fields.next()?;
-        let is_known = self.read_type(name, &mut fields)?
-            || self.read_value(name, &mut fields)?
-            || self.read_part(name, &mut fields)?
-            || self.read_statement(name, &mut fields)?
+        let is_known = self.lines.read(name, &mut fields)?
             || self.read_function(name, &mut fields)?;
         if is_known && fields.is_done() {
             Ok(())
@@ -79,12 +51,7 @@ impl Reading {
 
     /// Whether nothing is left but parts, functions and objects of file scope.
     fn is_whole(&self) -> bool {
-        let is_said = self.types.is_empty() && self.members.is_empty() && self.places.is_empty();
-        let is_made = self.values.is_empty()
-            && self.initialisers.is_empty()
-            && self.arguments.is_empty();
-        let is_closed = self.lines.is_empty() && self.outer.is_empty() && self.blocks.is_empty();
-        is_said && is_made && is_closed && self.locals.is_empty()
+        self.lines.parts.operands.are_used() && self.lines.are_used() && self.locals.is_empty()
     }
 }
 
@@ -102,7 +69,7 @@ fn read(alloc: Global, text: &str) -> Result<Reading, Unread> {
 /// The program that a text stands for, by its functions and its objects of file scope; `None` where it is not valid.
 pub fn read_program(alloc: Global, text: &str) -> Result<Option<Program>, Unread> {
     let mut reading = read(alloc, text)?;
-    if !reading.parts.is_empty() {
+    if !reading.lines.parts.parts.is_empty() {
         return Err(Unread::Operand);
     }
     let functions = all(alloc, &mut reading.functions)?;
@@ -118,9 +85,10 @@ pub fn accepts(alloc: Global, text: &str) -> Result<bool, Unread> {
 /// The labels that a text stands for, by its parts.
 pub fn read_labels(alloc: Global, text: &str) -> Result<Vec<Label>, Unread> {
     let mut reading = read(alloc, text)?;
+    let parts = &mut reading.lines.parts.parts;
     let mut labels = Vec::new(alloc);
-    for _ in 0..reading.parts.len() {
-        push(&mut labels, label_of(last(&mut reading.parts)?)?)?;
+    for _ in 0..parts.len() {
+        push(&mut labels, label_of(last(parts)?)?)?;
     }
     if reading.functions.is_empty() && reading.globals.is_empty() {
         Ok(labels)

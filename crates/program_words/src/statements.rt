@@ -2,13 +2,48 @@
 use crate::error::Unread;
 use crate::fields::Fields;
 use crate::lists::{all, boxed, last, last_ones, push};
-use crate::reading::Reading;
+use crate::parts::Parts;
 use csub_core::{RPart, RStmt};
+use std::alloc::Global;
 use std::mem;
 
-impl Reading {
+/// The statements of the blocks whose `{` isn't read yet, and whole blocks.
+#[derive(Drop)]
+pub struct Lines {
+    pub alloc: Global,
+    pub parts: Parts,
+    /// The statements of the innermost block, of which the one that stands first in the text is last.
+    lines: Vec<RStmt>,
+    /// Those of the blocks around it.
+    outer: Vec<Vec<RStmt>>,
+    /// Whole blocks, each in the order of the text.
+    blocks: Vec<Vec<RStmt>>,
+}
+
+impl Lines {
+    /// None.
+    pub fn new(alloc: Global) -> Lines {
+        Lines {
+            alloc,
+            parts: Parts::new(alloc),
+            lines: Vec::new(alloc),
+            outer: Vec::new(alloc),
+            blocks: Vec::new(alloc),
+        }
+    }
+
+    /// Whether none is left.
+    pub fn are_used(&self) -> bool {
+        self.lines.is_empty() && self.outer.is_empty() && self.blocks.is_empty()
+    }
+
+    /// Reads a word of a statement, or of its parts. `false` where it is none.
+    pub fn read(&mut self, name: &str, fields: &mut Fields<'_>) -> Result<bool, Unread> {
+        Ok(self.parts.read(name, fields)? || self.read_statement(name, fields)?)
+    }
+
     /// Reads a word of a statement. `false` where it is none.
-    pub fn read_statement(&mut self, name: &str, fields: &mut Fields<'_>) -> Result<bool, Unread> {
+    fn read_statement(&mut self, name: &str, fields: &mut Fields<'_>) -> Result<bool, Unread> {
         match name {
             "}" => self.read_close()?,
             "{" => self.read_open()?,
@@ -47,7 +82,7 @@ impl Reading {
 
     /// Adds a statement of so many parts.
     pub fn read_lines(&mut self, count: u32) -> Result<(), Unread> {
-        let parts = last_ones(self.alloc, &mut self.parts, count as usize)?;
+        let parts = last_ones(self.alloc, &mut self.parts.parts, count as usize)?;
         self.push_line(RStmt::Parts(parts))
     }
 
@@ -67,7 +102,7 @@ impl Reading {
 
     /// The part that was read last.
     fn part(&mut self) -> Result<RPart, Unread> {
-        last(&mut self.parts)
+        last(&mut self.parts.parts)
     }
 
     /// The block that was read last.
@@ -109,9 +144,9 @@ impl Reading {
     fn read_for(&mut self, fields: &mut Fields<'_>) -> Result<(), Unread> {
         let first = fields.count()?;
         let third = fields.count()?;
-        let before = last_ones(self.alloc, &mut self.parts, first as usize)?;
-        let mut tests = last_ones(self.alloc, &mut self.parts, 1)?;
-        let behind = last_ones(self.alloc, &mut self.parts, third as usize)?;
+        let before = last_ones(self.alloc, &mut self.parts.parts, first as usize)?;
+        let mut tests = last_ones(self.alloc, &mut self.parts.parts, 1)?;
+        let behind = last_ones(self.alloc, &mut self.parts.parts, third as usize)?;
         let body = self.body()?;
         let test = last(&mut tests)?;
         self.push_line(RStmt::For(before, test, behind, body))

@@ -2,11 +2,11 @@
 use crate::error::Unread;
 use crate::fields::{Fields, kind_in};
 use crate::lists::{boxed, last, last_ones, push};
-use crate::reading::Reading;
+use crate::values::Values;
 use csub_core::{CType, Member, Owner, Place};
 use csub_objects::{array_of, loose_of, struct_of};
 
-impl Reading {
+impl Values {
     /// Reads a word of a type, a member or a place. `false` where it is none.
     pub fn read_type(&mut self, name: &str, fields: &mut Fields<'_>) -> Result<bool, Unread> {
         match name {

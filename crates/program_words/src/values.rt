@@ -1,11 +1,43 @@
-//! Values, initialisers and arguments.
+//! The operands of parts; of these the words of values, initialisers and arguments.
 use crate::error::Unread;
 use crate::fields::{Fields, number_in};
 use crate::lists::{boxed, last, last_ones, push};
-use crate::reading::Reading;
-use csub_core::{BinOp, IntKind, RArg, RExpr, RInit, UnaryOp};
+use csub_core::{BinOp, CType, IntKind, Member, Place, RArg, RExpr, RInit, UnaryOp};
+use std::alloc::Global;
 
-impl Reading {
+/// The operands of parts, of each sort a list, in which the one that stands first in the text is last.
+#[derive(Drop)]
+pub struct Values {
+    pub alloc: Global,
+    pub types: Vec<CType>,
+    pub members: Vec<Member>,
+    pub places: Vec<Box<Place>>,
+    pub values: Vec<Box<RExpr>>,
+    pub initialisers: Vec<RInit>,
+    pub arguments: Vec<RArg>,
+}
+
+impl Values {
+    /// None.
+    pub fn new(alloc: Global) -> Values {
+        Values {
+            alloc,
+            types: Vec::new(alloc),
+            members: Vec::new(alloc),
+            places: Vec::new(alloc),
+            values: Vec::new(alloc),
+            initialisers: Vec::new(alloc),
+            arguments: Vec::new(alloc),
+        }
+    }
+
+    /// Whether none is left.
+    pub fn are_used(&self) -> bool {
+        let is_said = self.types.is_empty() && self.members.is_empty() && self.places.is_empty();
+        let is_made = self.values.is_empty() && self.initialisers.is_empty();
+        is_said && is_made && self.arguments.is_empty()
+    }
+
     /// Reads a word of a value, an initialiser or an argument. `false` where it is none.
     pub fn read_value(&mut self, name: &str, fields: &mut Fields<'_>) -> Result<bool, Unread> {
         match name {
