@@ -1,4 +1,5 @@
 // How deep is read, and which token is refused where there is no more depth.
+use crate::tests::nesting::repeated;
 use csub_expr::expression::{assign, conditional, number};
 use csub_expr::initialiser::init;
 use csub_expr::stop::Stop;
@@ -30,27 +31,12 @@ fn token(alloc: Global, byte: u8) -> Result<Token, AllocError> {
     Ok(Token { kind, span })
 }
 
-// So many times the tokens before, then the middle, then as often those behind.
-fn nested(
-    alloc: Global,
-    times: u32,
-    before: &[u8],
-    middle: &[u8],
-    behind: &[u8],
-) -> Result<Vec<Token>, AllocError> {
+// A token for each byte of the text that is repeated.
+fn tokens_of(alloc: Global, text: &str, times: u64) -> Result<Vec<Token>, AllocError> {
+    let whole = repeated(alloc, text, times)?;
     let mut tokens = Vec::new(alloc);
-    for _ in 0..times {
-        for byte in before {
-            tokens.push(token(alloc, *byte)?)?;
-        }
-    }
-    for byte in middle {
+    for byte in whole.as_bytes() {
         tokens.push(token(alloc, *byte)?)?;
-    }
-    for _ in 0..times {
-        for byte in behind {
-            tokens.push(token(alloc, *byte)?)?;
-        }
     }
     Ok(tokens)
 }
@@ -71,127 +57,81 @@ fn read_whole(alloc: Global, tokens: &[Token]) -> Reading {
     }
 }
 
-fn of_nested(alloc: Global, times: u32, before: &[u8], middle: &[u8], behind: &[u8]) -> Reading {
-    match nested(alloc, times, before, middle, behind) {
-        Ok(tokens) => read_whole(alloc, &tokens),
-        Err(_) => Reading::Memory,
+// Each row has a text, how often it repeats, and what is read of its tokens.
+fn readings_agree(
+    rt: &impl Abort,
+    alloc: Global,
+    rows: &[(&str, u64, Reading)],
+) -> Result<(), AllocError> {
+    for &(text, times, expected) in rows {
+        let tokens = tokens_of(alloc, text, times)?;
+        assert_eq!(rt;
+            read_whole(alloc, &tokens),
+            expected,
+            "{times} times {text}"
+        );
     }
-}
-
-// The 256th opening parenthesis, which is token 255, has no room for an expression in it.
-#[test]
-fn parentheses_are_read_255_deep(rt: HostRuntime) {
-    assert_eq!(rt;
-        of_nested(rt.alloc(), 255, b"(", b"a", b")"),
-        Reading::Read(256, 0)
-    );
-    assert_eq!(rt;
-        of_nested(rt.alloc(), 256, b"(", b"a", b")"),
-        Reading::Refused(513 - 255)
-    );
+    Ok(())
 }
 
 #[test]
-fn unary_operators_are_read_255_deep(rt: HostRuntime) {
-    assert_eq!(rt;
-        of_nested(rt.alloc(), 255, b"-", b"a", b""),
-        Reading::Read(256, 0)
-    );
-    assert_eq!(rt;
-        of_nested(rt.alloc(), 256, b"-", b"a", b""),
-        Reading::Refused(257 - 255)
-    );
-}
-
-// The bracket that would be one too deep is token 511.
-#[test]
-fn indices_are_read_255_deep(rt: HostRuntime) {
-    assert_eq!(rt;
-        of_nested(rt.alloc(), 255, b"a[", b"a", b"]"),
-        Reading::Read(256, 0)
-    );
-    assert_eq!(rt;
-        of_nested(rt.alloc(), 256, b"a[", b"a", b"]"),
-        Reading::Refused(769 - 511)
-    );
-}
-
-// A call without arguments is one node, so 256 of them stand in each other. The name of the next is token 512.
-#[test]
-fn calls_are_read_256_deep(rt: HostRuntime) {
-    assert_eq!(rt;
-        of_nested(rt.alloc(), 256, b"a(", b"", b")"),
-        Reading::Read(256, 0)
-    );
-    assert_eq!(rt;
-        of_nested(rt.alloc(), 257, b"a(", b"", b")"),
-        Reading::Refused(771 - 512)
-    );
-}
-
-// What is too deep to the right is left behind the expression.
-#[test]
-fn assignments_and_choices_are_read_255_deep(rt: HostRuntime) {
-    assert_eq!(rt;
-        of_nested(rt.alloc(), 255, b"a=", b"a", b""),
-        Reading::Read(256, 0)
-    );
-    assert_eq!(rt;
-        of_nested(rt.alloc(), 256, b"a=", b"a", b""),
-        Reading::Read(256, 2)
-    );
-    assert_eq!(rt;
-        of_nested(rt.alloc(), 255, b"a?a:", b"a", b""),
-        Reading::Read(256, 0)
-    );
+fn expressions_are_read_up_to_the_depth_256(rt: HostRuntime) -> Result<(), AllocError> {
+    readings_agree(
+        &rt,
+        rt.alloc(),
+        &[
+            // The 256th opening parenthesis, which is token 255, has no room for an expression in it.
+            ("@(@a@)@", 255, Reading::Read(256, 0)),
+            ("@(@a@)@", 256, Reading::Refused(513 - 255)),
+            ("@-@a", 255, Reading::Read(256, 0)),
+            ("@-@a", 256, Reading::Refused(257 - 255)),
+            // The bracket that would be one too deep is token 511.
+            ("@a[@a@]@", 255, Reading::Read(256, 0)),
+            ("@a[@a@]@", 256, Reading::Refused(769 - 511)),
+            // A call without arguments is one node, so 256 of them stand in each other. The name of the next is token 512.
+            ("@a(@@)@", 256, Reading::Read(256, 0)),
+            ("@a(@@)@", 257, Reading::Refused(771 - 512)),
+        ],
+    )
 }
 
 #[test]
-fn sums_are_read_255_operators_long(rt: HostRuntime) {
-    assert_eq!(rt;
-        of_nested(rt.alloc(), 255, b"", b"a", b"+a"),
-        Reading::Read(256, 0)
-    );
-    assert_eq!(rt;
-        of_nested(rt.alloc(), 256, b"", b"a", b"+a"),
-        Reading::Read(256, 2)
-    );
+fn what_is_too_deep_to_the_right_is_left_behind_the_expression(
+    rt: HostRuntime,
+) -> Result<(), AllocError> {
+    readings_agree(
+        &rt,
+        rt.alloc(),
+        &[
+            ("@a=@a", 255, Reading::Read(256, 0)),
+            ("@a=@a", 256, Reading::Read(256, 2)),
+            ("@a?a:@a", 255, Reading::Read(256, 0)),
+            ("a@+a@", 255, Reading::Read(256, 0)),
+            ("a@+a@", 256, Reading::Read(256, 2)),
+        ],
+    )
 }
 
-// A list needs an initialiser in it and that one an expression, so the 255th brace, token 254, is refused.
+// A list needs an initialiser in it and that one an expression, so the 255th brace, token 254 of 511, is refused.
 #[test]
-fn initialiser_lists_are_read_254_deep(rt: HostRuntime) {
-    let Ok(deep) = nested(rt.alloc(), 254, b"{", b"a", b",}") else {
-        assert!(rt; false);
-        return;
-    };
-    let Ok((_, rest)) = init(rt.alloc(), &deep, 256) else {
-        assert!(rt; false);
-        return;
-    };
-    assert!(rt; rest.is_empty());
-    let Ok(deeper) = nested(rt.alloc(), 255, b"{", b"a", b"}") else {
-        assert!(rt; false);
-        return;
-    };
-    let refused = match init(rt.alloc(), &deeper, 256) {
-        Err(Stop::At(left)) => left,
-        _ => 0,
-    };
-    assert_eq!(rt; refused, 511 - 254);
+fn initialiser_lists_are_read_254_deep(rt: HostRuntime) -> Result<(), AllocError> {
+    let alloc = rt.alloc();
+    let deep = tokens_of(alloc, "@{@a@,}@", 254)?;
+    assert!(rt; matches!(init(alloc, &deep, 256), Ok((_, []))));
+    let deeper = tokens_of(alloc, "@{@a@}@", 255)?;
+    assert!(rt; matches!(init(alloc, &deeper, 256), Err(Stop::At(257))));
+    Ok(())
 }
 
 #[test]
-fn a_conditional_expression_ends_before_an_assignment(rt: HostRuntime) {
-    let Ok(tokens) = nested(rt.alloc(), 1, b"a=", b"1", b"") else {
-        assert!(rt; false);
-        return;
-    };
+fn a_conditional_expression_ends_before_an_assignment(rt: HostRuntime) -> Result<(), AllocError> {
+    let tokens = tokens_of(rt.alloc(), "a=1", 1)?;
     let left = match conditional(rt.alloc(), &tokens, 256) {
         Ok((_, _, rest)) => rest.len(),
         Err(_) => 0,
     };
     assert_eq!(rt; left, 2);
+    Ok(())
 }
 
 #[test]

@@ -1,239 +1,92 @@
 // Nesting up to the greatest depth, 256, and one more.
-ghost use Rattle.std.specs.Prelude.{ℕ, ◌≤◌};
-
 use crate::tests::shown;
 use std::alloc::{AllocError, Global};
 use std::process::Abort;
 use std::test::Fail;
 
-// A source that nests a piece: what stands before, the piece, what stands within, what closes the piece, what stands behind.
-#[derive(Clone, Copy)]
-struct Nest {
-    front: &'static str,
-    opens: &'static str,
-    within: &'static str,
-    closes: &'static str,
-    back: &'static str,
+/// The text, in which what stands between the first `@` and the second is repeated so many times, what stands between the
+/// third and the fourth likewise, and so on.
+pub(crate) fn repeated(alloc: Global, text: &str, times: u64) -> Result<String, AllocError> {
+    let mut whole = String::new(alloc);
+    let mut is_between = false;
+    for piece in text.split('@') {
+        for _ in 0..if is_between { times } else { 1 } {
+            whole.push_str(piece)?;
+        }
+        is_between = !is_between;
+    }
+    Ok(whole)
 }
 
-fn nested(alloc: Global, nest: &Nest, times: u32) -> Result<String, AllocError> {
-    let mut text = String::from_str(alloc, nest.front)?;
-    for _ in 0..times {
-        text.push_str(nest.opens)?;
+// Each row's source is read with so many times of what it repeats, as the third says, and refused with one time more, as the
+// fourth does.
+fn deepest(rt: &impl Abort, alloc: Global, rows: &[(&str, u32, &str, &str)]) -> Result<(), Fail> {
+    for &(source, times, good, bad) in rows {
+        let times = u64::from(times);
+        let found = shown(alloc, repeated(alloc, source, times)?.as_str())?;
+        assert!(rt; found.as_str() == good, "{source} gave {found}");
+        let found = shown(alloc, repeated(alloc, source, times + 1)?.as_str())?;
+        assert!(rt; found.as_str() == bad, "{source} gave {found}");
     }
-    text.push_str(nest.within)?;
-    for _ in 0..times {
-        text.push_str(nest.closes)?;
-    }
-    text.push_str(nest.back)?;
-    Ok(text)
-}
-
-// So many times are read, as `good`, and one time more is refused, as `bad`.
-fn deepest(
-    rt: &impl Abort,
-    alloc: Global,
-    nest: &Nest,
-    times: u32,
-    good: &str,
-    bad: &str,
-) -> Result<(), Fail>
-    requires { times ≤ 254 }
-{
-    let found = shown(alloc, nested(alloc, nest, times)?.as_str())?;
-    assert!(rt; found.as_str() == good, "{} gave {found}", nest.opens);
-    let found = shown(alloc, nested(alloc, nest, times + 1)?.as_str())?;
-    assert!(rt; found.as_str() == bad, "{} gave {found}", nest.opens);
     Ok(())
 }
 
 #[test]
-fn parentheses(rt: HostRuntime) -> Result<(), Fail> {
-    let nest = Nest {
-        front: "int main(void) { return ",
-        opens: "(",
-        within: "0",
-        closes: ")",
-        back: "; }",
-    };
+fn expressions_and_initialisers_are_read_up_to_the_depth_256(rt: HostRuntime) -> Result<(), Fail> {
     deepest(
         &rt,
         rt.alloc(),
-        &nest,
-        252,
-        "256 function return",
-        "syntax 259",
+        &[
+            (
+                "int main(void) { return @(@0@)@; }",
+                252,
+                "256 function return",
+                "syntax 259",
+            ),
+            ("int a = @!@1;", 252, "256 object", "syntax 255"),
+            ("int a = @(int)@1;", 252, "256 object", "syntax 759"),
+            ("int a = @f(@1@)@;", 252, "256 object", "syntax 509"),
+            ("int a = a@[0]@;", 252, "256 object", "syntax 760"),
+            ("int a = @{@1@}@;", 252, "256 object", "syntax 255"),
+            // to the right
+            ("int a = @a = @1;", 252, "256 object", "syntax 508"),
+            ("int a = @a ? a : @1;", 252, "256 object", "syntax 1012"),
+            // to the left
+            ("int a = 1@ + 1@;", 252, "256 object", "syntax 508"),
+        ],
     )
 }
 
 #[test]
-fn unary_operators(rt: HostRuntime) -> Result<(), Fail> {
-    let nest = Nest {
-        front: "int a = ",
-        opens: "!",
-        within: "1",
-        closes: "",
-        back: ";",
-    };
-    deepest(&rt, rt.alloc(), &nest, 252, "256 object", "syntax 255")
-}
-
-#[test]
-fn casts(rt: HostRuntime) -> Result<(), Fail> {
-    let nest = Nest {
-        front: "int a = ",
-        opens: "(int)",
-        within: "1",
-        closes: "",
-        back: ";",
-    };
-    deepest(&rt, rt.alloc(), &nest, 252, "256 object", "syntax 759")
-}
-
-#[test]
-fn calls(rt: HostRuntime) -> Result<(), Fail> {
-    let nest = Nest {
-        front: "int a = ",
-        opens: "f(",
-        within: "1",
-        closes: ")",
-        back: ";",
-    };
-    deepest(&rt, rt.alloc(), &nest, 252, "256 object", "syntax 509")
-}
-
-#[test]
-fn right_nested_assignments(rt: HostRuntime) -> Result<(), Fail> {
-    let nest = Nest {
-        front: "int a = ",
-        opens: "a = ",
-        within: "1",
-        closes: "",
-        back: ";",
-    };
-    deepest(&rt, rt.alloc(), &nest, 252, "256 object", "syntax 508")
-}
-
-#[test]
-fn choices(rt: HostRuntime) -> Result<(), Fail> {
-    let nest = Nest {
-        front: "int a = ",
-        opens: "a ? a : ",
-        within: "1",
-        closes: "",
-        back: ";",
-    };
-    deepest(&rt, rt.alloc(), &nest, 252, "256 object", "syntax 1012")
-}
-
-#[test]
-fn operators_to_the_left(rt: HostRuntime) -> Result<(), Fail> {
-    let nest = Nest {
-        front: "int a = 1",
-        opens: "",
-        within: "",
-        closes: " + 1",
-        back: ";",
-    };
-    deepest(&rt, rt.alloc(), &nest, 252, "256 object", "syntax 508")
-}
-
-#[test]
-fn indexes(rt: HostRuntime) -> Result<(), Fail> {
-    let nest = Nest {
-        front: "int a = a",
-        opens: "",
-        within: "",
-        closes: "[0]",
-        back: ";",
-    };
-    deepest(&rt, rt.alloc(), &nest, 252, "256 object", "syntax 760")
-}
-
-#[test]
-fn initialiser_lists(rt: HostRuntime) -> Result<(), Fail> {
-    let nest = Nest {
-        front: "int a = ",
-        opens: "{",
-        within: "1",
-        closes: "}",
-        back: ";",
-    };
-    deepest(&rt, rt.alloc(), &nest, 252, "256 object", "syntax 255")
-}
-
-#[test]
-fn blocks(rt: HostRuntime) -> Result<(), Fail> {
-    let nest = Nest {
-        front: "int f(void) {",
-        opens: "{",
-        within: "",
-        closes: "}",
-        back: "}",
-    };
+fn statements_are_read_up_to_the_depth_256(rt: HostRuntime) -> Result<(), Fail> {
     deepest(
         &rt,
         rt.alloc(),
-        &nest,
-        254,
-        "256 function block",
-        "syntax 260",
-    )
-}
-
-#[test]
-fn if_in_else(rt: HostRuntime) -> Result<(), Fail> {
-    let nest = Nest {
-        front: "int f(void) {",
-        opens: "if (a) ; else ",
-        within: ";",
-        closes: "",
-        back: "}",
-    };
-    deepest(
-        &rt,
-        rt.alloc(),
-        &nest,
-        253,
-        "256 function if",
-        "syntax 1524",
-    )
-}
-
-#[test]
-fn loops_in_loops(rt: HostRuntime) -> Result<(), Fail> {
-    let nest = Nest {
-        front: "int f(void) {",
-        opens: "while (a) ",
-        within: ";",
-        closes: "",
-        back: "}",
-    };
-    deepest(
-        &rt,
-        rt.alloc(),
-        &nest,
-        253,
-        "256 function while",
-        "syntax 1018",
-    )
-}
-
-#[test]
-fn labels_behind_labels(rt: HostRuntime) -> Result<(), Fail> {
-    let nest = Nest {
-        front: "int f(void) {",
-        opens: "l: ",
-        within: ";",
-        closes: "",
-        back: "}",
-    };
-    deepest(
-        &rt,
-        rt.alloc(),
-        &nest,
-        253,
-        "256 function label",
-        "syntax 512",
+        &[
+            (
+                "int f(void) {@{@@}@}",
+                254,
+                "256 function block",
+                "syntax 260",
+            ),
+            (
+                "int f(void) {@if (a) ; else @;}",
+                253,
+                "256 function if",
+                "syntax 1524",
+            ),
+            (
+                "int f(void) {@while (a) @;}",
+                253,
+                "256 function while",
+                "syntax 1018",
+            ),
+            (
+                "int f(void) {@l: @;}",
+                253,
+                "256 function label",
+                "syntax 512",
+            ),
+        ],
     )
 }
