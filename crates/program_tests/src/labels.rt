@@ -4,7 +4,7 @@ ghost use Rattle.std.specs.Prelude.{◌≡◌, ◌<◌, length};
 use csub_core::Label;
 use edge_label::{LabelBook, Steps};
 use program_words::{read_labels, read_program};
-use std::alloc::Global;
+use std::alloc::{AllocError, Global};
 use std::marker::Brand;
 use std::sync::ledger::{Blank, Ledger};
 use std::test::Fail;
@@ -26,12 +26,23 @@ fn numbers(alloc: Global, book: &mut LabelBook) -> Result<Vec<u32>, Fail> {
     Ok(numbers)
 }
 
+/// The numbers of two builds of these labels.
+fn twice(alloc: Global, book: &mut LabelBook) -> Result<(Vec<u32>, Vec<u32>), Fail> {
+    let old = numbers(alloc, book)?;
+    let new = numbers(alloc, book)?;
+    Ok((old, new))
+}
+
+/// The same in a new book. It is dropped here alone, since each way to drop one takes long to prove.
+fn twice_anew(alloc: Global) -> Result<(Vec<u32>, Vec<u32>), Fail> {
+    let mut book = LabelBook::new(alloc);
+    twice(alloc, &mut book)
+}
+
 // Labels that differ in one part have different numbers, given from 0 on; equal ones of a second build have the same.
 #[test]
 fn a_label_has_the_number_of_its_equal_and_of_no_other(rt: HostRuntime) -> Result<(), Fail> {
-    let mut book = LabelBook::new(rt.alloc());
-    let old = numbers(rt.alloc(), &mut book)?;
-    let new = numbers(rt.alloc(), &mut book)?;
+    let (old, new) = twice_anew(rt.alloc())?;
     assert_eq!(rt; old.len(), 26);
     for (place, number) in old.iter().enumerate() {
         assert!(rt; *number as usize == place, "label {place}");
@@ -53,17 +64,32 @@ fn number_beside(
     Ok(book.intern(label, program.globals())?)
 }
 
+/// The numbers of `putchar(k)` beside `int j` and `int k` with the contents of each row.
+fn numbers_beside(
+    alloc: Global,
+    book: &mut LabelBook,
+    rows: &[(i64, i64)],
+) -> Result<Vec<u32>, Fail> {
+    let labels = read_labels(alloc, "eval putchar read global:k int")?;
+    let label = labels.first().ok_or("no label")?;
+    let mut numbers = Vec::new(alloc);
+    for &(other, initial) in rows {
+        numbers.push(number_beside(alloc, book, label, other, initial)?)?;
+    }
+    Ok(numbers)
+}
+
+/// The same in a new book.
+fn numbers_anew(alloc: Global, rows: &[(i64, i64)]) -> Result<Vec<u32>, Fail> {
+    let mut book = LabelBook::new(alloc);
+    numbers_beside(alloc, &mut book, rows)
+}
+
 // A label holds the initial contents of the objects that it names, and of no others.
 #[test]
 fn a_label_has_the_contents_of_what_it_names(rt: HostRuntime) -> Result<(), Fail> {
-    let alloc = rt.alloc();
-    let labels = read_labels(alloc, "eval putchar read global:k int")?;
-    let label = labels.first().ok_or("no label")?;
-    let mut book = LabelBook::new(alloc);
-    for &(other, initial, number) in &[(1, 1, 0), (1, 2, 1), (2, 1, 0), (2, 2, 1)] {
-        let given = number_beside(alloc, &mut book, label, other, initial)?;
-        assert_eq!(rt; given, number, "with {other} and {initial}");
-    }
+    let numbers = numbers_anew(rt.alloc(), &[(1, 1), (1, 2), (2, 1), (2, 2)])?;
+    assert_eq!(rt; numbers.as_slice(), [0, 1, 0, 1].as_slice());
     Ok(())
 }
 
@@ -88,14 +114,23 @@ fn ask<L: Ledger>(
     (first, second)
 }
 
-// A caller that counts nothing names the ledger itself.
-#[test]
-fn the_same_is_said_of_equal_labels_alone(rt: HostRuntime) -> Result<(), Fail> {
-    let mut book = LabelBook::new(rt.alloc());
+/// What is said of the entries of functions, and of an entry and a `return`.
+fn asked(book: &mut LabelBook) -> Result<(bool, bool), AllocError> {
     let entry = book.intern(&Label::Entry, &[])?;
     let other = book.intern(&Label::Return(None), &[])?;
     let again = book.intern(&Label::Entry, &[])?;
-    let answers = ask::<Brand>(&book, entry, again, other, Blank::new(1));
-    assert!(rt; answers == (true, false));
+    Ok(ask::<Brand>(book, entry, again, other, Blank::new(1)))
+}
+
+/// The same in a new book.
+fn asked_anew(alloc: Global) -> Result<(bool, bool), AllocError> {
+    let mut book = LabelBook::new(alloc);
+    asked(&mut book)
+}
+
+// A caller that counts nothing names the ledger itself.
+#[test]
+fn the_same_is_said_of_equal_labels_alone(rt: HostRuntime) -> Result<(), Fail> {
+    assert!(rt; asked_anew(rt.alloc())? == (true, false));
     Ok(())
 }
