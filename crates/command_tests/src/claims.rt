@@ -1,5 +1,5 @@
 //! Certificates of walks, and what is found of claims. The digests of both sources were taken by Python's hashlib.
-use crate::files::{ASSIGNED, OTHER_BYTE, answer_about};
+use crate::files::{ASSIGNED, OTHER_BYTE, answer_agrees, answers_agree};
 use dejavu_cli::Status8;
 use line_text::push_hex;
 use sha2::{Digest, Sha256};
@@ -37,10 +37,9 @@ fn the_certificate_of_a_walk_has_its_dangerous_edges_and_its_pairs(
 ) -> Result<(), Fail> {
     let alloc = rt.alloc();
     let files = [("old", ASSIGNED), ("new", OTHER_BYTE)];
-    let (status, text) = answer_about(&rt, alloc, &files, &["certify", "old", "new"])?;
-    assert_eq!(rt; status, Status8::Done);
-    assert_eq!(rt; text.as_slice(), certificate(alloc, CLAIM)?.as_bytes());
-    Ok(())
+    let text = certificate(alloc, CLAIM)?;
+    let words = ["certify", "old", "new"];
+    answer_agrees(&rt, alloc, &files, &words, Status8::Done, text.as_str())
 }
 
 #[test]
@@ -84,16 +83,15 @@ fn a_claim_is_closed_or_its_first_break_is_told(rt: HostRuntime) -> Result<(), F
             "open start\n",
         ),
     ];
-    for &(lines, expected, line) in rows {
+    for &(lines, status, line) in rows {
         let text = certificate(alloc, lines)?;
         let files = [
             ("old", ASSIGNED),
             ("new", OTHER_BYTE),
             ("claim", text.as_str()),
         ];
-        let (status, told) = answer_about(&rt, alloc, &files, &["check", "old", "new", "claim"])?;
-        assert_eq!(rt; status, expected);
-        assert_eq!(rt; told.as_slice(), line.as_bytes());
+        let words = ["check", "old", "new", "claim"];
+        answer_agrees(&rt, alloc, &files, &words, status, line)?;
     }
     Ok(())
 }
@@ -109,20 +107,17 @@ fn a_certificate_that_is_cut_or_of_other_sources_is_refused(rt: HostRuntime) -> 
         ("whole", whole.as_str()),
         ("cut", cut.as_str()),
     ];
-    let rows: &[(&[&str], &str)] = &[
+    let rows: &[(&[&str], Status8, &str)] = &[
         (
             &["check", "old", "new", "cut"],
+            Status8::Certificate,
             "refused: certificate line 16 rule C8\n",
         ),
         (
             &["check", "new", "old", "whole"],
+            Status8::Certificate,
             "refused: certificate old f3e7b98b7d4d95f021635d364627ee64e4acd311669841db52966ba816eaeb96 4527ee34a73cbe49b1963da290f1fd8d7b5f74648e52c258c77127032cca9bd8\n",
         ),
     ];
-    for &(words, line) in rows {
-        let (status, told) = answer_about(&rt, alloc, &files, words)?;
-        assert_eq!(rt; status, Status8::Certificate);
-        assert_eq!(rt; told.as_slice(), line.as_bytes());
-    }
-    Ok(())
+    answers_agree(&rt, alloc, &files, rows)
 }

@@ -1,5 +1,5 @@
 //! What `record` writes between the source's digest and the sum.
-use crate::files::{ASSIGNED, answer_about};
+use crate::files::{ASSIGNED, answer_agrees, recorded};
 use dejavu_cli::Status8;
 use std::alloc::Global;
 use std::process::Abort;
@@ -14,17 +14,6 @@ fn inner<'a>(history: &'a str) -> Result<&'a str, Fail> {
     Ok(lines)
 }
 
-/// The answer to a recording of a source with a suite.
-fn recorded<R: Threads + Sync>(
-    rt: &R,
-    alloc: Global,
-    source: &str,
-    suite: &str,
-) -> Result<(Status8, Vec<u8>), Fail> {
-    let files = [("source", source), ("suite", suite)];
-    answer_about(rt, alloc, &files, &["record", "source", "suite"])
-}
-
 /// The history of the tests of a suite on a source has those lines.
 fn record_agrees<R: Threads + Abort + Sync>(
     rt: &R,
@@ -34,10 +23,8 @@ fn record_agrees<R: Threads + Abort + Sync>(
     expected: &str,
 ) -> Result<(), Fail> {
     let suite = format!(in alloc; "dejavu suite 1\n{tests}")?;
-    let (status, bytes) = recorded(rt, alloc, source, suite.as_str())?;
-    assert_eq!(rt; status, Status8::Done);
-    let text = String::from_utf8(bytes)?;
-    let lines = inner(text.as_str())?;
+    let history = recorded(rt, alloc, source, suite.as_str())?;
+    let lines = inner(history.as_str())?;
     assert!(rt; lines == expected, "{source} gave {lines}");
     Ok(())
 }
@@ -163,11 +150,7 @@ fn a_history_of_more_than_134217728_bytes_is_too_much(rt: HostRuntime) -> Result
         suite.push_str(line.as_str())?;
     }
     let files = [("source", source.as_str()), ("suite", suite.as_str())];
-    let (status, bytes) = answer_about(&rt, alloc, &files, &["record", "source", "suite"])?;
-    assert_eq!(rt; status, Status8::TooMuch);
-    assert_eq!(rt;
-        bytes.as_slice(),
-        b"refused: history too much 134529201\n".as_slice()
-    );
-    Ok(())
+    let words = ["record", "source", "suite"];
+    let line = "refused: history too much 134529201\n";
+    answer_agrees(&rt, alloc, &files, &words, Status8::TooMuch, line)
 }

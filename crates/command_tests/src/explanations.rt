@@ -1,24 +1,10 @@
 //! What is told of why a test has to run again.
-use crate::files::{ASSIGNED, OTHER_BYTE, TWO, answer, answer_about, recorded};
+use crate::files::{ASSIGNED, FILES, OTHER_BYTE, TWO, answers_agree, recorded, versions_agree};
 use dejavu_cli::Status8;
 use std::alloc::Global;
 use std::process::Abort;
 use std::test::Fail;
 use std::thread::Threads;
-
-/// The answer to `explain` for a test of a history of the old source.
-fn explained<R: Threads + Sync>(
-    rt: &R,
-    alloc: Global,
-    old: &str,
-    new: &str,
-    history: &str,
-    test: &str,
-) -> Result<(Status8, Vec<u8>), Fail> {
-    let files = [("old", old), ("new", new), ("history", history)];
-    let words = ["explain", "old", "new", "history", test];
-    answer_about(rt, alloc, &files, &words)
-}
 
 /// The explanation of a test, recorded on the old source with the suite of A and B, has the text.
 fn explanation_agrees<R: Threads + Abort + Sync>(
@@ -26,14 +12,11 @@ fn explanation_agrees<R: Threads + Abort + Sync>(
     alloc: Global,
     (old, new): (&str, &str),
     test: &str,
-    (status, expected): (Status8, &str),
+    told: (Status8, &str),
 ) -> Result<(), Fail> {
     let history = recorded(rt, alloc, old, TWO)?;
-    let (got, bytes) = explained(rt, alloc, old, new, history.as_str(), test)?;
-    assert_eq!(rt; got, status);
-    let text = String::from_utf8(bytes)?;
-    assert!(rt; text.as_str() == expected, "{new} gave {text}");
-    Ok(())
+    let words = ["explain", "old", "new", "history", test];
+    versions_agree(rt, alloc, (old, new, history.as_str()), &words, told)
 }
 
 #[test]
@@ -142,10 +125,5 @@ fn the_first_cause_is_told_in_place_of_an_explanation(rt: HostRuntime) -> Result
             "refused: history no test b\n",
         ),
     ];
-    for &(words, status, text) in rows {
-        let (got, bytes) = answer(&rt, rt.alloc(), words)?;
-        assert_eq!(rt; got, status);
-        assert_eq!(rt; bytes.as_slice(), text.as_bytes());
-    }
-    Ok(())
+    answers_agree(&rt, rt.alloc(), FILES, rows)
 }

@@ -1,5 +1,5 @@
 //! Faults of the files and of the output.
-use crate::files::{EMPTY_HISTORY, SELECTION, files, owned_words, shelf_of_files};
+use crate::files::{EMPTY_HISTORY, FILES, SELECTION, files_of, owned_words, shelf_of};
 use dejavu_cli::{Status8, dejavu};
 use dv_outside::{FailingShelf, FailingSink, MemorySink, OpenGate};
 use std::alloc::Global;
@@ -15,7 +15,7 @@ fn answer_with_fault<R: Threads + Sync>(
     call: u32,
 ) -> Result<(Status8, Vec<u8>), Fail> {
     let words = owned_words(alloc, words)?;
-    let mut shelf = FailingShelf::new(alloc, files(alloc)?, [call].to_vec(alloc)?);
+    let mut shelf = FailingShelf::new(alloc, files_of(alloc, FILES)?, [call].to_vec(alloc)?);
     let mut out = MemorySink::new(alloc, 1000, 7)?;
     let status = dejavu(rt, alloc, &words, &mut shelf, &mut out, &OpenGate);
     Ok((status, out.bytes().to_vec(alloc)?))
@@ -56,7 +56,7 @@ fn a_fault_of_the_output_at_any_call_leaves_a_beginning_of_the_history(
     let alloc = rt.alloc();
     let words = owned_words(alloc, &["record", "empty", "one"])?;
     for before in 0..60u32 {
-        let mut shelf = shelf_of_files(alloc)?;
+        let mut shelf = shelf_of(alloc, FILES)?;
         let mut out = FailingSink::new(alloc, 1000, 4, before.wrapping_add(1))?;
         let status = dejavu(&rt, alloc, &words, &mut shelf, &mut out, &OpenGate);
         assert_eq!(rt; status, Status8::WriteFault);
@@ -69,7 +69,7 @@ fn a_fault_of_the_output_at_any_call_leaves_a_beginning_of_the_history(
 #[test]
 fn a_fault_of_the_output_leaves_a_beginning_of_the_line(rt: HostRuntime) -> Result<(), Fail> {
     let alloc = rt.alloc();
-    let mut shelf = shelf_of_files(alloc)?;
+    let mut shelf = shelf_of(alloc, FILES)?;
     let mut out = FailingSink::new(alloc, 1000, 4, 2)?;
     let words = Vec::new(alloc);
     let status = dejavu(&rt, alloc, &words, &mut shelf, &mut out, &OpenGate);

@@ -3,6 +3,7 @@ use dejavu_cli::{Status8, dejavu};
 use dv_outside::{Gate, MemoryShelf, MemorySink, OpenGate, names_differ};
 use sample_sources::{CHANGED_LINE, LINE_BEFORE, WORD_COUNTER};
 use std::alloc::{AllocError, Global};
+use std::process::Abort;
 use std::sync::atomic::{AtomicU64, Ordering};
 use std::test::Fail;
 use std::thread::Threads;
@@ -27,38 +28,20 @@ const SPOILED_HISTORY: &str =
 /// Of `branching`, `changed` and the history: B alone crosses edge 4, which leads to the changed line.
 pub const SELECTION: &str = "left A\nrun B edge 4\nselected 1 of 2\n";
 
-/// The files: three sources, one that breaks a rule, two suites and one that is none, two histories and one that
-/// is none.
-pub fn files(alloc: Global) -> Result<Vec<(String, Vec<u8>)>, AllocError> {
-    let texts: [(&str, &str); 10] = [
-        ("branching", BRANCHING),
-        ("changed", CHANGED),
-        ("empty", "int main(void) { }"),
-        ("broken", "int main(void) { return x; }"),
-        ("two", "dejavu suite 1\ntest A 100 41\ntest B 100 42\n"),
-        ("one", "dejavu suite 1\ntest E 9 -\n"),
-        ("none", "dejavu suite 1\ntest A 100 4\n"),
-        ("history", BRANCHING_HISTORY),
-        ("empty history", EMPTY_HISTORY),
-        ("spoiled history", SPOILED_HISTORY),
-    ];
-    let mut files = Vec::new(alloc);
-    for (name, text) in texts {
-        let content = text.as_bytes().to_vec(alloc)?;
-        files.push((String::from_str(alloc, name)?, content))?;
-    }
-    Ok(files)
-}
-
-/// A shelf of the files.
-pub fn shelf_of_files(alloc: Global) -> Result<MemoryShelf, Fail> {
-    let files = files(alloc)?;
-    if names_differ(&files) {
-        Ok(MemoryShelf::new(alloc, files))
-    } else {
-        Err("two files of one name")?
-    }
-}
+/// The files that most tests name: three sources, one that breaks a rule, two suites and one that is none, two histories
+/// and one that is none.
+pub const FILES: &[(&str, &str)] = &[
+    ("branching", BRANCHING),
+    ("changed", CHANGED),
+    ("empty", "int main(void) { }"),
+    ("broken", "int main(void) { return x; }"),
+    ("two", "dejavu suite 1\ntest A 100 41\ntest B 100 42\n"),
+    ("one", "dejavu suite 1\ntest E 9 -\n"),
+    ("none", "dejavu suite 1\ntest A 100 4\n"),
+    ("history", BRANCHING_HISTORY),
+    ("empty history", EMPTY_HISTORY),
+    ("spoiled history", SPOILED_HISTORY),
+];
 
 /// The words.
 pub fn owned_words(alloc: Global, words: &[&str]) -> Result<Vec<String>, AllocError> {
@@ -69,26 +52,22 @@ pub fn owned_words(alloc: Global, words: &[&str]) -> Result<Vec<String>, AllocEr
     Ok(owned)
 }
 
-/// The answer and the text, into an output that takes 7 bytes per call.
-pub fn answer<R: Threads + Sync>(
-    rt: &R,
+/// Files of these texts.
+pub fn files_of(
     alloc: Global,
-    words: &[&str],
-) -> Result<(Status8, Vec<u8>), Fail> {
-    let owned = owned_words(alloc, words)?;
-    let mut shelf = shelf_of_files(alloc)?;
-    let mut out = MemorySink::new(alloc, 1000, 7)?;
-    let status = dejavu(rt, alloc, &owned, &mut shelf, &mut out, &OpenGate);
-    Ok((status, out.bytes().to_vec(alloc)?))
-}
-
-/// A shelf of these texts.
-pub fn shelf_of(alloc: Global, texts: &[(&str, &str)]) -> Result<MemoryShelf, Fail> {
+    texts: &[(&str, &str)],
+) -> Result<Vec<(String, Vec<u8>)>, AllocError> {
     let mut files = Vec::new(alloc);
     for (name, text) in texts {
         let content = text.as_bytes().to_vec(alloc)?;
         files.push((String::from_str(alloc, name)?, content))?;
     }
+    Ok(files)
+}
+
+/// A shelf of these texts.
+pub fn shelf_of(alloc: Global, texts: &[(&str, &str)]) -> Result<MemoryShelf, Fail> {
+    let files = files_of(alloc, texts)?;
     if names_differ(&files) {
         Ok(MemoryShelf::new(alloc, files))
     } else {
@@ -96,7 +75,7 @@ pub fn shelf_of(alloc: Global, texts: &[(&str, &str)]) -> Result<MemoryShelf, Fa
     }
 }
 
-/// The answer and the text for words that name these texts.
+/// The answer and the text for words that name these texts, into an output that takes 7 bytes at a call.
 pub fn answer_about<R: Threads + Sync>(
     rt: &R,
     alloc: Global,
@@ -116,9 +95,52 @@ pub fn answer_counted<R: Threads + Sync, G: Gate>(
 ) -> Result<(Status8, Vec<u8>), Fail> {
     let owned = owned_words(alloc, words)?;
     let mut shelf = shelf_of(alloc, texts)?;
-    let mut out = MemorySink::new(alloc, 100_000, 1000)?;
+    let mut out = MemorySink::new(alloc, 100_000, 7)?;
     let status = dejavu(rt, alloc, &owned, &mut shelf, &mut out, gate);
     Ok((status, out.bytes().to_vec(alloc)?))
+}
+
+/// The words about these texts give the answer and the text.
+pub fn answer_agrees<R: Threads + Abort + Sync>(
+    rt: &R,
+    alloc: Global,
+    texts: &[(&str, &str)],
+    words: &[&str],
+    status: Status8,
+    text: &str,
+) -> Result<(), Fail> {
+    let (got, bytes) = answer_about(rt, alloc, texts, words)?;
+    let told = String::from_utf8(bytes)?;
+    assert!(rt;
+        got == status && told.as_str() == text,
+        "{words:?} gave {got:?} and {told}"
+    );
+    Ok(())
+}
+
+/// The same about two versions and a history of the old one, which the words call `old`, `new` and `history`.
+pub fn versions_agree<R: Threads + Abort + Sync>(
+    rt: &R,
+    alloc: Global,
+    (old, new, history): (&str, &str, &str),
+    words: &[&str],
+    (status, text): (Status8, &str),
+) -> Result<(), Fail> {
+    let files = [("old", old), ("new", new), ("history", history)];
+    answer_agrees(rt, alloc, &files, words, status, text)
+}
+
+/// Each row's words about these texts give its answer and its text.
+pub fn answers_agree<R: Threads + Abort + Sync>(
+    rt: &R,
+    alloc: Global,
+    texts: &[(&str, &str)],
+    rows: &[(&[&str], Status8, &str)],
+) -> Result<(), Fail> {
+    for &(words, status, text) in rows {
+        answer_agrees(rt, alloc, texts, words, status, text)?;
+    }
+    Ok(())
 }
 
 /// A gate that counts who passes.

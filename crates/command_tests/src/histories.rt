@@ -1,5 +1,5 @@
 //! Histories that are none of the source, and the line that says why.
-use crate::files::{BRANCHING, BRANCHING_HISTORY, answer_about};
+use crate::files::{BRANCHING, BRANCHING_HISTORY, answer_agrees};
 use dejavu_cli::Status8;
 use std::alloc::Global;
 use std::process::Abort;
@@ -15,10 +15,7 @@ fn history_is_refused<R: Threads + Abort + Sync>(
 ) -> Result<(), Fail> {
     let files = [("source", BRANCHING), ("history", history)];
     let words = ["select", "source", "source", "history"];
-    let (status, bytes) = answer_about(rt, alloc, &files, &words)?;
-    assert_eq!(rt; status, Status8::History);
-    assert_eq!(rt; bytes.as_slice(), line.as_bytes());
-    Ok(())
+    answer_agrees(rt, alloc, &files, &words, Status8::History, line)
 }
 
 /// The history of `branching` with this in place of that.

@@ -1,6 +1,6 @@
 //! A history of an older version of the format, and the history that it becomes. Both texts are written out by hand, with sums
 //! by Python's hashlib.
-use crate::files::{ASSIGNED, OTHER_BYTE, TWO, answer_about, recorded};
+use crate::files::{ASSIGNED, OTHER_BYTE, TWO, answer_agrees, answers_agree, recorded};
 use dejavu_cli::Status8;
 use std::test::Fail;
 
@@ -18,9 +18,8 @@ fn a_history_of_version_2_becomes_the_one_that_is_recorded_today(
 ) -> Result<(), Fail> {
     let alloc = rt.alloc();
     let files = [("source", ASSIGNED), ("earlier", EARLIER)];
-    let (status, text) = answer_about(&rt, alloc, &files, &["migrate", "source", "earlier"])?;
-    assert_eq!(rt; status, Status8::Done);
-    assert_eq!(rt; text.as_slice(), TODAY.as_bytes());
+    let words = ["migrate", "source", "earlier"];
+    answer_agrees(&rt, alloc, &files, &words, Status8::Done, TODAY)?;
     assert_eq!(rt; recorded(&rt, alloc, ASSIGNED, TWO)?.as_str(), TODAY);
     Ok(())
 }
@@ -56,10 +55,5 @@ fn each_command_takes_its_own_version_of_the_format(rt: HostRuntime) -> Result<(
             "refused: old rule M1 at 1:25\n",
         ),
     ];
-    for &(words, expected, line) in rows {
-        let (status, text) = answer_about(&rt, rt.alloc(), &files, words)?;
-        assert_eq!(rt; status, expected);
-        assert_eq!(rt; text.as_slice(), line.as_bytes());
-    }
-    Ok(())
+    answers_agree(&rt, rt.alloc(), &files, rows)
 }

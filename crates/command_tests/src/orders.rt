@@ -1,24 +1,10 @@
 //! The order of the selected tests.
-use crate::files::{ASSIGNED, answer_about, recorded};
+use crate::files::{ASSIGNED, recorded, versions_agree};
 use dejavu_cli::Status8;
 use std::alloc::Global;
 use std::process::Abort;
 use std::test::Fail;
 use std::thread::Threads;
-
-/// The answer of `order` by so many workers.
-fn ordered<R: Threads + Sync>(
-    rt: &R,
-    alloc: Global,
-    old: &str,
-    new: &str,
-    history: &str,
-    workers: &str,
-) -> Result<(Status8, Vec<u8>), Fail> {
-    let files = [("old", old), ("new", new), ("history", history)];
-    let words = ["order", "old", "new", "history", "--workers", workers];
-    answer_about(rt, alloc, &files, &words)
-}
 
 /// The order of the tests of a suite is the text, by 1, 2 and 64 workers.
 fn order_agrees<R: Threads + Abort + Sync>(
@@ -31,9 +17,9 @@ fn order_agrees<R: Threads + Abort + Sync>(
 ) -> Result<(), Fail> {
     let history = recorded(rt, alloc, old, suite)?;
     for workers in ["1", "2", "64"] {
-        let (status, text) = ordered(rt, alloc, old, new, history.as_str(), workers)?;
-        assert_eq!(rt; status, Status8::Done);
-        assert_eq!(rt; text.as_slice(), expected.as_bytes());
+        let words = ["order", "old", "new", "history", "--workers", workers];
+        let told = (Status8::Done, expected);
+        versions_agree(rt, alloc, (old, new, history.as_str()), &words, told)?;
     }
     Ok(())
 }

@@ -1,5 +1,5 @@
 //! What `record` writes, or the line of the first cause.
-use crate::files::{BRANCHING_HISTORY, EMPTY_HISTORY, answer};
+use crate::files::{BRANCHING_HISTORY, EMPTY_HISTORY, FILES, answers_agree};
 use dejavu_cli::Status8;
 use std::test::Fail;
 
@@ -18,12 +18,7 @@ fn record_writes_the_history(rt: HostRuntime) -> Result<(), Fail> {
             EMPTY_HISTORY,
         ),
     ];
-    for &(words, status, text) in rows {
-        let (got, bytes) = answer(&rt, rt.alloc(), words)?;
-        assert_eq!(rt; got, status);
-        assert_eq!(rt; bytes.as_slice(), text.as_bytes());
-    }
-    Ok(())
+    answers_agree(&rt, rt.alloc(), FILES, rows)
 }
 
 #[test]
@@ -55,10 +50,5 @@ fn record_names_the_first_cause(rt: HostRuntime) -> Result<(), Fail> {
             "refused: read fault\n",
         ),
     ];
-    for &(words, status, text) in rows {
-        let (got, bytes) = answer(&rt, rt.alloc(), words)?;
-        assert_eq!(rt; got, status);
-        assert_eq!(rt; bytes.as_slice(), text.as_bytes());
-    }
-    Ok(())
+    answers_agree(&rt, rt.alloc(), FILES, rows)
 }

@@ -1,5 +1,5 @@
 //! What `select` writes, or the line of the first cause.
-use crate::files::{SELECTION, answer};
+use crate::files::{FILES, SELECTION, answers_agree};
 use dejavu_cli::Status8;
 use std::test::Fail;
 
@@ -17,12 +17,7 @@ fn select_names_the_tests(rt: HostRuntime) -> Result<(), Fail> {
             "left A\nleft B\nselected 0 of 2\n",
         ),
     ];
-    for &(words, status, text) in rows {
-        let (got, bytes) = answer(&rt, rt.alloc(), words)?;
-        assert_eq!(rt; got, status);
-        assert_eq!(rt; bytes.as_slice(), text.as_bytes());
-    }
-    Ok(())
+    answers_agree(&rt, rt.alloc(), FILES, rows)
 }
 
 #[test]
@@ -44,12 +39,7 @@ fn a_history_of_another_source_or_with_another_sum_is_refused(rt: HostRuntime) -
             "refused: history source 720637fdcd894bb8ccb9d36c0cd133613d681911fdf1f57983db95d5bb25131b e841ea8b95ec1bac52ed842deb3200e79c8bc48ebb059a47f511cc58e6eb1e98\n",
         ),
     ];
-    for &(words, status, text) in rows {
-        let (got, bytes) = answer(&rt, rt.alloc(), words)?;
-        assert_eq!(rt; got, status);
-        assert_eq!(rt; bytes.as_slice(), text.as_bytes());
-    }
-    Ok(())
+    answers_agree(&rt, rt.alloc(), FILES, rows)
 }
 
 #[test]
@@ -76,12 +66,7 @@ fn a_source_that_is_not_accepted_is_named(rt: HostRuntime) -> Result<(), Fail> {
             "refused: new rule M1 at 1:25\n",
         ),
     ];
-    for &(words, status, text) in rows {
-        let (got, bytes) = answer(&rt, rt.alloc(), words)?;
-        assert_eq!(rt; got, status);
-        assert_eq!(rt; bytes.as_slice(), text.as_bytes());
-    }
-    Ok(())
+    answers_agree(&rt, rt.alloc(), FILES, rows)
 }
 
 #[test]
@@ -103,10 +88,5 @@ fn a_file_that_is_absent_is_a_read_fault(rt: HostRuntime) -> Result<(), Fail> {
             "refused: read fault\n",
         ),
     ];
-    for &(words, status, text) in rows {
-        let (got, bytes) = answer(&rt, rt.alloc(), words)?;
-        assert_eq!(rt; got, status);
-        assert_eq!(rt; bytes.as_slice(), text.as_bytes());
-    }
-    Ok(())
+    answers_agree(&rt, rt.alloc(), FILES, rows)
 }

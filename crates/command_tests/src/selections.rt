@@ -1,23 +1,10 @@
 //! Which tests of recorded suites run again on a changed source.
-use crate::files::{ASSIGNED, OTHER_BYTE, answer_about, recorded};
+use crate::files::{ASSIGNED, OTHER_BYTE, recorded, versions_agree};
 use dejavu_cli::Status8;
 use std::alloc::Global;
 use std::process::Abort;
 use std::test::Fail;
 use std::thread::Threads;
-
-/// The answer to a selection between two sources by a history.
-fn selected<R: Threads + Sync>(
-    rt: &R,
-    alloc: Global,
-    old: &str,
-    new: &str,
-    history: &str,
-) -> Result<(Status8, Vec<u8>), Fail> {
-    let files = [("old", old), ("new", new), ("history", history)];
-    let words = ["select", "old", "new", "history"];
-    answer_about(rt, alloc, &files, &words)
-}
 
 /// A selection between two sources, by the history of tests on the old one, has the text.
 fn selection_agrees<R: Threads + Abort + Sync>(
@@ -30,11 +17,9 @@ fn selection_agrees<R: Threads + Abort + Sync>(
 ) -> Result<(), Fail> {
     let suite = format!(in alloc; "dejavu suite 1\n{tests}")?;
     let history = recorded(rt, alloc, old, suite.as_str())?;
-    let (status, bytes) = selected(rt, alloc, old, new, history.as_str())?;
-    assert_eq!(rt; status, Status8::Done);
-    let text = String::from_utf8(bytes)?;
-    assert!(rt; text.as_str() == expected, "{new} gave {text}");
-    Ok(())
+    let words = ["select", "old", "new", "history"];
+    let told = (Status8::Done, expected);
+    versions_agree(rt, alloc, (old, new, history.as_str()), &words, told)
 }
 
 /// Each row has an old source, a new one, the tests of a suite, and what is selected.

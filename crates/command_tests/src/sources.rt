@@ -1,12 +1,25 @@
 //! Lines for sources that aren't accepted, and the selection for a program of some size.
-use crate::files::{COUNTED, answer_about, changed_counter, recorded};
+use crate::files::{COUNTED, answer_agrees, changed_counter, recorded};
 use dejavu_cli::Status8;
 use sample_sources::WORD_COUNTER;
 use std::alloc::Global;
+use std::process::Abort;
 use std::test::Fail;
 use std::thread::Threads;
 
 const SUITE: &str = "dejavu suite 1\ntest A 100 -\n";
+
+/// Recording with a source gives the line, with the status for sources.
+fn source_is_refused<R: Threads + Abort + Sync>(
+    rt: &R,
+    alloc: Global,
+    source: &str,
+    line: &str,
+) -> Result<(), Fail> {
+    let files = [("source", source), ("suite", SUITE)];
+    let words = ["record", "source", "suite"];
+    answer_agrees(rt, alloc, &files, &words, Status8::Source, line)
+}
 
 #[test]
 fn the_line_says_why_a_source_is_refused(rt: HostRuntime) -> Result<(), Fail> {
@@ -43,15 +56,7 @@ fn the_line_says_why_a_source_is_refused(rt: HostRuntime) -> Result<(), Fail> {
         ),
     ];
     for &(source, line) in rows {
-        let files = [("source", source), ("suite", SUITE)];
-        let (status, bytes) = answer_about(
-            &rt,
-            rt.alloc(),
-            &files,
-            &["record", "source", "suite"],
-        )?;
-        assert_eq!(rt; status, Status8::Source);
-        assert_eq!(rt; bytes.as_slice(), line.as_bytes());
+        source_is_refused(&rt, rt.alloc(), source, line)?;
     }
     Ok(())
 }
@@ -69,20 +74,7 @@ fn tests_with_a_digit_run_again_where_a_digit_begins_a_word(rt: HostRuntime) -> 
         ("history", history.as_str()),
     ];
     let words = ["select", "old", "new", "history"];
-    let (status, bytes) = answer_about(&rt, rt.alloc(), &files, &words)?;
-    assert_eq!(rt; status, Status8::Done);
-    assert_eq!(rt; bytes.as_slice(), SELECTION.as_bytes());
-    Ok(())
-}
-
-/// The answer to a recording of a source.
-fn answer_to<R: Threads + Sync>(
-    rt: &R,
-    alloc: Global,
-    source: &str,
-) -> Result<(Status8, Vec<u8>), Fail> {
-    let files = [("source", source), ("suite", SUITE)];
-    answer_about(rt, alloc, &files, &["record", "source", "suite"])
+    answer_agrees(&rt, rt.alloc(), &files, &words, Status8::Done, SELECTION)
 }
 
 /// A source whose `main` returns 0 within so many parentheses.
@@ -102,16 +94,10 @@ fn nested(alloc: Global, depth: usize) -> Result<String, Fail> {
 #[test]
 fn a_source_may_be_256_deep(rt: HostRuntime) -> Result<(), Fail> {
     let within = nested(rt.alloc(), 252)?;
-    let (status, _) = answer_to(&rt, rt.alloc(), within.as_str())?;
-    assert_eq!(rt; status, Status8::Done);
+    recorded(&rt, rt.alloc(), within.as_str(), SUITE)?;
     let deeper = nested(rt.alloc(), 253)?;
-    let (status, bytes) = answer_to(&rt, rt.alloc(), deeper.as_str())?;
-    assert_eq!(rt; status, Status8::Source);
-    assert_eq!(rt;
-        bytes.as_slice(),
-        b"refused: source syntax at 1:277\n".as_slice()
-    );
-    Ok(())
+    let line = "refused: source syntax at 1:277\n";
+    source_is_refused(&rt, rt.alloc(), deeper.as_str(), line)
 }
 
 #[test]
@@ -120,8 +106,6 @@ fn a_source_may_have_1048576_bytes(rt: HostRuntime) -> Result<(), Fail> {
     for _ in 0..1_048_577 {
         source.push(' ')?;
     }
-    let (status, bytes) = answer_to(&rt, rt.alloc(), source.as_str())?;
-    assert_eq!(rt; status, Status8::Source);
-    assert_eq!(rt; bytes.as_slice(), b"refused: source too long\n".as_slice());
-    Ok(())
+    let line = "refused: source too long\n";
+    source_is_refused(&rt, rt.alloc(), source.as_str(), line)
 }

@@ -1,5 +1,5 @@
 //! Suites that are none, and the line that says why.
-use crate::files::answer_about;
+use crate::files::answer_agrees;
 use dejavu_cli::Status8;
 use std::alloc::Global;
 use std::process::Abort;
@@ -16,10 +16,8 @@ fn suite_is_refused<R: Threads + Abort + Sync>(
     line: &str,
 ) -> Result<(), Fail> {
     let files = [("source", SOURCE), ("suite", suite)];
-    let (status, bytes) = answer_about(rt, alloc, &files, &["record", "source", "suite"])?;
-    assert_eq!(rt; status, Status8::Suite);
-    assert_eq!(rt; bytes.as_slice(), line.as_bytes());
-    Ok(())
+    let words = ["record", "source", "suite"];
+    answer_agrees(rt, alloc, &files, &words, Status8::Suite, line)
 }
 
 #[test]

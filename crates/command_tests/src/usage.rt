@@ -1,5 +1,5 @@
 //! Words that are no command.
-use crate::files::answer;
+use crate::files::{FILES, answer_agrees};
 use dejavu_cli::Status8;
 use std::test::Fail;
 
@@ -46,9 +46,14 @@ fn words_that_are_no_command_are_a_fault_of_usage(rt: HostRuntime) -> Result<(),
         &["gen", "1", "1", "--workers=2"],
     ];
     for &words in rows {
-        let (status, text) = answer(&rt, rt.alloc(), words)?;
-        assert_eq!(rt; status, Status8::Usage);
-        assert_eq!(rt; text.as_slice(), b"refused: usage\n".as_slice());
+        answer_agrees(
+            &rt,
+            rt.alloc(),
+            FILES,
+            words,
+            Status8::Usage,
+            "refused: usage\n",
+        )?;
     }
     Ok(())
 }

@@ -1,5 +1,5 @@
 //! What is told of the walk of two versions.
-use crate::files::{ASSIGNED, answer_about, changed_counter};
+use crate::files::{ASSIGNED, answer_agrees, changed_counter};
 use dejavu_cli::Status8;
 use sample_sources::WORD_COUNTER;
 use std::alloc::Global;
@@ -16,11 +16,8 @@ fn walk_agrees<R: Threads + Abort + Sync>(
     expected: &str,
 ) -> Result<(), Fail> {
     let files = [("old", old), ("new", new)];
-    let (status, bytes) = answer_about(rt, alloc, &files, &["walk", "old", "new"])?;
-    assert_eq!(rt; status, Status8::Done);
-    let text = String::from_utf8(bytes)?;
-    assert!(rt; text.as_str() == expected, "{new} gave {text}");
-    Ok(())
+    let words = ["walk", "old", "new"];
+    answer_agrees(rt, alloc, &files, &words, Status8::Done, expected)
 }
 
 /// Each row has an old source, a new one, and the text of their walk.
@@ -130,9 +127,8 @@ fn a_walk_names_the_version_that_is_refused_first(rt: HostRuntime) -> Result<(),
     ];
     for &(old, new, line) in rows {
         let files = [("old", old), ("new", new)];
-        let (status, bytes) = answer_about(&rt, alloc, &files, &["walk", "old", "new"])?;
-        assert_eq!(rt; status, Status8::Source);
-        assert_eq!(rt; bytes.as_slice(), line.as_bytes());
+        let words = ["walk", "old", "new"];
+        answer_agrees(&rt, alloc, &files, &words, Status8::Source, line)?;
     }
     Ok(())
 }
