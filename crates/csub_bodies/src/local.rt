@@ -21,10 +21,7 @@ use std::alloc::{AllocError, Global};
 fn check_value(scope: &Scope, ctype: Option<&CType>, init: &Option<Init>) -> Option<Fault>
     ensures { result ≡ value_fault (scope_of scope.now) (option_map (λ t. type_tree t.now) ctype.entry) (option_map init_tree init.now) }
 {
-    match init {
-        None => None,
-        Some(init) => check_init(scope, false, ctype, init),
-    }
+    check_init(scope, false, ctype, init.as_ref()?)
 }
 
 /// A copy of a type, which shares what it holds.

@@ -28,10 +28,7 @@ use std::alloc::{AllocError, Global};
 fn check_part(scope: &Scope, usage: Use, e: &Option<Expr>) -> Option<Fault>
     ensures { result ≡ part_fault (scope_of scope.now) (the_use usage) (option_map expr_tree e.now) }
 {
-    match e {
-        None => None,
-        Some(e) => check_use(scope, usage, e),
-    }
+    check_use(scope, usage, e.as_ref()?)
 }
 
 /// `return`, with M15.

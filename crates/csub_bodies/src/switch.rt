@@ -44,13 +44,13 @@ pub(crate) fn label_of(kind: IntKind, scope: &Scope, line: &Stmt) -> Option<Labe
     ensures { option_map label_at result ≡ label_of kind (scope_of scope.now) (stmt_tree line.now) }
 {
     match &line.kind {
-        StmtKind::Case(e) => match constant(scope, e) {
-            None => None,
-            Some(value) => Some(LabelAt {
+        StmtKind::Case(e) => {
+            let value = constant(scope, e)?;
+            Some(LabelAt {
                 value: Some(convert(kind, value)),
                 span: e.span,
-            }),
-        },
+            })
+        }
         StmtKind::Default => Some(LabelAt {
             value: None,
             span: first_bytes(7, line.span),

@@ -22,15 +22,9 @@ use csub_types::{IntKind, Trap, binary, common, convert, promote, truth, unary};
 fn declared_constant(scope: &Scope, name: &[u8]) -> Option<i64>
     ensures { result ≡ constant_of_declared (find name.now scope.now.names) }
 {
-    match scope.names.find(name) {
-        None => None,
-        Some(declared) => match &declared.meaning {
-            Meaning::Global(_) => None,
-            Meaning::Local(_, _) => None,
-            Meaning::Constant(value) => Some(*value),
-            Meaning::Function(_) => None,
-            Meaning::Untyped => None,
-        },
+    match &scope.names.find(name)?.meaning {
+        Meaning::Constant(value) => Some(*value),
+        _ => None,
     }
 }
 
@@ -40,11 +34,8 @@ fn named_constant(scope: &Scope, name: &[u8]) -> Option<i64>
 {
     match library_name(name) {
         None => declared_constant(scope, name),
-        Some(LibraryName::Getchar) => None,
-        Some(LibraryName::Putchar) => None,
-        Some(LibraryName::Printf) => None,
-        Some(LibraryName::Exit) => None,
         Some(LibraryName::Eof) => Some(-1),
+        Some(_) => None,
     }
 }
 
@@ -52,10 +43,7 @@ fn named_constant(scope: &Scope, name: &[u8]) -> Option<i64>
 fn untrapped(given: Result<i64, Trap>) -> Option<i64>
     ensures { result ≡ untrapped given }
 {
-    match given {
-        Ok(value) => Some(value),
-        Err(_) => None,
-    }
+    given.ok()
 }
 
 /// What `+`, `-`, `!` or `~` gives.
@@ -63,10 +51,7 @@ fn unary_value(op: UnaryOp, kind: IntKind, a: Option<i64>) -> Option<i64>
     requires { IsPromoted kind }
     ensures { result ≡ unary_value op kind a }
 {
-    match a {
-        None => None,
-        Some(a) => untrapped(unary(op, kind, convert(kind, a))),
-    }
+    untrapped(unary(op, kind, convert(kind, a?)))
 }
 
 /// The right operand of an operation: the count of a shift stays as it is (C11 6.5.7p3), another one is converted.
@@ -85,71 +70,47 @@ fn binary_value(op: BinOp, kind: IntKind, a: Option<i64>, b: Option<i64>) -> Opt
     requires { IsPromoted kind }
     ensures { result ≡ binary_value op kind a b }
 {
-    match a {
-        None => None,
-        Some(a) => match b {
-            None => None,
-            Some(b) => {
-                let right = right_operand(op, kind, b);
-                untrapped(binary(op, kind, convert(kind, a), right))
-            }
-        },
-    }
+    let left = convert(kind, a?);
+    let right = right_operand(op, kind, b?);
+    untrapped(binary(op, kind, left, right))
 }
 
 /// 1 where a value isn't 0, else 0.
 fn truth_of(value: Option<i64>) -> Option<i64>
     ensures { result ≡ option_map (λ v. truth (not (is_zero v))) value }
 {
-    match value {
-        None => None,
-        Some(value) => Some(truth(value != 0)),
-    }
+    Some(truth(value? != 0))
 }
 
 /// What `&&` gives, which needs the right operand only where the left one isn't 0 (C11 6.5.13p4).
 fn and_value(a: Option<i64>, b: Option<i64>) -> Option<i64>
     ensures { result ≡ and_value a b }
 {
-    match a {
-        None => None,
-        Some(a) => { if a == 0 { Some(0) } else { truth_of(b) } }
-    }
+    if a? == 0 { Some(0) } else { truth_of(b) }
 }
 
 /// What `||` gives, which needs the right operand only where the left one is 0 (C11 6.5.14p4).
 fn or_value(a: Option<i64>, b: Option<i64>) -> Option<i64>
     ensures { result ≡ or_value a b }
 {
-    match a {
-        None => None,
-        Some(a) => { if a == 0 { truth_of(b) } else { Some(1) } }
-    }
+    if a? == 0 { truth_of(b) } else { Some(1) }
 }
 
 /// A value, where there is one, converted to a kind.
 fn converted(kind: IntKind, value: Option<i64>) -> Option<i64>
     ensures { result ≡ option_map (convert kind) value }
 {
-    match value {
-        None => None,
-        Some(value) => Some(convert(kind, value)),
-    }
+    Some(convert(kind, value?))
 }
 
 /// What `?:` gives, which needs one of the later operands (C11 6.5.15p4 and p5).
 fn choice_value(kind: IntKind, c: Option<i64>, a: Option<i64>, b: Option<i64>) -> Option<i64>
     ensures { result ≡ choice_value kind c a b }
 {
-    match c {
-        None => None,
-        Some(c) => {
-            if c == 0 {
-                converted(kind, b)
-            } else {
-                converted(kind, a)
-            }
-        }
+    if c? == 0 {
+        converted(kind, b)
+    } else {
+        converted(kind, a)
     }
 }
 
@@ -235,10 +196,10 @@ fn evaluate(scope: &Scope, e: &Expr) -> Option<Found>
     match &e.kind {
         ExprKind::Number(n, suffix) => Some(number_found(*n, *suffix)),
         ExprKind::Char(byte) => Some(int_found(Some(i64::from(*byte)))),
-        ExprKind::Name(x) => match named_constant(scope, x.text.bytes()) {
-            None => None,
-            Some(value) => Some(int_found(Some(value))),
-        },
+        ExprKind::Name(x) => {
+            let value = named_constant(scope, x.text.bytes())?;
+            Some(int_found(Some(value)))
+        }
         ExprKind::Paren(inner) => evaluate(scope, inner),
         ExprKind::Unary(op, a) => Some(unary_found(*op, evaluate(scope, a)?)),
         ExprKind::Cast(to, a) => Some(cast_found(to, evaluate(scope, a)?)),
@@ -257,12 +218,12 @@ fn evaluate(scope: &Scope, e: &Expr) -> Option<Found>
             let (c, a) = (evaluate(scope, c)?, evaluate(scope, a)?);
             Some(choice_found(c, a, evaluate(scope, b)?))
         }
-        ExprKind::Text(_) => None,
-        ExprKind::Step(_, _) => None,
-        ExprKind::Assign(_, _, _) => None,
-        ExprKind::Call(_, _) => None,
-        ExprKind::Index(_, _) => None,
-        ExprKind::Member(_, _) => None,
+        ExprKind::Text(_)
+        | ExprKind::Step(_, _)
+        | ExprKind::Assign(_, _, _)
+        | ExprKind::Call(_, _)
+        | ExprKind::Index(_, _)
+        | ExprKind::Member(_, _) => None,
     }
 }
 
@@ -277,8 +238,5 @@ pub fn is_constant(scope: &Scope, e: &Expr) -> bool
 pub fn constant(scope: &Scope, e: &Expr) -> Option<i64>
     ensures { result ≡ constant (scope_of scope.now) (expr_tree e.now) }
 {
-    match evaluate(scope, e) {
-        None => None,
-        Some(found) => found.value,
-    }
+    evaluate(scope, e)?.value
 }

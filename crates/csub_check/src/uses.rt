@@ -118,10 +118,7 @@ pub fn enum_value(scope: &Scope, next: i64, value: &Option<Expr>) -> Option<i64>
 {
     match value {
         None => in_int(next),
-        Some(e) => match constant(scope, e) {
-            None => None,
-            Some(value) => in_int(value),
-        },
+        Some(e) => in_int(constant(scope, e)?),
     }
 }
 

@@ -221,12 +221,11 @@ some_is_left None P v h = (λ t. cc, λ p. absurd (h p))
 some_is_left (Some x) P v h = (λ t. h.0, λ p. refl)
 
 -- what is taken away of a limit is the count
-pub none_counted : (r : Option ℕ) (most n : ℕ) → r ≡ None → SomeIff r (n ≤ most) (most - n) → n ≤ most → ⊥
-none_counted r most n is h = let left : SomeIff None (n ≤ most) (most - n) = subst (λ o. SomeIff o (n ≤ most) (most - n)) is h in left
+pub none_counted : (r : Option ℕ) (most n : ℕ) → r ≡ None → SomeIff None (n ≤ most) (most - n) → SomeIff r (n ≤ most) n
+none_counted r most n is none = subst (λ o. SomeIff o (n ≤ most) n) (sym is) none
 
-pub counted : (r : Option ℕ) (most n room : ℕ) → r ≡ Some room → SomeIff r (n ≤ most) (most - n) → (n ≤ most) × (most - room ≡ n)
-counted r most n room is h =
-    let left : (n ≤ most) × (room ≡ most - n) = subst (λ o. SomeIff o (n ≤ most) (most - n)) is h in
-    let few = left.0 in
-    let rest = left.1 in
+pub counted : (most n room : ℕ) → SomeIff (Some room) (n ≤ most) (most - n) → SomeIff (Some (most - room)) (n ≤ most) n
+counted most n room left =
+    let few : n ≤ most = left.0 in
+    let rest : room ≡ most - n = left.1 in
     (few, omega arith)

@@ -35,13 +35,11 @@ fn lacks_list(scope: &Scope, ctype: &CType, e: &Expr) -> bool
 fn check_value(scope: &Scope, file: bool, ctype: Option<&CType>, e: &Expr) -> Option<Fault>
     ensures { result ≡ value_fault (scope_of scope.now) file (option_map (λ t. type_tree t.now) ctype.entry) (expr_tree e.now) }
 {
-    match ctype {
-        None => None,
-        Some(ctype) => earlier(
-            check_use(scope, use_at(file), e),
-            fault_if(lacks_list(scope, ctype, e), 11, e.span),
-        ),
-    }
+    let ctype = ctype?;
+    earlier(
+        check_use(scope, use_at(file), e),
+        fault_if(lacks_list(scope, ctype, e), 11, e.span),
+    )
 }
 
 /// The entries of a list, for an object of a type: whether each has a part, and the first rule that one breaks.
@@ -59,14 +57,12 @@ pub fn check_init(scope: &Scope, file: bool, ctype: Option<&CType>, init: &Init)
 {
     match init {
         Init::One(e) => check_value(scope, file, ctype, e),
-        Init::List(entries, span) => match ctype {
-            None => None,
-            Some(ctype) => {
-                let found = check_entries(scope, file, ctype, entries.as_slice());
-                let misfits = !(has_parts(ctype) && found.fills);
-                earlier(fault_if(misfits, 11, *span), found.fault)
-            }
-        },
+        Init::List(entries, span) => {
+            let ctype = ctype?;
+            let found = check_entries(scope, file, ctype, entries.as_slice());
+            let misfits = !(has_parts(ctype) && found.fills);
+            earlier(fault_if(misfits, 11, *span), found.fault)
+        }
     }
 }
 

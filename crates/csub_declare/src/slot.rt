@@ -52,10 +52,7 @@ fn as_length(value: i64) -> Option<u32>
 fn length_of(value: Option<i64>) -> Option<u32>
     ensures { result ≡ length_of value }
 {
-    match value {
-        None => None,
-        Some(value) => as_length(value),
-    }
+    as_length(value?)
 }
 
 fn is_bad_length(value: Option<i64>) -> bool
@@ -147,10 +144,8 @@ fn is_too_large(ctype: &Option<CType>) -> bool
 fn if_sized(ctype: Option<CType>) -> Option<CType>
     ensures { option_map type_tree result ≡ if_sized (option_map type_tree ctype) }
 {
-    match ctype {
-        None => None,
-        Some(ctype) => { if fits(&ctype) { Some(ctype) } else { None } }
-    }
+    let ctype = ctype?;
+    if fits(&ctype) { Some(ctype) } else { None }
 }
 
 fn copy_base(base: &Option<CType>) -> Result<Option<CType>, AllocError>

@@ -35,10 +35,7 @@ impl Choices {
     fn find(&self, point: u32, value: Option<i64>) -> Option<Step>
         ensures { result ≡ get choice_cmp self.now.steps (point, value) }
     {
-        match self.steps.get(&(point, value)) {
-            Some(step) => Some(*step),
-            None => None,
-        }
+        self.steps.get(&(point, value)).copied()
     }
 
     /// Where a switch leads to at a value: by its case, or else by Default. The work is a logarithm of the cases.

@@ -32,13 +32,7 @@ pub fn find_slot(
 ) -> Option<u32>
     ensures { result ≡ slot_at slots.now name.now number }
 {
-    match slots.get(&number) {
-        Some(named) => match named.get(name) {
-            Some(slot) => Some(*slot),
-            None => None,
-        },
-        None => None,
-    }
+    slots.get(&number)?.get(name).copied()
 }
 
 /// Puts the slot of an object, in the place of that of another with its name and its number. An `Err` is want of

@@ -51,10 +51,7 @@ pub struct FlatProgram {
 fn flatten_temp(scope: Scope<'_>, temp: Option<u32>) -> Option<u32>
     ensures { result ≡ option_map (temp_slot (function_at scope.entry)) temp }
 {
-    match temp {
-        None => None,
-        Some(number) => Some(temporary_slot(scope, number)),
-    }
+    Some(temporary_slot(scope, temp?))
 }
 
 /// The flat copy of a call. An `Err` is want of memory.

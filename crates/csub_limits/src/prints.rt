@@ -101,10 +101,7 @@ fn wide_in_line(kind: &StmtKind) -> Option<usize>
 fn wide_in_perhaps(stmt: &Option<Box<Stmt>>) -> Option<usize>
     ensures { result ≡ first_above most_values (perhaps_prints (perhaps_of (option_map (λ s. stmt_tree s.value) stmt.now))) }
 {
-    match stmt {
-        None => None,
-        Some(stmt) => wide_in_stmt(stmt),
-    }
+    wide_in_stmt(stmt.as_ref()?)
 }
 
 /// In the condition of a `for` and in its third part.
@@ -131,10 +128,7 @@ fn wide_in_vars(vars: &[Declarator]) -> Option<usize>
 fn wide_in_var(var: &Declarator) -> Option<usize>
     ensures { result ≡ first_above most_values (var_prints (option_map init_tree var.now.init)) }
 {
-    match &var.init {
-        None => None,
-        Some(init) => wide_in_init(init),
-    }
+    wide_in_init(var.init.as_ref()?)
 }
 
 #[cycle(initialiser)]
@@ -162,10 +156,7 @@ fn wide_in_inits(inits: &[Init]) -> Option<usize>
 fn wide_if_there(e: &Option<Expr>) -> Option<usize>
     ensures { result ≡ first_above most_values (prints_perhaps (option_map expr_tree e.now)) }
 {
-    match e {
-        None => None,
-        Some(e) => wide_in_expr(e),
-    }
+    wide_in_expr(e.as_ref()?)
 }
 
 #[cycle(expression)]

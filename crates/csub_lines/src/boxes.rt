@@ -9,22 +9,19 @@ use std::alloc::{AllocError, Global};
 pub(crate) fn boxed_label(alloc: Global, label: Label) -> Result<Box<Label>, AllocError>
     ensures { IfOk result (λ made. made.value ≡ label) }
 {
-    let made = Box::new(alloc, label)?;
-    Ok(made)
+    Ok(Box::new(alloc, label)?)
 }
 
 /// A part in a box. An `Err` is want of memory.
 pub(crate) fn boxed_part(alloc: Global, part: RPart) -> Result<Box<RPart>, AllocError>
     ensures { IfOk result (λ made. made.value ≡ part) }
 {
-    let made = Box::new(alloc, part)?;
-    Ok(made)
+    Ok(Box::new(alloc, part)?)
 }
 
 /// Initial values in a box. An `Err` is want of memory.
 pub(crate) fn boxed_init(alloc: Global, init: RInit) -> Result<Box<RInit>, AllocError>
     ensures { IfOk result (λ made. made.value ≡ init) }
 {
-    let made = Box::new(alloc, init)?;
-    Ok(made)
+    Ok(Box::new(alloc, init)?)
 }

@@ -20,16 +20,14 @@ use std::alloc::{AllocError, Global};
 fn one_value(alloc: Global, value: Box<RExpr>) -> Result<Box<RInit>, AllocError>
     ensures { IfOk result (λ made. made_tree made.value ≡ one_value (value_tree value.value)) }
 {
-    let made = boxed_init(alloc, RInit::One(Box::into_inner(value)))?;
-    Ok(made)
+    boxed_init(alloc, RInit::One(Box::into_inner(value)))
 }
 
 /// A list of values.
 fn list_value(alloc: Global, values: Vec<RInit>) -> Result<Box<RInit>, AllocError>
     ensures { IfOk result (λ made. made_tree made.value ≡ listed (made_list (map made_tree values.items))) }
 {
-    let made = boxed_init(alloc, RInit::List(values))?;
-    Ok(made)
+    boxed_init(alloc, RInit::List(values))
 }
 
 /// The entries of a list, which are numbers.

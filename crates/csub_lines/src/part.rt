@@ -60,8 +60,7 @@ fn own_part(
     ensures { IfOk result (λ part. part_tree part.value ≡ map call_stage calls.items ++ own (label_tree label.value) span) }
 {
     let main = Some(Box::into_inner(label));
-    let part = boxed_part(alloc, RPart { calls, main, span })?;
-    Ok(part)
+    boxed_part(alloc, RPart { calls, main, span })
 }
 
 /// The part of calls alone.
@@ -69,53 +68,46 @@ fn calls_part(alloc: Global, calls: Vec<RCall>, span: Span) -> Result<Box<RPart>
     ensures { IfOk result (λ part. part_tree part.value ≡ map call_stage calls.items) }
 {
     let main = None;
-    let part = boxed_part(alloc, RPart { calls, main, span })?;
-    Ok(part)
+    boxed_part(alloc, RPart { calls, main, span })
 }
 
 /// The label of an expression that is evaluated for its effects.
 fn eval_label(alloc: Global, value: Box<RExpr>) -> Result<Box<Label>, AllocError>
     ensures { IfOk result (λ label. label_tree label.value ≡ evaluates (value_tree value.value)) }
 {
-    let label = boxed_label(alloc, Label::Eval(Box::into_inner(value)))?;
-    Ok(label)
+    boxed_label(alloc, Label::Eval(Box::into_inner(value)))
 }
 
 /// The label of `exit`.
 fn halt_label(alloc: Global, value: Box<RExpr>) -> Result<Box<Label>, AllocError>
     ensures { IfOk result (λ label. label_tree label.value ≡ halts (value_tree value.value)) }
 {
-    let label = boxed_label(alloc, Label::Halt(Box::into_inner(value)))?;
-    Ok(label)
+    boxed_label(alloc, Label::Halt(Box::into_inner(value)))
 }
 
 /// The label of a test.
 fn branch_label(alloc: Global, value: Box<RExpr>) -> Result<Box<Label>, AllocError>
     ensures { IfOk result (λ label. label_tree label.value ≡ branches (value_tree value.value)) }
 {
-    let label = boxed_label(alloc, Label::Branch(Box::into_inner(value)))?;
-    Ok(label)
+    boxed_label(alloc, Label::Branch(Box::into_inner(value)))
 }
 
 /// The label of the expression of a `switch`.
 fn switch_label(alloc: Global, value: Box<RExpr>) -> Result<Box<Label>, AllocError>
     ensures { IfOk result (λ label. label_tree label.value ≡ switches (value_tree value.value)) }
 {
-    let label = boxed_label(alloc, Label::Switch(Box::into_inner(value)))?;
-    Ok(label)
+    boxed_label(alloc, Label::Switch(Box::into_inner(value)))
 }
 
 /// A returned value with the result type of its function (C11 6.8.6.4).
 fn answer_of(result_kind: Option<IntKind>, value: Box<RExpr>) -> Option<Answer>
     ensures { option_map answer_tree result ≡ option_map (λ kind. record { kind = kind; value = value_tree value.value }) result_kind }
 {
-    match result_kind {
-        None => None,
-        Some(kind) => Some(Answer {
-            kind,
-            value: Box::into_inner(value),
-        }),
-    }
+    let kind = result_kind?;
+    Some(Answer {
+        kind,
+        value: Box::into_inner(value),
+    })
 }
 
 /// The label of a `return` with a value, where its function gives this kind, or nothing.
@@ -126,8 +118,7 @@ fn return_label(
 ) -> Result<Box<Label>, AllocError>
     ensures { IfOk result (λ label. label_tree label.value ≡ returns (option_map (λ kind. record { kind = kind; value = value_tree value.value }) result_kind)) }
 {
-    let label = boxed_label(alloc, Label::Return(answer_of(result_kind, value)))?;
-    Ok(label)
+    boxed_label(alloc, Label::Return(answer_of(result_kind, value)))
 }
 
 /// The label of a declared object of a name and a number that gets these contents.
@@ -143,8 +134,7 @@ fn init_label(
     let text = name.text.copy()?;
     let ctype = copy_type(ctype)?;
     let owner = Owner::Local(text, number);
-    let label = boxed_label(alloc, Label::Init(owner, ctype, Box::into_inner(value)))?;
-    Ok(label)
+    boxed_label(alloc, Label::Init(owner, ctype, Box::into_inner(value)))
 }
 
 /// The part of an expression that is itself a call of one of the source's functions, which has no point of its own beside it.
@@ -218,8 +208,7 @@ pub fn test_part(alloc: Global, known: Known, e: &Expr) -> Result<Box<RPart>, Al
 fn always_label(alloc: Global) -> Result<Box<Label>, AllocError>
     ensures { IfOk result (λ label. label_tree label.value ≡ branches (constant Int (pos 1))) }
 {
-    let label = boxed_label(alloc, Label::Branch(RExpr::Const(IntKind::Int, 1)))?;
-    Ok(label)
+    boxed_label(alloc, Label::Branch(RExpr::Const(IntKind::Int, 1)))
 }
 
 /// The part of the test of a `for` at a place; where it has none the test is 1 (C11 6.8.5.3p2).

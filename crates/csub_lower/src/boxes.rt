@@ -9,14 +9,12 @@ use std::alloc::{AllocError, Global};
 pub(crate) fn boxed_value(alloc: Global, value: RExpr) -> Result<Box<RExpr>, AllocError>
     ensures { IfOk result (λ made. made.value ≡ value) }
 {
-    let made = Box::new(alloc, value)?;
-    Ok(made)
+    Ok(Box::new(alloc, value)?)
 }
 
 /// A place in a box. An `Err` is want of memory.
 pub(crate) fn boxed_place(alloc: Global, place: Place) -> Result<Box<Place>, AllocError>
     ensures { IfOk result (λ made. made.value ≡ place) }
 {
-    let made = Box::new(alloc, place)?;
-    Ok(made)
+    Ok(Box::new(alloc, place)?)
 }

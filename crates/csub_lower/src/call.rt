@@ -88,10 +88,7 @@ fn copy_members(alloc: Global, members: &[Member]) -> Result<Vec<Member>, AllocE
 fn temp_of(gives: Option<IntKind>, number: u32) -> Option<u32>
     ensures { result ≡ temp_of gives number }
 {
-    match gives {
-        None => None,
-        Some(_) => Some(number),
-    }
+    gives.map(|_| number)
 }
 
 /// A call of one of the source's functions, which gives a number of a kind or nothing, as the number-th of its part. An

@@ -52,10 +52,7 @@ pub fn member_type<'a>(ctype: &'a CType, name: &[u8]) -> Option<&'a CType>
     ensures { option_map (λ t. type_tree t.now) result ≡ member_type name.now (type_tree ctype.now) }
 {
     match ctype {
-        CType::Struct(_, members) => match members.find(name) {
-            Some(member) => Some(&member.ctype),
-            None => None,
-        },
+        CType::Struct(_, members) => Some(&members.find(name)?.ctype),
         _ => None,
     }
 }

@@ -60,10 +60,8 @@ impl Names {
     pub fn find(&self, name: &[u8]) -> Option<&Declared>
         ensures { option_map (λ declared. declared_of declared.now) result ≡ find name.now self.now }
     {
-        match place_of(&self.latest, name) {
-            Some(place) => Some(&self.stack[place as usize].declared),
-            None => None,
-        }
+        let place = place_of(&self.latest, name)?;
+        Some(&self.stack[place as usize].declared)
     }
 
     /// Declares a name, which hides every earlier declaration of it. An `Err` is want of memory, or 4,294,967,295

@@ -10,10 +10,7 @@ use std::alloc::AllocError;
 pub(crate) fn place_of(latest: &IndexMap<Vec<u8>, Option<u32>>, name: &[u8]) -> Option<u32>
     ensures { result ≡ placed latest.now name.now }
 {
-    match latest.get(name) {
-        Some(place) => *place,
-        None => None,
-    }
+    *latest.get(name)?
 }
 
 /// Gives a name a place, and answers the one that it had. An `Err` is want of memory, and no place has changed then.

@@ -54,10 +54,8 @@ impl Tags {
     pub fn find(&self, tag: &[u8]) -> Option<&Tagged>
         ensures { option_map (λ tagged. tagged_of tagged.now) result ≡ find_tag tag.now self.now }
     {
-        match place_of(&self.latest, tag) {
-            Some(place) => Some(&self.stack[place as usize]),
-            None => None,
-        }
+        let place = place_of(&self.latest, tag)?;
+        Some(&self.stack[place as usize])
     }
 
     /// Declares a tag, of a struct with its members, of an enumeration without. An `Err` is want of memory, or

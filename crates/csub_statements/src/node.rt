@@ -33,16 +33,14 @@ use std::alloc::{AllocError, Global};
 fn boxed(alloc: Global, made: RStmt) -> Result<Box<RStmt>, AllocError>
     ensures { IfOk result (λ there. there.value ≡ made) }
 {
-    let there = Box::new(alloc, made)?;
-    Ok(there)
+    Ok(Box::new(alloc, made)?)
 }
 
 /// A statement of these parts.
 pub(crate) fn parts_node(alloc: Global, row: Vec<RPart>) -> Result<Box<RStmt>, AllocError>
     ensures { IfOk result (λ made. made_tree made.value ≡ parts (map part_tree row.items)) }
 {
-    let made = boxed(alloc, RStmt::Parts(row))?;
-    Ok(made)
+    boxed(alloc, RStmt::Parts(row))
 }
 
 /// A statement of one part.
@@ -95,8 +93,7 @@ pub(crate) fn return_node(
 pub(crate) fn block_node(alloc: Global, lines: Vec<RStmt>) -> Result<Box<RStmt>, AllocError>
     ensures { IfOk result (λ made. made_tree made.value ≡ block (made_lines (map made_tree lines.items))) }
 {
-    let made = boxed(alloc, RStmt::Block(lines))?;
-    Ok(made)
+    boxed(alloc, RStmt::Block(lines))
 }
 
 /// An `if`, with or without `else`.
@@ -108,8 +105,7 @@ pub(crate) fn if_node(
 ) -> Result<Box<RStmt>, AllocError>
     ensures { IfOk result (λ made. made_tree made.value ≡ conditional (part_tree test.value) (made_tree then.value) (else_of (option_map (λ s. made_tree s.value) other))) }
 {
-    let made = boxed(alloc, RStmt::If(Box::into_inner(test), then, other))?;
-    Ok(made)
+    boxed(alloc, RStmt::If(Box::into_inner(test), then, other))
 }
 
 /// A `while`.
@@ -120,8 +116,7 @@ pub(crate) fn while_node(
 ) -> Result<Box<RStmt>, AllocError>
     ensures { IfOk result (λ made. made_tree made.value ≡ while_loop (part_tree test.value) (made_tree body.value)) }
 {
-    let made = boxed(alloc, RStmt::While(Box::into_inner(test), body))?;
-    Ok(made)
+    boxed(alloc, RStmt::While(Box::into_inner(test), body))
 }
 
 /// A `do`.
@@ -132,8 +127,7 @@ pub(crate) fn do_node(
 ) -> Result<Box<RStmt>, AllocError>
     ensures { IfOk result (λ made. made_tree made.value ≡ do_loop (made_tree body.value) (part_tree test.value)) }
 {
-    let made = boxed(alloc, RStmt::Do(body, Box::into_inner(test)))?;
-    Ok(made)
+    boxed(alloc, RStmt::Do(body, Box::into_inner(test)))
 }
 
 /// What stands in the parentheses of a `for`.
@@ -173,8 +167,7 @@ pub(crate) fn for_node(
     ensures { IfOk result (λ made. made_tree made.value ≡ for_loop (map part_tree head.first.items) (part_tree head.test.value) (map part_tree head.third.items) (made_tree body.value)) }
 {
     let test = Box::into_inner(head.test);
-    let made = boxed(alloc, RStmt::For(head.first, test, head.third, body))?;
-    Ok(made)
+    boxed(alloc, RStmt::For(head.first, test, head.third, body))
 }
 
 /// A `switch`.
@@ -185,8 +178,7 @@ pub(crate) fn switch_node(
 ) -> Result<Box<RStmt>, AllocError>
     ensures { IfOk result (λ made. made_tree made.value ≡ switch_on (part_tree part.value) (made_lines (map made_tree lines.items))) }
 {
-    let made = boxed(alloc, RStmt::Switch(Box::into_inner(part), lines))?;
-    Ok(made)
+    boxed(alloc, RStmt::Switch(Box::into_inner(part), lines))
 }
 
 /// The value of a `case`, converted to the kind of its `switch` (C11 6.8.4.2p5).
@@ -205,32 +197,28 @@ pub(crate) fn case_node(
 ) -> Result<Box<RStmt>, AllocError>
     ensures { IfOk result (λ made. made_tree made.value ≡ case_label (case_value kind (scope_of scope.now) (expr_tree e.now))) }
 {
-    let made = boxed(alloc, RStmt::Case(case_value(kind, scope, e)))?;
-    Ok(made)
+    boxed(alloc, RStmt::Case(case_value(kind, scope, e)))
 }
 
 /// A `default`.
 pub(crate) fn default_node(alloc: Global) -> Result<Box<RStmt>, AllocError>
     ensures { IfOk result (λ made. made_tree made.value ≡ default_label) }
 {
-    let made = boxed(alloc, RStmt::Default)?;
-    Ok(made)
+    boxed(alloc, RStmt::Default)
 }
 
 /// A `break`.
 pub(crate) fn break_node(alloc: Global) -> Result<Box<RStmt>, AllocError>
     ensures { IfOk result (λ made. made_tree made.value ≡ breaks) }
 {
-    let made = boxed(alloc, RStmt::Break)?;
-    Ok(made)
+    boxed(alloc, RStmt::Break)
 }
 
 /// A `continue`.
 pub(crate) fn continue_node(alloc: Global) -> Result<Box<RStmt>, AllocError>
     ensures { IfOk result (λ made. made_tree made.value ≡ continues) }
 {
-    let made = boxed(alloc, RStmt::Continue)?;
-    Ok(made)
+    boxed(alloc, RStmt::Continue)
 }
 
 /// A `goto` at a place, of a label of this name.
@@ -239,8 +227,7 @@ pub(crate) fn goto_node(alloc: Global, x: &Name, span: Span) -> Result<Box<RStmt
 {
     let name = x.text.copy()?;
     let part = goto_part(alloc, span)?;
-    let made = boxed(alloc, RStmt::Goto(name, Box::into_inner(part)))?;
-    Ok(made)
+    boxed(alloc, RStmt::Goto(name, Box::into_inner(part)))
 }
 
 /// A statement with a label of this name.
@@ -252,8 +239,7 @@ pub(crate) fn mark_node(
     ensures { IfOk result (λ made. made_tree made.value ≡ marked x.now.text (made_tree inner.value)) }
 {
     let name = x.text.copy()?;
-    let made = boxed(alloc, RStmt::Mark(name, inner))?;
-    Ok(made)
+    boxed(alloc, RStmt::Mark(name, inner))
 }
 
 /// The parts of a statement without statements inside, as the first part of a `for` is one.

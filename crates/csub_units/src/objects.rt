@@ -27,10 +27,7 @@ pub fn global_meaning(ctype: &Option<CType>) -> Result<Meaning, AllocError>
 fn check_initial(scope: &Scope, ctype: Option<&CType>, init: &Option<Init>) -> Option<Fault>
     ensures { result ≡ initial_fault (scope_of scope.now) (option_map (λ t. type_tree t.now) ctype.entry) (option_map init_tree init.now) }
 {
-    match init {
-        None => None,
-        Some(init) => check_init(scope, true, ctype, init),
-    }
+    check_init(scope, true, ctype, init.as_ref()?)
 }
 
 /// A declared object behind a type: the first rule that it breaks. It is declared then.

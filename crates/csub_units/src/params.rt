@@ -75,10 +75,7 @@ fn check_param_base(scope: &Scope, array: bool, base: &TypeName) -> Option<Fault
 fn check_length(scope: &Scope, length: &Option<Expr>) -> Option<Fault>
     ensures { result ≡ length_fault (scope_of scope.now) (option_map expr_tree length.now) }
 {
-    match length {
-        None => None,
-        Some(length) => check_use(scope, Use::Constant, length),
-    }
+    check_use(scope, Use::Constant, length.as_ref()?)
 }
 
 /// The first rule that a parameter's type breaks. It takes no memory.
@@ -116,14 +113,10 @@ pub fn are_typed(scope: &Scope, params: &[Param]) -> bool
 fn check_param_name(here: &Here, name: &Option<Name>) -> Option<Fault>
     ensures { result ≡ param_name_fault (here_of here.now) name.now }
 {
-    match name {
-        None => None,
-        Some(x) => {
-            let twice = fault_if(is_declared(here, x.text.bytes()), 2, x.span);
-            let reserved = fault_if(is_reserved(x.text.bytes()), 3, x.span);
-            earlier(twice, reserved)
-        }
-    }
+    let x = name.as_ref()?;
+    let twice = fault_if(is_declared(here, x.text.bytes()), 2, x.span);
+    let reserved = fault_if(is_reserved(x.text.bytes()), 3, x.span);
+    earlier(twice, reserved)
 }
 
 /// Declares a parameter, where it has a name. An `Err` is want of memory.

@@ -51,10 +51,7 @@ fn behind_elements<'a>(element: &CType, length: u32, numbers: &'a [i64]) -> Opti
 {
     let mut rest = numbers;
     for _ in 0..length {
-        match behind_object(element, rest) {
-            Some(others) => rest = others,
-            None => return None,
-        }
+        rest = behind_object(element, rest)?;
     }
     Some(rest)
 }
@@ -66,10 +63,7 @@ fn behind_members<'a>(members: &[Member], numbers: &'a [i64]) -> Option<&'a [i64
 {
     let mut rest = numbers;
     for member in members {
-        match behind_object(&member.ctype, rest) {
-            Some(others) => rest = others,
-            None => return None,
-        }
+        rest = behind_object(&member.ctype, rest)?;
     }
     Some(rest)
 }

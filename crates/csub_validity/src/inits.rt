@@ -63,8 +63,5 @@ fn is_whole(ctype: Option<&CType>) -> bool
 fn part_of(ctype: Option<&CType>, i: usize) -> Option<&CType>
     ensures { option_map (λ t. type_tree t.now) result ≡ part_of (option_map (λ t. type_tree t.now) ctype.entry) i }
 {
-    match ctype {
-        Some(ctype) => part_type(ctype, i),
-        None => None,
-    }
+    part_type(ctype?, i)
 }

@@ -17,14 +17,8 @@ pub fn place_type<'a>(place: &'a Place) -> Option<&'a CType>
 {
     match place {
         Place::Var(_, ctype) => Some(ctype),
-        Place::Index(array, _) => match place_type(array) {
-            Some(ctype) => element_type(ctype),
-            None => None,
-        },
-        Place::Member(whole, name) => match place_type(whole) {
-            Some(ctype) => member_type(ctype, name.bytes()),
-            None => None,
-        },
+        Place::Index(array, _) => element_type(place_type(array)?),
+        Place::Member(whole, name) => member_type(place_type(whole)?, name.bytes()),
     }
 }
 

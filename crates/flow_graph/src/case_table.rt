@@ -13,10 +13,8 @@ use std::collections::BTreeMap;
 pub fn find_case(cases: &BTreeMap<(u32, i64), u32>, point: u32, value: i64) -> Option<usize>
     ensures { result ≡ place_in cases.now point value }
 {
-    match cases.get(&(point, value)) {
-        Some(place) => Some(*place as usize),
-        None => None,
-    }
+    let place = cases.get(&(point, value))?;
+    Some(*place as usize)
 }
 
 /// Enters the place of a case.

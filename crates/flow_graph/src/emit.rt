@@ -198,8 +198,7 @@ fn emit_head(
     let index = step(first.len())?;
     let spot = Spot { path, part: index };
     let end = emit_part(alloc, test, spot, end, ways, onward.leave, out)?.first;
-    let begin = emit_parts(alloc, first, path, 0, end, back, out)?;
-    Ok(begin)
+    emit_parts(alloc, first, path, 0, end, back, out)
 }
 
 /// Appends the points of the statement at `path`, last first; the number behind its last point is `end`.
@@ -274,8 +273,7 @@ fn emit_inner(
     ensures nodes { IfOk result (λ begin. map numbered_node out.new.items ≡ map numbered_node out.old.items ++ reverse (numbered (stmt_tree stmt.now) begin.first (path.now ++ step ∷ []) (jump_by around.entry.jumps.now) (the_around around.entry.onward))) }
 {
     let inner = inner_path(alloc, path, step)?;
-    let begin = emit(alloc, stmt, inner.as_slice(), end, around, out)?;
-    Ok(begin)
+    emit(alloc, stmt, inner.as_slice(), end, around, out)
 }
 
 /// Appends the points of a `for`, or of a `while`, which is a `for` of a test alone.

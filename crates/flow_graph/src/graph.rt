@@ -184,10 +184,8 @@ impl Graph {
         ensures found { (P : ProgramTree) → IsGraphOf self.now P → option_and_then (name_at P) result ≡ option_map (λ g. g.name) (function_of P name.now) }
         ensures within { IfSome result (λ f. f < function_count self.now) }
     {
-        match find_function(self.functions.as_slice(), name) {
-            Some(function) => Some(function as u32),
-            None => None,
-        }
+        let function = find_function(self.functions.as_slice(), name)?;
+        Some(function as u32)
     }
 
     /// The edge that leaves a point by an exit label, and the point to which it leads; `None` exactly where the point has no
@@ -201,13 +199,11 @@ impl Graph {
         ensures edge_within { IfSome result (λ w. w.edge < edge_count self.now) }
     {
         let ways = self.points[point as usize].node.ways.as_slice();
-        match find_exit(ways, &self.cases, point, exit) {
-            Some(way) => Some(WayOut {
-                edge: self.firsts[point as usize] + way as u32,
-                to: ways[way].to,
-            }),
-            None => None,
-        }
+        let way = find_exit(ways, &self.cases, point, exit)?;
+        Some(WayOut {
+            edge: self.firsts[point as usize] + way as u32,
+            to: ways[way].to,
+        })
     }
 
     /// The point to which a way out of a point leads; `None` exactly where the point has no such exit label. It takes what
@@ -217,10 +213,7 @@ impl Graph {
         ensures leads { (P : ProgramTree) (s : Site) → IsGraphOf self.now P → site_at P point ≡ Some s → option_and_then (site_at P) result ≡ option_map (site s.function) ((flow_of P).succ s.function s.point (exit_tree exit.now)) }
         ensures within { IfSome result (λ q. q < point_count self.now) }
     {
-        match self.way_out(point, exit) {
-            Some(way) => Some(way.to),
-            None => None,
-        }
+        Some(self.way_out(point, exit)?.to)
     }
 
     /// The number of the edge that leaves a point by an exit label; `None` exactly where the point has no such label. It
@@ -230,10 +223,7 @@ impl Graph {
         ensures number { (P : ProgramTree) (s : Site) → IsGraphOf self.now P → site_at P point ≡ Some s → option_and_then (edge_at' P) result ≡ option_map (λ q. record { function = s.function; from = s.point; exit = exit_tree exit.now }) ((flow_of P).succ s.function s.point (exit_tree exit.now)) }
         ensures within { IfSome result (λ e. e < edge_count self.now) }
     {
-        match self.way_out(point, exit) {
-            Some(way) => Some(way.edge),
-            None => None,
-        }
+        Some(self.way_out(point, exit)?.edge)
     }
 
     /// The numbers of the edges that leave a point, which follow one another; none where the point has no way out. It

@@ -68,10 +68,8 @@ pub(crate) fn has_few_edges(functions: &[Function]) -> bool
 pub fn point_count(functions: &[Function]) -> Option<usize>
     ensures { SomeIff result (length (points_of (map function_tree functions.now)) ≤ 18446744073709551615) (length (points_of (map function_tree functions.now))) }
 {
-    match room_after_functions(functions, Measure::Points, usize::MAX) {
-        None => None,
-        Some(room) => Some(usize::MAX - room),
-    }
+    let room = room_after_functions(functions, Measure::Points, usize::MAX)?;
+    Some(usize::MAX - room)
 }
 
 /// How many edges the functions have: an entry and each stage have one, but a test has two, a `switch` one for each case and
@@ -79,10 +77,8 @@ pub fn point_count(functions: &[Function]) -> Option<usize>
 pub fn edge_count(functions: &[Function]) -> Option<usize>
     ensures { SomeIff result (length (edges_of (map function_tree functions.now)) ≤ 18446744073709551615) (length (edges_of (map function_tree functions.now))) }
 {
-    match room_after_functions(functions, Measure::Edges, usize::MAX) {
-        None => None,
-        Some(room) => Some(usize::MAX - room),
-    }
+    let room = room_after_functions(functions, Measure::Edges, usize::MAX)?;
+    Some(usize::MAX - room)
 }
 
 /// What is left of `most` after the count of the functions.
