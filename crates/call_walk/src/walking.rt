@@ -117,6 +117,46 @@ fn reach<L: Ledger>(
     Ok(())
 }
 
+/// The walk of two graphs whose labels have their numbers; see [`walk`].
+fn walk_both<L: Ledger>(
+    alloc: Global,
+    both: &Both<'_>,
+    steps: &mut Steps<L>,
+) -> Result<WalkResult, AllocError>
+    requires labels { AreLabelled both.now }
+    ensures is_walk { (P P' : ProgramTree) → IsGraphOf both.now.old.now P → IsGraphOf both.now.new.now P' → IfOk result (IsWalk P P') }
+    ensures counted { steps.new ≤ steps.old + edge_count both.now.old.now * point_count both.now.new.now }
+{
+    let mut pairs = Walk::new(alloc, both.old, both.new)?;
+    reach(both, &mut pairs, steps)?;
+    let danger = dangerous(alloc, both.old, both.new, &pairs)?;
+    let facts = pairs.into_facts();
+    Ok(WalkResult { facts, danger })
+}
+
+/// The walk of two graphs, whose labels get their numbers in a book; see [`walk`].
+fn walk_by<L: Ledger>(
+    alloc: Global,
+    old: &Graph,
+    new: &Graph,
+    book: &mut LabelBook,
+    steps: &mut Steps<L>,
+) -> Result<WalkResult, AllocError>
+    ensures is_walk { (P P' : ProgramTree) → IsGraphOf old.now P → IsGraphOf new.now P' → IfOk result (IsWalk P P') }
+    ensures counted { steps.new ≤ steps.old + edge_count old.now * point_count new.now }
+{
+    let old_labels = number_labels(alloc, old, book)?;
+    let new_labels = number_labels(alloc, new, book)?;
+    let both = Both {
+        old,
+        new,
+        book: &*book,
+        old_labels: &old_labels,
+        new_labels: &new_labels,
+    };
+    walk_both(alloc, &both, steps)
+}
+
 /// The walk of an old program and a new one, by their graphs: the reached pairs, each once and with its reason, and the
 /// dangerous edges (Rothermel and Harrold, ACM TOSEM 6(2), 1997). An `Err` is want of memory.
 ///
@@ -133,19 +173,7 @@ pub fn walk<L: Ledger>(
     ensures is_walk { (P P' : ProgramTree) → IsGraphOf old.now P → IsGraphOf new.now P' → IfOk result (IsWalk P P') }
     ensures counted { steps.new ≤ steps.old + edge_count old.now * point_count new.now }
 {
+    // the book is dropped here alone, since that takes long to prove
     let mut book = LabelBook::new(alloc);
-    let old_labels = number_labels(alloc, old, &mut book)?;
-    let new_labels = number_labels(alloc, new, &mut book)?;
-    let both = Both {
-        old,
-        new,
-        book: &book,
-        old_labels: &old_labels,
-        new_labels: &new_labels,
-    };
-    let mut pairs = Walk::new(alloc, old, new)?;
-    reach(&both, &mut pairs, steps)?;
-    let danger = dangerous(alloc, old, new, &pairs)?;
-    let facts = pairs.into_facts();
-    Ok(WalkResult { facts, danger })
+    walk_by(alloc, old, new, &mut book, steps)
 }

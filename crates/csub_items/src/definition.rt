@@ -53,15 +53,22 @@ fn note_item(
     }
 }
 
+/// The functions that items define, in their order; they are declared then.
+fn definitions_in(alloc: Global, file: &mut File, items: &[Item]) -> Result<Definitions, AllocError>
+    ensures { IfOk result (λ found. found ≡ defined_in (file_of file.old) (map item_tree items.now)) }
+{
+    let mut found = Definitions::new(alloc);
+    for item in items {
+        note_item(alloc, file, &mut found, item)?;
+    }
+    Ok(found)
+}
+
 /// The functions that a source of these items defines, with their parameters, in the order of the source. An `Err` is want of
 /// memory, or a full count.
 pub fn definitions(alloc: Global, items: &[Item]) -> Result<Definitions, AllocError>
     ensures { IfOk result (λ found. found ≡ defined_in no_file (map item_tree items.now)) }
 {
     let mut file = File::new(alloc);
-    let mut found = Definitions::new(alloc);
-    for item in items {
-        note_item(alloc, &mut file, &mut found, item)?;
-    }
-    Ok(found)
+    definitions_in(alloc, &mut file, items)
 }

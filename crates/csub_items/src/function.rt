@@ -80,7 +80,24 @@ fn lower_item(
     }
 }
 
-/// The functions of items which break no rule.
+/// The functions of items which break no rule, in their order; they are declared then.
+fn functions_in(
+    alloc: Global,
+    file: &mut File,
+    definitions: &Definitions,
+    items: &[Item],
+) -> Result<Vec<Function>, AllocError>
+    requires { FineItems (file_of file.old) (map item_tree items.now) }
+    ensures { IfOk result (λ made. map function_tree made.items ≡ functions_in definitions.now (file_of file.old) (map item_tree items.now)) }
+{
+    let mut made = Vec::new(alloc);
+    for item in items {
+        lower_item(alloc, file, definitions, &mut made, item)?;
+    }
+    Ok(made)
+}
+
+/// The functions of a source of items which break no rule.
 fn defined_functions(
     alloc: Global,
     definitions: &Definitions,
@@ -90,11 +107,7 @@ fn defined_functions(
     ensures { IfOk result (λ made. map function_tree made.items ≡ functions_in definitions.now no_file (map item_tree items.now)) }
 {
     let mut file = File::new(alloc);
-    let mut made = Vec::new(alloc);
-    for item in items {
-        lower_item(alloc, &mut file, definitions, &mut made, item)?;
-    }
-    Ok(made)
+    functions_in(alloc, &mut file, definitions, items)
 }
 
 /// The functions of the program that a source of these items stands for, which breaks no rule: `#start`, and the defined ones in

@@ -11,7 +11,7 @@ ghost use Rattle.csub_units.specs.Heads.{sure_type};
 ghost use Rattle.csub_units.specs.Items.{past_item};
 ghost use Rattle.csub_units.specs.Objects.{past_declaration, past_object, past_objects};
 ghost use Rattle.csub_units.specs.Views.{file_of};
-ghost use Rattle.csub_resolution.specs.Programs.{global_by, globals_by, globals_of, program_of};
+ghost use Rattle.csub_resolution.specs.Programs.{global_by, globals_by, globals_in, globals_of, program_of};
 
 use crate::items::declare_item;
 use csub_declare::{base_type, check_slot};
@@ -111,17 +111,24 @@ fn lower_item(
     }
 }
 
+/// The objects of items, in their order; they are declared then.
+fn globals_in(alloc: Global, file: &mut File, items: &[Item]) -> Result<Vec<GlobalVar>, AllocError>
+    ensures { IfOk result (λ made. map global_tree made.items ≡ globals_in (file_of file.old) (map item_tree items.now)) }
+{
+    let mut made = Vec::new(alloc);
+    for item in items {
+        lower_item(alloc, file, &mut made, item)?;
+    }
+    Ok(made)
+}
+
 /// The objects of file scope of the program that a source of these items stands for, in their order, with a number for each
 /// of their cells. An `Err` is want of memory, a full count, or a type with more than 65,536 cells.
 pub fn globals(alloc: Global, items: &[Item]) -> Result<Vec<GlobalVar>, AllocError>
     ensures { IfOk result (λ made. map global_tree made.items ≡ (program_of (record { items = map item_tree items.now })).globals) }
 {
     let mut file = File::new(alloc);
-    let mut made = Vec::new(alloc);
-    for item in items {
-        lower_item(alloc, &mut file, &mut made, item)?;
-    }
-    Ok(made)
+    globals_in(alloc, &mut file, items)
 }
 
 /// More cells. An `Err` is more than 65,536 cells of an object, or too many.
@@ -185,15 +192,22 @@ fn count_item(alloc: Global, file: &mut File, count: u64, item: &Item) -> Result
     }
 }
 
+/// How many cells the objects of items have, which are declared then.
+fn cells_in(alloc: Global, file: &mut File, items: &[Item]) -> Result<u64, AllocError>
+    ensures { IfOk result (λ all. all ≡ sum_by (λ (g : GlobalTree). cells g.ctype) (globals_in (file_of file.old) (map item_tree items.now))) }
+{
+    let mut all = 0;
+    for item in items {
+        all = count_item(alloc, file, all, item)?;
+    }
+    Ok(all)
+}
+
 /// How many cells the objects of file scope have, told without making their contents. An `Err` is want of memory, a full count,
 /// or a type with more than 65,536 cells.
 pub fn global_cells(alloc: Global, items: &[Item]) -> Result<u64, AllocError>
     ensures { IfOk result (λ all. all ≡ sum_by (λ (g : GlobalTree). cells g.ctype) (program_of (record { items = map item_tree items.now })).globals) }
 {
     let mut file = File::new(alloc);
-    let mut all = 0;
-    for item in items {
-        all = count_item(alloc, &mut file, all, item)?;
-    }
-    Ok(all)
+    cells_in(alloc, &mut file, items)
 }

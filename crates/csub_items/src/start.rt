@@ -47,25 +47,39 @@ fn start_part(alloc: Global, at: Span) -> Result<Box<RPart>, AllocError>
     };
     let mut calls = Vec::new(alloc);
     calls.push(RCall { label, span: at })?;
-    let part = Box::new(
+    Ok(Box::new(
         alloc,
         RPart {
             calls,
             main: None,
             span: at,
         },
-    )?;
-    Ok(part)
+    )?)
+}
+
+/// The parts of the one line of `#start`.
+fn start_row(alloc: Global, at: Span) -> Result<Vec<RPart>, AllocError>
+    ensures { IfOk result (λ made. map part_tree made.items ≡ (record { label = start_call; span = at } ∷ []) ∷ []) }
+{
+    let part = start_part(alloc, at)?;
+    let mut row = Vec::new(alloc);
+    row.push(Box::into_inner(part))?;
+    Ok(row)
+}
+
+/// The one line of `#start`.
+fn start_line(alloc: Global, at: Span) -> Result<Box<RStmt>, AllocError>
+    ensures { IfOk result (λ made. stmt_tree made.value ≡ parts ((record { label = start_call; span = at } ∷ []) ∷ [])) }
+{
+    let row = start_row(alloc, at)?;
+    Ok(Box::new(alloc, RStmt::Parts(row))?)
 }
 
 /// The body of `#start`.
 fn start_body(alloc: Global, at: Span) -> Result<Vec<RStmt>, AllocError>
     ensures { IfOk result (λ made. stmts_of (map stmt_tree made.items) ≡ more_stmts (parts ((record { label = start_call; span = at } ∷ []) ∷ [])) no_stmt) }
 {
-    let part = start_part(alloc, at)?;
-    let mut row = Vec::new(alloc);
-    row.push(Box::into_inner(part))?;
-    let line = Box::new(alloc, RStmt::Parts(row))?;
+    let line = start_line(alloc, at)?;
     let mut body = Vec::new(alloc);
     body.push(Box::into_inner(line))?;
     Ok(body)

@@ -1,6 +1,8 @@
 //! Sources as wholes.
 ghost use Rattle.std.specs.Prelude.{◌≡◌, IfOk, map};
 ghost use Rattle.csub_tree.specs.Units.{item_tree, unit_tree};
+ghost use Rattle.csub_units.specs.Files.{no_file};
+ghost use Rattle.csub_units.specs.Views.{file_of};
 ghost use Rattle.csub_units.specs.Units.{no_place, or_last, undefined_fault, undefineds_fault, unit_fault};
 
 use crate::file::File;
@@ -55,17 +57,24 @@ fn or_last(fault: Option<Fault>, last: Option<Fault>) -> Option<Fault>
     }
 }
 
+/// The first rule that the items of a source break; nothing is declared before them.
+fn check_in(alloc: Global, file: &mut File, items: &[Item]) -> Result<Option<Fault>, AllocError>
+    requires { file_of file.old ≡ no_file }
+    ensures { IfOk result (λ fault. fault ≡ unit_fault (record { items = map item_tree items.now })) }
+{
+    let broken = check_items(alloc, file, items)?;
+    let undefined = check_all_defined(&file.defined, items);
+    let has_main = stands_in(&file.defined, b"main".as_slice());
+    let missing = fault_if(!has_main, 19, no_place());
+    Ok(or_last(earlier(broken, undefined), missing))
+}
+
 /// The first rule that a source breaks: the one that stands first, and of those at one place the one of the least number;
 /// where none is broken, M19 with the empty span at byte 0 if there is no `main`. It takes time in proportion to the source
 /// and the types that it compares. An `Err` is want of memory, or a full count.
 pub fn check_unit(alloc: Global, unit: &Unit) -> Result<Option<Fault>, AllocError>
     ensures { IfOk result (λ fault. fault ≡ unit_fault (unit_tree unit.now)) }
 {
-    let items = unit.items.as_slice();
     let mut file = File::new(alloc);
-    let broken = check_items(alloc, &mut file, items)?;
-    let undefined = check_all_defined(&file.defined, items);
-    let has_main = stands_in(&file.defined, b"main".as_slice());
-    let missing = fault_if(!has_main, 19, no_place());
-    Ok(or_last(earlier(broken, undefined), missing))
+    check_in(alloc, &mut file, unit.items.as_slice())
 }

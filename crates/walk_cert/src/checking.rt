@@ -63,17 +63,35 @@ fn check_counted<L: Ledger>(
     ensures { (P P' : ProgramTree) → IsGraphOf old.now P → IsGraphOf new.now P' → IfOk result (IsVerdict P P' certificate.now.danger certificate.now.pairs) }
 {
     let mut steps: Steps<L> = Steps::new(blank);
+    // the book is dropped here alone, since that takes long to prove
     let mut book = LabelBook::new(alloc);
-    let old_labels = number_labels(alloc, old, &mut book)?;
-    let new_labels = number_labels(alloc, new, &mut book)?;
+    check_by(alloc, old, new, certificate, &mut book, &mut steps)
+}
+
+// The same, with a book in which the labels get their numbers.
+fn check_by<L: Ledger>(
+    alloc: Global,
+    old: &Graph,
+    new: &Graph,
+    certificate: &Certificate,
+    book: &mut LabelBook,
+    steps: &mut Steps<L>,
+) -> Result<Verdict, AllocError>
+    requires row { length certificate.now.danger ≡ edge_count old.now }
+    requires below { AreBelow old.now new.now certificate.now.pairs }
+    requires rise { Rise certificate.now.pairs }
+    ensures { (P P' : ProgramTree) → IsGraphOf old.now P → IsGraphOf new.now P' → IfOk result (IsVerdict P P' certificate.now.danger certificate.now.pairs) }
+{
+    let old_labels = number_labels(alloc, old, book)?;
+    let new_labels = number_labels(alloc, new, book)?;
     let both = Both {
         old,
         new,
-        book: &book,
+        book: &*book,
         old_labels: &old_labels,
         new_labels: &new_labels,
     };
-    Ok(verdict_of(&both, certificate.danger(), certificate.pairs(), &mut steps))
+    Ok(verdict_of(&both, certificate.danger(), certificate.pairs(), steps))
 }
 
 // What is found of a claim.

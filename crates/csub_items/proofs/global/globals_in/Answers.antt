@@ -5,7 +5,7 @@ use Rattle.csub_units.specs.Items.{past_item}
 use Rattle.csub_units.specs.Views.{file_of}
 use Rattle.csub_resolution.specs.Programs.{globals_in, globals_of}
 use Rattle.csub_items.proofs.Lists.{made_more}
-use Rattle.csub_items.proofs.global.globals.Goals as goal
+use Rattle.csub_items.proofs.global.globals_in.Goals as goal
 
 pub loop-item-preserved : goal.loop-item-preserved
 loop-item-preserved c =

@@ -6,7 +6,7 @@ use Rattle.csub_units.specs.Items.{past_item}
 use Rattle.csub_units.specs.Views.{file_of}
 use Rattle.csub_resolution.specs.Programs.{globals_in, globals_of}
 use Rattle.csub_items.proofs.Lists.{count_more}
-use Rattle.csub_items.proofs.global.global_cells.Goals as goal
+use Rattle.csub_items.proofs.global.cells_in.Goals as goal
 
 pub loop-item-preserved : goal.loop-item-preserved
 loop-item-preserved c =

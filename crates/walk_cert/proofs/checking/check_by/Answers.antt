@@ -1,7 +1,7 @@
 use Rattle.std.proofs.Common.{sym, subst}
 use Rattle.dual_walk.specs.LabelRows.{AreNumbered}
 use Rattle.dual_walk.proofs.LawsNumbers.{row_kept}
-use Rattle.walk_cert.proofs.checking.check_counted.Goals as goal
+use Rattle.walk_cert.proofs.checking.check_by.Goals as goal
 
 pub verdict_of-requires-clause-labels : goal.verdict_of-requires-clause-labels
 verdict_of-requires-clause-labels g c = record {

@@ -4,7 +4,7 @@ use Rattle.csub_units.specs.Items.{past_item}
 use Rattle.csub_units.specs.Views.{file_of}
 use Rattle.csub_resolution.specs.Programs.{defined_by, defined_in}
 use Rattle.csub_items.proofs.Lists.{made_more}
-use Rattle.csub_items.proofs.definition.definitions.Goals as goal
+use Rattle.csub_items.proofs.definition.definitions_in.Goals as goal
 
 pub loop-item-preserved : goal.loop-item-preserved
 loop-item-preserved c =

@@ -7,7 +7,7 @@ use Rattle.csub_units.specs.Views.{file_of}
 use Rattle.csub_resolution.specs.Programs.{functions_by, functions_in}
 use Rattle.csub_items.proofs.Bodies.{fine_this, fine_more}
 use Rattle.csub_items.proofs.Lists.{made_more}
-use Rattle.csub_items.proofs.function.defined_functions.Goals as goal
+use Rattle.csub_items.proofs.function.functions_in.Goals as goal
 
 pub lower_item-requires : goal.lower_item-requires
 lower_item-requires c =
