@@ -10,7 +10,8 @@
 //!   (`specs/Choices`).
 //!
 //! Proofs above cite `proofs/LawsFiles`, from what is fetched to what the files hold, `proofs/LawsChoices`, from the row of a
-//! walk to choices, and `proofs/LawsEntries`, the limits of entries that runs give.
+//! walk to choices, `proofs/LawsEntries`, the limits of entries that runs give, and `proofs/LawsRefusals`, a refusal that `?`
+//! passes on.
 #![tactic(auto)]
 
 mod choosing;

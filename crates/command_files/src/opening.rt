@@ -45,18 +45,13 @@ pub fn open_source<S: Shelf>(
     ensures counts { NeverFalls (S.faults shelf.old) (S.faults shelf.new) }
 {
     let source = fetch_file(shelf, name, SOURCE_AND_ONE)?;
-    let program = match read_source(alloc, role, &source) {
-        Ok(program) => program,
-        Err(refusal) => return Err(refusal),
-    };
-    match fetch_file(shelf, second_name, most) {
-        Ok(bytes) => Ok(OpenedSource {
-            source,
-            program,
-            bytes,
-        }),
-        Err(refusal) => Err(refusal),
-    }
+    let program = read_source(alloc, role, &source)?;
+    let bytes = fetch_file(shelf, second_name, most)?;
+    Ok(OpenedSource {
+        source,
+        program,
+        bytes,
+    })
 }
 
 /// The versions in the files of these names, and then the first `most` bytes of a third file, or all if it has fewer.
@@ -73,12 +68,7 @@ pub fn open_versions<S: Shelf>(
         (AreOpenCause old_name.now new_name.now third_name.now (S.files shelf.old) (S.faults shelf.old) (S.faults shelf.new)) }
     ensures counts { NeverFalls (S.faults shelf.old) (S.faults shelf.new) }
 {
-    let versions = match read_versions(alloc, old_name, new_name, shelf) {
-        Ok(versions) => versions,
-        Err(refusal) => return Err(refusal),
-    };
-    match fetch_file(shelf, third_name, most) {
-        Ok(bytes) => Ok(OpenedVersions { versions, bytes }),
-        Err(refusal) => Err(refusal),
-    }
+    let versions = read_versions(alloc, old_name, new_name, shelf)?;
+    let bytes = fetch_file(shelf, third_name, most)?;
+    Ok(OpenedVersions { versions, bytes })
 }

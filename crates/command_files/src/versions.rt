@@ -48,20 +48,15 @@ pub fn read_versions<S: Shelf>(
     ensures same { S.files shelf.new ≡ S.files shelf.old }
 {
     let source = fetch_file(shelf, old_name, SOURCE_AND_ONE)?;
-    let old = match read_source(alloc, Role::Old, &source) {
-        Ok(program) => program,
-        Err(refusal) => return Err(refusal),
-    };
+    let old = read_source(alloc, Role::Old, &source)?;
     let new_source = fetch_file(shelf, new_name, SOURCE_AND_ONE)?;
-    match read_source(alloc, Role::New, &new_source) {
-        Ok(new) => Ok(Versions {
-            source,
-            new_source,
-            old,
-            new,
-        }),
-        Err(refusal) => Err(refusal),
-    }
+    let new = read_source(alloc, Role::New, &new_source)?;
+    Ok(Versions {
+        source,
+        new_source,
+        old,
+        new,
+    })
 }
 
 /// The graphs of these versions. An `Err` is want of memory.

@@ -9,11 +9,11 @@ abbrev pub command_shown : Read → Command
 command_shown (read.Record source suite workers) = record_files source.now suite.now workers
 command_shown (read.Migrate old history) = migrate_files old.now history.now
 command_shown (read.Walk old new) = walk_files old.now new.now
-command_shown (read.Select old new history) = select_files old.now new.now history.now
-command_shown (read.Rerun old new history workers) = rerun_files old.now new.now history.now workers
-command_shown (read.Explain old new history test) = explain_files old.now new.now history.now test.now
-command_shown (read.Carry old new history workers) = carry_files old.now new.now history.now workers
-command_shown (read.Order old new history workers) = order_files old.now new.now history.now workers
+command_shown (read.Select files) = select_files files.old.now files.new.now files.history.now
+command_shown (read.Rerun files workers) = rerun_files files.old.now files.new.now files.history.now workers
+command_shown (read.Explain files test) = explain_files files.old.now files.new.now files.history.now test.now
+command_shown (read.Carry files workers) = carry_files files.old.now files.new.now files.history.now workers
+command_shown (read.Order files workers) = order_files files.old.now files.new.now files.history.now workers
 command_shown (read.Certify old new) = certify_files old.now new.now
 command_shown (read.Check old new certificate) = check_files old.now new.now certificate.now
 command_shown (read.Gen seed size) = gen_numbers seed size
@@ -25,8 +25,8 @@ AreWorkers workers = (0 < workers) × (workers ≤ most_workers)
 -- its numbers are within their limits
 abbrev pub HasNumbers : Read → Type 0
 HasNumbers (read.Record source suite workers) = AreWorkers workers
-HasNumbers (read.Rerun old new history workers) = AreWorkers workers
-HasNumbers (read.Carry old new history workers) = AreWorkers workers
-HasNumbers (read.Order old new history workers) = AreWorkers workers
+HasNumbers (read.Rerun files workers) = AreWorkers workers
+HasNumbers (read.Carry files workers) = AreWorkers workers
+HasNumbers (read.Order files workers) = AreWorkers workers
 HasNumbers (read.Gen seed size) = (seed ≤ 65535) × (0 < size) × (size ≤ 400)
 HasNumbers command = Unit {0}

@@ -1,5 +1,16 @@
 //! What words ask for.
 
+/// The names of the files of two versions and of a history of the old one.
+#[derive(Clone, Copy)]
+pub struct Files<'a> {
+    /// The old source's file.
+    pub old: &'a str,
+    /// The new source's file.
+    pub new: &'a str,
+    /// The file of the history of the old source.
+    pub history: &'a str,
+}
+
 /// A command, with the names of its files and the number of its workers.
 #[derive(Clone, Copy)]
 pub enum Command<'a> {
@@ -27,55 +38,32 @@ pub enum Command<'a> {
         new: &'a str,
     },
     /// `select OLD NEW HISTORY`
-    Select {
-        /// The old source's file.
-        old: &'a str,
-        /// The new source's file.
-        new: &'a str,
-        /// The file of the history of the old source.
-        history: &'a str,
-    },
+    Select(Files<'a>),
     /// `rerun OLD NEW HISTORY`
     Rerun {
-        /// The old source's file.
-        old: &'a str,
-        /// The new source's file.
-        new: &'a str,
-        /// The file of the history of the old source.
-        history: &'a str,
+        /// The files.
+        files: Files<'a>,
         /// How many workers run the tests, from 1 to 64.
         workers: usize,
     },
     /// `explain OLD NEW HISTORY TEST`
     Explain {
-        /// The old source's file.
-        old: &'a str,
-        /// The new source's file.
-        new: &'a str,
-        /// The file of the history of the old source.
-        history: &'a str,
+        /// The files.
+        files: Files<'a>,
         /// The name of the test.
         test: &'a str,
     },
     /// `carry OLD NEW HISTORY`
     Carry {
-        /// The old source's file.
-        old: &'a str,
-        /// The new source's file.
-        new: &'a str,
-        /// The file of the history of the old source.
-        history: &'a str,
+        /// The files.
+        files: Files<'a>,
         /// How many workers run the tests, from 1 to 64.
         workers: usize,
     },
     /// `order OLD NEW HISTORY`
     Order {
-        /// The old source's file.
-        old: &'a str,
-        /// The new source's file.
-        new: &'a str,
-        /// The file of the history of the old source.
-        history: &'a str,
+        /// The files.
+        files: Files<'a>,
         /// How many workers count the tests' edges, from 1 to 64.
         workers: usize,
     },

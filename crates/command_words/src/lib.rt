@@ -9,5 +9,5 @@ mod numbers;
 mod reading;
 mod rest;
 
-pub use command::Command;
+pub use command::{Command, Files};
 pub use reading::read_words;

@@ -6,7 +6,7 @@ ghost use Rattle.command_words.specs.Words.{two_plain, three_plain, plain_alone,
 ghost use Rattle.command_words.specs.Matches.{rest_shown};
 ghost use Rattle.command_words.specs.Shown.{command_shown, HasNumbers, AreWorkers};
 
-use crate::command::Command;
+use crate::command::{Command, Files};
 use crate::numbers::{number_in, workers_of};
 use crate::rest::{plain_words, read_rest, workers_word};
 use clap::ArgMatches;
@@ -116,7 +116,7 @@ fn select_words<'a>(rest: &ArgMatches<'a>) -> Option<Command<'a>>
     ensures numbers { IfSome result HasNumbers }
 {
     let (old, new, history) = three_alone(rest)?;
-    Some(Command::Select { old, new, history })
+    Some(Command::Select(Files { old, new, history }))
 }
 
 /// `rerun` with the words behind it: `OLD NEW HISTORY [--workers N]`.
@@ -124,13 +124,8 @@ fn rerun_words<'a>(rest: &ArgMatches<'a>) -> Option<Command<'a>>
     ensures command { option_map command_shown result ≡ rerun_of (rest_shown rest.now) }
     ensures numbers { IfSome result HasNumbers }
 {
-    let (old, new, history, workers) = three_with(rest)?;
-    Some(Command::Rerun {
-        old,
-        new,
-        history,
-        workers,
-    })
+    let (files, workers) = three_with(rest)?;
+    Some(Command::Rerun { files, workers })
 }
 
 /// `explain` with the words behind it: `OLD NEW HISTORY TEST`.
@@ -140,28 +135,18 @@ fn explain_words<'a>(rest: &ArgMatches<'a>) -> Option<Command<'a>>
 {
     let alone = without_workers(rest)?;
     match plain_words(alone)? {
-        [old, new, history, test] => explain_test(old, new, history, test),
+        [old, new, history, test] => explain_test(Files { old, new, history }, test),
         _ => None,
     }
 }
 
 /// The same, if the last word can name a test.
-fn explain_test<'a>(
-    old: &'a str,
-    new: &'a str,
-    history: &'a str,
-    test: &'a str,
-) -> Option<Command<'a>>
-    ensures command { option_map command_shown result ≡ explain_with (old.now ∷ new.now ∷ history.now ∷ test.now ∷ []) }
+fn explain_test<'a>(files: Files<'a>, test: &'a str) -> Option<Command<'a>>
+    ensures command { option_map command_shown result ≡ explain_with (files.entry.old.now ∷ files.entry.new.now ∷ files.entry.history.now ∷ test.now ∷ []) }
     ensures numbers { IfSome result HasNumbers }
 {
     if is_test_name(test.as_bytes()) {
-        Some(Command::Explain {
-            old,
-            new,
-            history,
-            test,
-        })
+        Some(Command::Explain { files, test })
     } else {
         None
     }
@@ -172,13 +157,8 @@ fn carry_words<'a>(rest: &ArgMatches<'a>) -> Option<Command<'a>>
     ensures command { option_map command_shown result ≡ carry_of (rest_shown rest.now) }
     ensures numbers { IfSome result HasNumbers }
 {
-    let (old, new, history, workers) = three_with(rest)?;
-    Some(Command::Carry {
-        old,
-        new,
-        history,
-        workers,
-    })
+    let (files, workers) = three_with(rest)?;
+    Some(Command::Carry { files, workers })
 }
 
 /// `order` with the words behind it: `OLD NEW HISTORY [--workers N]`.
@@ -186,13 +166,8 @@ fn order_words<'a>(rest: &ArgMatches<'a>) -> Option<Command<'a>>
     ensures command { option_map command_shown result ≡ order_of (rest_shown rest.now) }
     ensures numbers { IfSome result HasNumbers }
 {
-    let (old, new, history, workers) = three_with(rest)?;
-    Some(Command::Order {
-        old,
-        new,
-        history,
-        workers,
-    })
+    let (files, workers) = three_with(rest)?;
+    Some(Command::Order { files, workers })
 }
 
 /// `certify` with the words behind it: `OLD NEW`.
@@ -243,13 +218,13 @@ fn three_alone<'a>(rest: &ArgMatches<'a>) -> Option<(&'a str, &'a str, &'a str)>
 }
 
 /// The plain words, where they are three, with the number of workers.
-fn three_with<'a>(rest: &ArgMatches<'a>) -> Option<(&'a str, &'a str, &'a str, usize)>
-    ensures words { option_map (λ files. (files.0.now, files.1.now, files.2.now, files.3)) result ≡ three_with (rest_shown rest.now) }
-    ensures numbers { IfSome result (λ files. AreWorkers files.3) }
+fn three_with<'a>(rest: &ArgMatches<'a>) -> Option<(Files<'a>, usize)>
+    ensures words { option_map (λ found. (found.0.old.now, found.0.new.now, found.0.history.now, found.1)) result ≡ three_with (rest_shown rest.now) }
+    ensures numbers { IfSome result (λ found. AreWorkers found.1) }
 {
     let workers = workers_of(workers_word(rest))?;
     let (old, new, history) = three_plain(rest)?;
-    Some((old, new, history, workers))
+    Some((Files { old, new, history }, workers))
 }
 
 /// The words that are read, where none is given for a number of workers.

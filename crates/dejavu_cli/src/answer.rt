@@ -28,11 +28,8 @@ pub(crate) fn whole(text: Result<Vec<u8>, Refusal>) -> Result<Answer, Refusal>
         (λ answer. (answer.end ≡ Whole) × (text ≡ Ok answer.text))
         (λ refusal. text ≡ Err refusal) }
 {
-    match text {
-        Ok(text) => Ok(Answer {
-            text,
-            end: End::Whole,
-        }),
-        Err(refusal) => Err(refusal),
-    }
+    Ok(Answer {
+        text: text?,
+        end: End::Whole,
+    })
 }

@@ -58,10 +58,7 @@ pub(crate) fn generated_text<R: Threads + Sync, G: Gate>(
         return Err(Refusal::Memory);
     };
     let Made { old, new, tests } = made;
-    let versions = match read_made(alloc, old, new) {
-        Ok(versions) => versions,
-        Err(refusal) => return Err(refusal),
-    };
+    let versions = read_made(alloc, old, new)?;
     match measured_text(alloc, seed, size, &versions, &tests, runner) {
         Ok(text) => Ok(text),
         Err(_) => Err(Refusal::Memory),
@@ -74,19 +71,14 @@ fn read_made(alloc: Global, source: Vec<u8>, new_source: Vec<u8>) -> Result<Vers
         (AreMade source.items new_source.items)
         (IsMadeRefusal source.items new_source.items) }
 {
-    let old = match read_source(alloc, Role::Old, &source) {
-        Ok(program) => program,
-        Err(refusal) => return Err(refusal),
-    };
-    match read_source(alloc, Role::New, &new_source) {
-        Ok(new) => Ok(Versions {
-            source,
-            new_source,
-            old,
-            new,
-        }),
-        Err(refusal) => Err(refusal),
-    }
+    let old = read_source(alloc, Role::Old, &source)?;
+    let new = read_source(alloc, Role::New, &new_source)?;
+    Ok(Versions {
+        source,
+        new_source,
+        old,
+        new,
+    })
 }
 
 /// The text on these versions and tests. An `Err` is want of memory.

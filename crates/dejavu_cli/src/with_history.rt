@@ -13,6 +13,7 @@ use crate::select::selection_text;
 use command_files::{FILE_AND_ONE, Runner, open_versions};
 use command_histories::{carried_text, ordered_text};
 use command_refusals::Refusal;
+use command_words::Files;
 use dv_outside::{Gate, Shelf};
 use std::alloc::Global;
 use std::thread::Threads;
@@ -20,104 +21,119 @@ use std::thread::Threads;
 /// The text of `select`.
 pub(crate) fn select<S: Shelf>(
     alloc: Global,
-    old_name: &str,
-    new_name: &str,
-    history_name: &str,
+    files: Files<'_>,
     shelf: &mut S,
 ) -> Result<Vec<u8>, Refusal>
     ensures answer { MatchResult result
-        (λ text. HasTextOf (Some (select_files old_name.now new_name.now history_name.now)) (S.files shelf.old) Whole text.items)
-        (HasCauseOf (select_files old_name.now new_name.now history_name.now) (S.files shelf.old) (S.faults shelf.old) (S.faults shelf.new)) }
+        (λ text. HasTextOf (Some (select_files files.entry.old.now files.entry.new.now files.entry.history.now)) (S.files shelf.old) Whole text.items)
+        (HasCauseOf (select_files files.entry.old.now files.entry.new.now files.entry.history.now) (S.files shelf.old) (S.faults shelf.old) (S.faults shelf.new)) }
     ensures counts { NeverFalls (S.faults shelf.old) (S.faults shelf.new) }
 {
-    match open_versions(alloc, old_name, new_name, history_name, FILE_AND_ONE, shelf) {
-        Ok(opened) => selection_text(alloc, &opened.versions, &opened.bytes),
-        Err(refusal) => Err(refusal),
-    }
+    let opened = open_versions(
+        alloc,
+        files.old,
+        files.new,
+        files.history,
+        FILE_AND_ONE,
+        shelf,
+    )?;
+    selection_text(alloc, &opened.versions, &opened.bytes)
 }
 
 /// The answer of `rerun`.
 pub(crate) fn rerun<R: Threads + Sync, S: Shelf, G: Gate>(
     alloc: Global,
-    old_name: &str,
-    new_name: &str,
-    history_name: &str,
+    files: Files<'_>,
     shelf: &mut S,
     runner: Runner<'_, R, G>,
 ) -> Result<Answer, Refusal>
     requires some { 0 < runner.workers }
     requires few { runner.workers ≤ 64 }
     ensures answer { MatchResult result
-        (λ answer. HasTextOf (Some (rerun_files old_name.now new_name.now history_name.now runner.entry.workers)) (S.files shelf.old) answer.end answer.text.items)
-        (HasCauseOf (rerun_files old_name.now new_name.now history_name.now runner.entry.workers) (S.files shelf.old) (S.faults shelf.old) (S.faults shelf.new)) }
+        (λ answer. HasTextOf (Some (rerun_files files.entry.old.now files.entry.new.now files.entry.history.now runner.entry.workers)) (S.files shelf.old) answer.end answer.text.items)
+        (HasCauseOf (rerun_files files.entry.old.now files.entry.new.now files.entry.history.now runner.entry.workers) (S.files shelf.old) (S.faults shelf.old) (S.faults shelf.new)) }
     ensures counts { NeverFalls (S.faults shelf.old) (S.faults shelf.new) }
 {
-    match open_versions(alloc, old_name, new_name, history_name, FILE_AND_ONE, shelf) {
-        Ok(opened) => rerun_answer(alloc, &opened.versions, &opened.bytes, runner),
-        Err(refusal) => Err(refusal),
-    }
+    let opened = open_versions(
+        alloc,
+        files.old,
+        files.new,
+        files.history,
+        FILE_AND_ONE,
+        shelf,
+    )?;
+    rerun_answer(alloc, &opened.versions, &opened.bytes, runner)
 }
 
 /// The text of `explain`.
 pub(crate) fn explain<S: Shelf>(
     alloc: Global,
-    old_name: &str,
-    new_name: &str,
-    history_name: &str,
+    files: Files<'_>,
     test: &str,
     shelf: &mut S,
 ) -> Result<Vec<u8>, Refusal>
     ensures answer { MatchResult result
-        (λ text. HasTextOf (Some (explain_files old_name.now new_name.now history_name.now test.now)) (S.files shelf.old) Whole text.items)
-        (HasCauseOf (explain_files old_name.now new_name.now history_name.now test.now) (S.files shelf.old) (S.faults shelf.old) (S.faults shelf.new)) }
+        (λ text. HasTextOf (Some (explain_files files.entry.old.now files.entry.new.now files.entry.history.now test.now)) (S.files shelf.old) Whole text.items)
+        (HasCauseOf (explain_files files.entry.old.now files.entry.new.now files.entry.history.now test.now) (S.files shelf.old) (S.faults shelf.old) (S.faults shelf.new)) }
     ensures counts { NeverFalls (S.faults shelf.old) (S.faults shelf.new) }
 {
-    match open_versions(alloc, old_name, new_name, history_name, FILE_AND_ONE, shelf) {
-        Ok(opened) => explanation(alloc, &opened.versions, &opened.bytes, test),
-        Err(refusal) => Err(refusal),
-    }
+    let opened = open_versions(
+        alloc,
+        files.old,
+        files.new,
+        files.history,
+        FILE_AND_ONE,
+        shelf,
+    )?;
+    explanation(alloc, &opened.versions, &opened.bytes, test)
 }
 
 /// The text of `carry`.
 pub(crate) fn carry<R: Threads + Sync, S: Shelf, G: Gate>(
     alloc: Global,
-    old_name: &str,
-    new_name: &str,
-    history_name: &str,
+    files: Files<'_>,
     shelf: &mut S,
     runner: Runner<'_, R, G>,
 ) -> Result<Vec<u8>, Refusal>
     requires some { 0 < runner.workers }
     requires few { runner.workers ≤ 64 }
     ensures answer { MatchResult result
-        (λ text. HasTextOf (Some (carry_files old_name.now new_name.now history_name.now runner.entry.workers)) (S.files shelf.old) Whole text.items)
-        (HasCauseOf (carry_files old_name.now new_name.now history_name.now runner.entry.workers) (S.files shelf.old) (S.faults shelf.old) (S.faults shelf.new)) }
+        (λ text. HasTextOf (Some (carry_files files.entry.old.now files.entry.new.now files.entry.history.now runner.entry.workers)) (S.files shelf.old) Whole text.items)
+        (HasCauseOf (carry_files files.entry.old.now files.entry.new.now files.entry.history.now runner.entry.workers) (S.files shelf.old) (S.faults shelf.old) (S.faults shelf.new)) }
     ensures counts { NeverFalls (S.faults shelf.old) (S.faults shelf.new) }
 {
-    match open_versions(alloc, old_name, new_name, history_name, FILE_AND_ONE, shelf) {
-        Ok(opened) => carried_text(alloc, &opened.versions, &opened.bytes, runner),
-        Err(refusal) => Err(refusal),
-    }
+    let opened = open_versions(
+        alloc,
+        files.old,
+        files.new,
+        files.history,
+        FILE_AND_ONE,
+        shelf,
+    )?;
+    carried_text(alloc, &opened.versions, &opened.bytes, runner)
 }
 
 /// The text of `order`.
 pub(crate) fn order<R: Threads + Sync, S: Shelf, G: Gate>(
     alloc: Global,
-    old_name: &str,
-    new_name: &str,
-    history_name: &str,
+    files: Files<'_>,
     shelf: &mut S,
     runner: Runner<'_, R, G>,
 ) -> Result<Vec<u8>, Refusal>
     requires some { 0 < runner.workers }
     requires few { runner.workers ≤ 64 }
     ensures answer { MatchResult result
-        (λ text. HasTextOf (Some (order_files old_name.now new_name.now history_name.now runner.entry.workers)) (S.files shelf.old) Whole text.items)
-        (HasCauseOf (order_files old_name.now new_name.now history_name.now runner.entry.workers) (S.files shelf.old) (S.faults shelf.old) (S.faults shelf.new)) }
+        (λ text. HasTextOf (Some (order_files files.entry.old.now files.entry.new.now files.entry.history.now runner.entry.workers)) (S.files shelf.old) Whole text.items)
+        (HasCauseOf (order_files files.entry.old.now files.entry.new.now files.entry.history.now runner.entry.workers) (S.files shelf.old) (S.faults shelf.old) (S.faults shelf.new)) }
     ensures counts { NeverFalls (S.faults shelf.old) (S.faults shelf.new) }
 {
-    match open_versions(alloc, old_name, new_name, history_name, FILE_AND_ONE, shelf) {
-        Ok(opened) => ordered_text(alloc, &opened.versions, &opened.bytes, runner),
-        Err(refusal) => Err(refusal),
-    }
+    let opened = open_versions(
+        alloc,
+        files.old,
+        files.new,
+        files.history,
+        FILE_AND_ONE,
+        shelf,
+    )?;
+    ordered_text(alloc, &opened.versions, &opened.bytes, runner)
 }

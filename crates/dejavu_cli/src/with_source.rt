@@ -29,23 +29,21 @@ pub(crate) fn record<R: Threads + Sync, S: Shelf, G: Gate>(
         (HasCauseOf (record_files source_name.now suite_name.now runner.entry.workers) (S.files shelf.old) (S.faults shelf.old) (S.faults shelf.new)) }
     ensures counts { NeverFalls (S.faults shelf.old) (S.faults shelf.new) }
 {
-    match open_source(
+    let opened = open_source(
         alloc,
         Role::Source,
         source_name,
         suite_name,
         SUITE_AND_ONE,
         shelf,
-    ) {
-        Ok(opened) => record_text(
-            alloc,
-            &opened.source,
-            &opened.program,
-            &opened.bytes,
-            runner,
-        ),
-        Err(refusal) => Err(refusal),
-    }
+    )?;
+    record_text(
+        alloc,
+        &opened.source,
+        &opened.program,
+        &opened.bytes,
+        runner,
+    )
 }
 
 /// The text of `migrate`.
@@ -60,15 +58,13 @@ pub(crate) fn migrate<S: Shelf>(
         (HasCauseOf (migrate_files old_name.now history_name.now) (S.files shelf.old) (S.faults shelf.old) (S.faults shelf.new)) }
     ensures counts { NeverFalls (S.faults shelf.old) (S.faults shelf.new) }
 {
-    match open_source(
+    let opened = open_source(
         alloc,
         Role::Old,
         old_name,
         history_name,
         FILE_AND_ONE,
         shelf,
-    ) {
-        Ok(opened) => migrated_text(alloc, &opened.source, &opened.program, &opened.bytes),
-        Err(refusal) => Err(refusal),
-    }
+    )?;
+    migrated_text(alloc, &opened.source, &opened.program, &opened.bytes)
 }

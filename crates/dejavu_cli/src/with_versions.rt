@@ -26,10 +26,7 @@ pub(crate) fn walk<S: Shelf>(
         (HasCauseOf (walk_files old_name.now new_name.now) (S.files shelf.old) (S.faults shelf.old) (S.faults shelf.new)) }
     ensures counts { NeverFalls (S.faults shelf.old) (S.faults shelf.new) }
 {
-    let versions = match read_versions(alloc, old_name, new_name, shelf) {
-        Ok(versions) => versions,
-        Err(refusal) => return Err(refusal),
-    };
+    let versions = read_versions(alloc, old_name, new_name, shelf)?;
     match report(alloc, &versions) {
         Ok(text) => Ok(text),
         Err(_) => Err(Refusal::Memory),
@@ -48,10 +45,8 @@ pub(crate) fn certify<S: Shelf>(
         (HasCauseOf (certify_files old_name.now new_name.now) (S.files shelf.old) (S.faults shelf.old) (S.faults shelf.new)) }
     ensures counts { NeverFalls (S.faults shelf.old) (S.faults shelf.new) }
 {
-    match read_versions(alloc, old_name, new_name, shelf) {
-        Ok(versions) => certified_text(alloc, &versions),
-        Err(refusal) => Err(refusal),
-    }
+    let versions = read_versions(alloc, old_name, new_name, shelf)?;
+    certified_text(alloc, &versions)
 }
 
 /// The answer of `check`.
@@ -67,24 +62,19 @@ pub(crate) fn check<S: Shelf>(
         (HasCauseOf (check_files old_name.now new_name.now certificate_name.now) (S.files shelf.old) (S.faults shelf.old) (S.faults shelf.new)) }
     ensures counts { NeverFalls (S.faults shelf.old) (S.faults shelf.new) }
 {
-    let opened = match open_versions(
+    let opened = open_versions(
         alloc,
         old_name,
         new_name,
         certificate_name,
         FILE_AND_ONE,
         shelf,
-    ) {
-        Ok(opened) => opened,
-        Err(refusal) => return Err(refusal),
-    };
-    match checked_text(alloc, &opened.versions, &opened.bytes) {
-        Ok(checked) => Ok(Answer {
-            end: check_end(checked.closed),
-            text: checked.text,
-        }),
-        Err(refusal) => Err(refusal),
-    }
+    )?;
+    let checked = checked_text(alloc, &opened.versions, &opened.bytes)?;
+    Ok(Answer {
+        end: check_end(checked.closed),
+        text: checked.text,
+    })
 }
 
 /// How `check` ends, by whether the claim is closed.

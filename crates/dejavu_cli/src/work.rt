@@ -60,67 +60,26 @@ fn answer_to<R: Threads + Sync, S: Shelf, G: Gate>(
         } => whole(record(alloc, source, suite, shelf, Runner { rt, workers, gate })),
         Command::Migrate { old, history } => whole(migrate(alloc, old, history, shelf)),
         Command::Walk { old, new } => whole(walk(alloc, old, new, shelf)),
-        Command::Select { old, new, history } => whole(select(alloc, old, new, history, shelf)),
-        Command::Rerun {
-            old,
-            new,
-            history,
-            workers,
-        } => rerun(
-            alloc,
-            old,
-            new,
-            history,
-            shelf,
-            Runner { rt, workers, gate },
-        ),
-        Command::Explain {
-            old,
-            new,
-            history,
-            test,
-        } => whole(explain(alloc, old, new, history, test, shelf)),
-        Command::Carry {
-            old,
-            new,
-            history,
-            workers,
-        } => whole(carry(
-            alloc,
-            old,
-            new,
-            history,
-            shelf,
-            Runner { rt, workers, gate },
-        )),
-        Command::Order {
-            old,
-            new,
-            history,
-            workers,
-        } => whole(order(
-            alloc,
-            old,
-            new,
-            history,
-            shelf,
-            Runner { rt, workers, gate },
-        )),
+        Command::Select(files) => whole(select(alloc, files, shelf)),
+        Command::Rerun { files, workers } => {
+            rerun(alloc, files, shelf, Runner { rt, workers, gate })
+        }
+        Command::Explain { files, test } => whole(explain(alloc, files, test, shelf)),
+        Command::Carry { files, workers } => {
+            whole(carry(alloc, files, shelf, Runner { rt, workers, gate }))
+        }
+        Command::Order { files, workers } => {
+            whole(order(alloc, files, shelf, Runner { rt, workers, gate }))
+        }
         Command::Certify { old, new } => whole(certify(alloc, old, new, shelf)),
         Command::Check {
             old,
             new,
             certificate,
         } => check(alloc, old, new, certificate, shelf),
-        Command::Gen { seed, size } => whole(generated_text(
-            alloc,
-            seed,
-            size,
-            Runner {
-                rt,
-                workers: 1,
-                gate,
-            },
-        )),
+        Command::Gen { seed, size } => {
+            let workers = 1;
+            whole(generated_text(alloc, seed, size, Runner { rt, workers, gate }))
+        }
     }
 }

@@ -4,4 +4,4 @@ use Rattle.dejavu_cli.proofs.generate.generated_text.Goals as goal
 
 pub measured_text-requires-clause-alone : goal.measured_text-requires-clause-alone
 measured_text-requires-clause-alone g c κs within = λ P accepted.
-    c.in-Ok-read_made.ensures.alone P (subst (λ (source : List ℕ). Accepted source P) c.in-Ok-read_made.ensures.old_is accepted)
+    c.in_ok-versions.ensures.alone P (subst (λ (source : List ℕ). Accepted source P) c.in_ok-versions.ensures.old_is accepted)

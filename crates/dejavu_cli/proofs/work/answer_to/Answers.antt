@@ -25,31 +25,31 @@ returns-in-Walk-clause-answer g c =
 pub returns-in-Select-clause-answer : goal.returns-in-Select-clause-answer
 returns-in-Select-clause-answer g c =
     shown_whole (g.S.Shelf.files c.args.shelf.now) (g.S.Shelf.faults c.args.shelf.now) (g.S.Shelf.faults c.select.new.shelf)
-    (command_shown c.args.command) (select_files c.in-Select.old.now c.in-Select.new.now c.in-Select.history.now) (ap command_shown c.in-Select.is)
+    (command_shown c.args.command) (select_files c.in-Select.files.old.now c.in-Select.files.new.now c.in-Select.files.history.now) (ap command_shown c.in-Select.is)
     c.select.result c.whole-in-Select.result c.select.ensures.answer c.whole-in-Select.ensures
 
 pub returns-in-Rerun-clause-answer : goal.returns-in-Rerun-clause-answer
 returns-in-Rerun-clause-answer g c =
     shown_as (g.S.Shelf.files c.args.shelf.now) (g.S.Shelf.faults c.args.shelf.now) (g.S.Shelf.faults c.rerun.new.shelf)
-    (command_shown c.args.command) (rerun_files c.in-Rerun.old.now c.in-Rerun.new.now c.in-Rerun.history.now c.in-Rerun.workers) (ap command_shown c.in-Rerun.is)
+    (command_shown c.args.command) (rerun_files c.in-Rerun.files.old.now c.in-Rerun.files.new.now c.in-Rerun.files.history.now c.in-Rerun.workers) (ap command_shown c.in-Rerun.is)
     c.rerun.result c.rerun.ensures.answer
 
 pub returns-in-Explain-clause-answer : goal.returns-in-Explain-clause-answer
 returns-in-Explain-clause-answer g c =
     shown_whole (g.S.Shelf.files c.args.shelf.now) (g.S.Shelf.faults c.args.shelf.now) (g.S.Shelf.faults c.explain.new.shelf)
-    (command_shown c.args.command) (explain_files c.in-Explain.old.now c.in-Explain.new.now c.in-Explain.history.now c.in-Explain.test.now) (ap command_shown c.in-Explain.is)
+    (command_shown c.args.command) (explain_files c.in-Explain.files.old.now c.in-Explain.files.new.now c.in-Explain.files.history.now c.in-Explain.test.now) (ap command_shown c.in-Explain.is)
     c.explain.result c.whole-in-Explain.result c.explain.ensures.answer c.whole-in-Explain.ensures
 
 pub returns-in-Carry-clause-answer : goal.returns-in-Carry-clause-answer
 returns-in-Carry-clause-answer g c =
     shown_whole (g.S.Shelf.files c.args.shelf.now) (g.S.Shelf.faults c.args.shelf.now) (g.S.Shelf.faults c.carry.new.shelf)
-    (command_shown c.args.command) (carry_files c.in-Carry.old.now c.in-Carry.new.now c.in-Carry.history.now c.in-Carry.workers) (ap command_shown c.in-Carry.is)
+    (command_shown c.args.command) (carry_files c.in-Carry.files.old.now c.in-Carry.files.new.now c.in-Carry.files.history.now c.in-Carry.workers) (ap command_shown c.in-Carry.is)
     c.carry.result c.whole-in-Carry.result c.carry.ensures.answer c.whole-in-Carry.ensures
 
 pub returns-in-Order-clause-answer : goal.returns-in-Order-clause-answer
 returns-in-Order-clause-answer g c =
     shown_whole (g.S.Shelf.files c.args.shelf.now) (g.S.Shelf.faults c.args.shelf.now) (g.S.Shelf.faults c.order.new.shelf)
-    (command_shown c.args.command) (order_files c.in-Order.old.now c.in-Order.new.now c.in-Order.history.now c.in-Order.workers) (ap command_shown c.in-Order.is)
+    (command_shown c.args.command) (order_files c.in-Order.files.old.now c.in-Order.files.new.now c.in-Order.files.history.now c.in-Order.workers) (ap command_shown c.in-Order.is)
     c.order.result c.whole-in-Order.result c.order.ensures.answer c.whole-in-Order.ensures
 
 pub returns-in-Certify-clause-answer : goal.returns-in-Certify-clause-answer
