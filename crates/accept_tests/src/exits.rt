@@ -13,57 +13,39 @@ fn an_exit_ends_the_run_with_the_low_8_bits_of_its_value(rt: HostRuntime) -> Res
         &[
             (
                 "putchar('x'); exit(0); putchar('n');",
-                b"",
-                100,
-                "x|0 5 0,2,3",
+                &[(b"", 100, "x|0 5 0,2,3")],
             ),
             (
                 "putchar('x'); exit(7); putchar('n');",
-                b"",
-                100,
-                "x|7 5 0,2,3",
+                &[(b"", 100, "x|7 5 0,2,3")],
             ),
             (
                 "putchar('x'); exit(256 + 7); putchar('n');",
-                b"",
-                100,
-                "x|7 5 0,2,3",
+                &[(b"", 100, "x|7 5 0,2,3")],
             ),
             (
                 "putchar('x'); exit(256); putchar('n');",
-                b"",
-                100,
-                "x|0 5 0,2,3",
+                &[(b"", 100, "x|0 5 0,2,3")],
             ),
             (
                 "putchar('x'); exit(-1); putchar('n');",
-                b"",
-                100,
-                "x|255 5 0,2,3",
+                &[(b"", 100, "x|255 5 0,2,3")],
             ),
             (
                 "putchar('x'); exit(-256); putchar('n');",
-                b"",
-                100,
-                "x|0 5 0,2,3",
+                &[(b"", 100, "x|0 5 0,2,3")],
             ),
             (
                 "putchar('x'); exit((char) 200); putchar('n');",
-                b"",
-                100,
-                "x|200 5 0,2,3",
+                &[(b"", 100, "x|200 5 0,2,3")],
             ),
             (
                 "putchar('x'); exit(-2147483647 - 1); putchar('n');",
-                b"",
-                100,
-                "x|0 5 0,2,3",
+                &[(b"", 100, "x|0 5 0,2,3")],
             ),
             (
                 "putchar('x'); exit(4294967295u); putchar('n');",
-                b"",
-                100,
-                "x|255 5 0,2,3",
+                &[(b"", 100, "x|255 5 0,2,3")],
             ),
         ],
     )
@@ -79,27 +61,15 @@ fn an_exit_takes_a_turn_behind_its_value(rt: HostRuntime) -> Result<(), Fail> {
         &[
             (
                 "putchar('x'); exit(9); putchar('n');",
-                b"",
-                4,
-                "x|turns 4 0,2,3",
-            ),
-            (
-                "putchar('x'); exit(9); putchar('n');",
-                b"",
-                5,
-                "x|9 5 0,2,3",
+                &[(b"", 4, "x|turns 4 0,2,3"), (b"", 5, "x|9 5 0,2,3")],
             ),
             (
                 "putchar('x'); exit(putchar(65)); putchar('n');",
-                b"",
-                100,
-                "xA|65 5 0,2,3",
+                &[(b"", 100, "xA|65 5 0,2,3")],
             ),
             (
                 "putchar('x'); exit(1 / 0); putchar('n');",
-                b"",
-                100,
-                "x|divide 5 0,2,3",
+                &[(b"", 100, "x|divide 5 0,2,3")],
             ),
         ],
     )
@@ -113,19 +83,12 @@ fn an_exit_ends_the_run_in_whatever_function_it_stands(rt: HostRuntime) -> Resul
         &rt,
         rt.alloc(),
         "void down(void);",
-        &[
-            (
-                "down(); return 9; } void down(void) { putchar('x'); if (getchar() == 'A') down(); exit(3);",
-                b"",
-                100,
-                "x|3 8 0,2,5,6,8",
-            ),
-            (
-                "down(); return 9; } void down(void) { putchar('x'); if (getchar() == 'A') down(); exit(3);",
-                b"AA",
-                100,
-                "xxx|3 16 0,2,5,6,7,8",
-            ),
-        ],
+        &[(
+            "down(); return 9; } void down(void) { putchar('x'); if (getchar() == 'A') down(); exit(3);",
+            &[
+                (b"", 100, "x|3 8 0,2,5,6,8"),
+                (b"AA", 100, "xxx|3 16 0,2,5,6,7,8"),
+            ],
+        )],
     )
 }

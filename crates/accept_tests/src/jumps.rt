@@ -10,20 +10,13 @@ fn a_goto_leads_into_the_body_of_a_loop(rt: HostRuntime) -> Result<(), Fail> {
         &rt,
         rt.alloc(),
         "",
-        &[
-            (
-                "goto a; while (getchar() == 'A') { putchar('x'); a: putchar('y'); } putchar('.');",
-                b"A",
-                100,
-                "yxy.|0 12 0,1,2,3,4,5,6,7,8",
-            ),
-            (
-                "goto a; while (getchar() == 'A') { putchar('x'); a: putchar('y'); } putchar('.');",
-                b"",
-                100,
-                "y.|0 9 0,1,2,3,5,7,8",
-            ),
-        ],
+        &[(
+            "goto a; while (getchar() == 'A') { putchar('x'); a: putchar('y'); } putchar('.');",
+            &[
+                (b"A", 100, "yxy.|0 12 0,1,2,3,4,5,6,7,8"),
+                (b"", 100, "y.|0 9 0,1,2,3,5,7,8"),
+            ],
+        )],
     )
 }
 
@@ -34,20 +27,13 @@ fn a_goto_leads_out_of_blocks_and_loops(rt: HostRuntime) -> Result<(), Fail> {
         &rt,
         rt.alloc(),
         "",
-        &[
-            (
-                "while (getchar() == 'A') { { putchar('x'); goto a; } putchar('n'); } putchar('m'); a: putchar('.');",
-                b"AA",
-                100,
-                "x.|0 9 0,1,2,3,5,6,9",
-            ),
-            (
-                "while (getchar() == 'A') { { putchar('x'); goto a; } putchar('n'); } putchar('m'); a: putchar('.');",
-                b"",
-                100,
-                "m.|0 8 0,1,2,4,8,9",
-            ),
-        ],
+        &[(
+            "while (getchar() == 'A') { { putchar('x'); goto a; } putchar('n'); } putchar('m'); a: putchar('.');",
+            &[
+                (b"AA", 100, "x.|0 9 0,1,2,3,5,6,9"),
+                (b"", 100, "m.|0 8 0,1,2,4,8,9"),
+            ],
+        )],
     )
 }
 
@@ -61,19 +47,19 @@ fn a_goto_makes_a_loop(rt: HostRuntime) -> Result<(), Fail> {
         &[
             (
                 "a: putchar('x'); if (getchar() == 'A') goto a;",
-                b"AA",
-                100,
-                "xxx|0 13 0,1,2,3,4,5,6",
+                &[
+                    (b"AA", 100, "xxx|0 13 0,1,2,3,4,5,6"),
+                    (b"", 100, "x|0 7 0,1,2,3,5"),
+                ],
             ),
             (
-                "a: putchar('x'); if (getchar() == 'A') goto a;",
-                b"",
-                100,
-                "x|0 7 0,1,2,3,5",
+                "a: goto a;",
+                &[
+                    (b"", 3, "|turns 3 0,2"),
+                    (b"", 4, "|turns 4 0,2,3"),
+                    (b"", 1000, "|turns 1000 0,2,3"),
+                ],
             ),
-            ("a: goto a;", b"", 3, "|turns 3 0,2"),
-            ("a: goto a;", b"", 4, "|turns 4 0,2,3"),
-            ("a: goto a;", b"", 1000, "|turns 1000 0,2,3"),
         ],
     )
 }
@@ -89,34 +75,17 @@ fn a_goto_takes_a_turn_and_passes_over_statements(rt: HostRuntime) -> Result<(),
         &[
             (
                 "putchar('x'); goto a; putchar('n'); a: putchar('.');",
-                b"",
-                4,
-                "x|turns 4 0,2,3",
+                &[
+                    (b"", 4, "x|turns 4 0,2,3"),
+                    (b"", 5, "x|turns 5 0,2,3,4"),
+                    (b"", 6, "x.|turns 6 0,2,3,4,6"),
+                    (b"", 100, "x.|0 8 0,1,2,3,4,6"),
+                ],
             ),
-            (
-                "putchar('x'); goto a; putchar('n'); a: putchar('.');",
-                b"",
-                5,
-                "x|turns 5 0,2,3,4",
-            ),
-            (
-                "putchar('x'); goto a; putchar('n'); a: putchar('.');",
-                b"",
-                6,
-                "x.|turns 6 0,2,3,4,6",
-            ),
-            (
-                "putchar('x'); goto a; putchar('n'); a: putchar('.');",
-                b"",
-                100,
-                "x.|0 8 0,1,2,3,4,6",
-            ),
-            ("goto a; putchar('n'); a: ;", b"", 100, "|0 6 0,1,2,3"),
+            ("goto a; putchar('n'); a: ;", &[(b"", 100, "|0 6 0,1,2,3")]),
             (
                 "goto a; putchar('n'); a: putchar('l');",
-                b"",
-                100,
-                "l|0 7 0,1,2,3,5",
+                &[(b"", 100, "l|0 7 0,1,2,3,5")],
             ),
         ],
     )
@@ -131,9 +100,7 @@ fn a_goto_leads_into_a_switch(rt: HostRuntime) -> Result<(), Fail> {
         "",
         &[(
             "goto a; switch (getchar()) { case 'A': putchar('x'); a: putchar('y'); break; default: putchar('d'); } putchar('.');",
-            b"A",
-            100,
-            "y.|0 8 0,1,2,3,7,9",
+            &[(b"A", 100, "y.|0 8 0,1,2,3,7,9")],
         )],
     )
 }

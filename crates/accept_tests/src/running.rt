@@ -96,18 +96,19 @@ pub fn long_run(alloc: Global, source: &str) -> Result<Box<Shown>, Fail> {
     Ok(Box::new(alloc, run_program(alloc, &program, &[], 10_000_000)?)?)
 }
 
-/// Each row has a body of `main` behind the items, an input, a budget, and the output of its run; behind a bar its exit status, its
+/// Each row has a body of `main`, and its runs of at most 100 turns: the input and the output; behind a bar the exit status, the
 /// trap or `turns`, and how many turns it took.
 pub fn timed_agree(
     rt: &impl Abort,
     alloc: Global,
-    items: &str,
-    rows: &[(&str, &[u8], u32, &str)],
+    rows: &[(&str, &[(&[u8], &str)])],
 ) -> Result<(), Fail> {
-    for (body, input, budget, expected) in rows {
-        let shown = run_body(alloc, items, body, input, *budget)?;
-        let text = format!(in alloc; "{} {}", text_of(alloc, &shown)?, shown.turns)?;
-        assert!(rt; text.as_str() == *expected, "{body} gave {text}");
+    for (body, runs) in rows {
+        for (input, expected) in *runs {
+            let shown = run_body(alloc, "", body, input, 100)?;
+            let text = format!(in alloc; "{} {}", text_of(alloc, &shown)?, shown.turns)?;
+            assert!(rt; text.as_str() == *expected, "{body} gave {text}");
+        }
     }
     Ok(())
 }
@@ -125,19 +126,33 @@ pub fn listed(alloc: Global, numbers: &[u32]) -> Result<String, Fail> {
     Ok(text)
 }
 
-/// The same with the numbers of the edges that the run crossed, rising.
+/// What a run of a body of `main` behind items shows: its output and how it ended, its turns, and the numbers of the edges that it
+/// crossed, rising.
+fn traced(
+    alloc: Global,
+    items: &str,
+    body: &str,
+    input: &[u8],
+    budget: u32,
+) -> Result<String, Fail> {
+    let shown = run_body(alloc, items, body, input, budget)?;
+    let crossed = listed(alloc, shown.crossed.as_slice())?;
+    let end = text_of(alloc, &shown)?;
+    Ok(format!(in alloc; "{end} {} {crossed}", shown.turns)?)
+}
+
+/// Each row has a body of `main` behind the items, and its runs: the input, the budget, and what is to be shown.
 pub fn traced_agree(
     rt: &impl Abort,
     alloc: Global,
     items: &str,
-    rows: &[(&str, &[u8], u32, &str)],
+    rows: &[(&str, &[(&[u8], u32, &str)])],
 ) -> Result<(), Fail> {
-    for (body, input, budget, expected) in rows {
-        let shown = run_body(alloc, items, body, input, *budget)?;
-        let crossed = listed(alloc, shown.crossed.as_slice())?;
-        let end = text_of(alloc, &shown)?;
-        let text = format!(in alloc; "{end} {} {crossed}", shown.turns)?;
-        assert!(rt; text.as_str() == *expected, "{body} gave {text}");
+    for (body, runs) in rows {
+        for (input, budget, expected) in *runs {
+            let text = traced(alloc, items, body, input, *budget)?;
+            assert!(rt; text.as_str() == *expected, "{body} gave {text}");
+        }
     }
     Ok(())
 }

@@ -9,33 +9,17 @@ fn a_switch_without_default_is_passed_over_by_other_values(rt: HostRuntime) -> R
     timed_agree(
         &rt,
         rt.alloc(),
-        "",
         &[
             (
                 "switch (getchar()) { case 'A': putchar('a'); break; case 'B': putchar('b'); } putchar('.');",
-                b"A",
-                100,
-                "a.|0 8",
+                &[
+                    (b"A", "a.|0 8"),
+                    (b"B", "b.|0 8"),
+                    (b"C", ".|0 7"),
+                    (b"", ".|0 7"),
+                ],
             ),
-            (
-                "switch (getchar()) { case 'A': putchar('a'); break; case 'B': putchar('b'); } putchar('.');",
-                b"B",
-                100,
-                "b.|0 8",
-            ),
-            (
-                "switch (getchar()) { case 'A': putchar('a'); break; case 'B': putchar('b'); } putchar('.');",
-                b"C",
-                100,
-                ".|0 7",
-            ),
-            (
-                "switch (getchar()) { case 'A': putchar('a'); break; case 'B': putchar('b'); } putchar('.');",
-                b"",
-                100,
-                ".|0 7",
-            ),
-            ("switch (getchar()) {  } putchar('.');", b"A", 100, ".|0 7"),
+            ("switch (getchar()) {  } putchar('.');", &[(b"A", ".|0 7")]),
         ],
     )
 }
@@ -46,79 +30,33 @@ fn a_default_is_for_all_other_values_wherever_it_stands(rt: HostRuntime) -> Resu
     timed_agree(
         &rt,
         rt.alloc(),
-        "",
         &[
             (
                 "switch (getchar()) { default: putchar('d'); break; case 'A': putchar('a'); break; case 'B': putchar('b'); break;  } putchar('.');",
-                b"A",
-                100,
-                "a.|0 8",
-            ),
-            (
-                "switch (getchar()) { default: putchar('d'); break; case 'A': putchar('a'); break; case 'B': putchar('b'); break;  } putchar('.');",
-                b"B",
-                100,
-                "b.|0 8",
-            ),
-            (
-                "switch (getchar()) { default: putchar('d'); break; case 'A': putchar('a'); break; case 'B': putchar('b'); break;  } putchar('.');",
-                b"C",
-                100,
-                "d.|0 8",
-            ),
-            (
-                "switch (getchar()) { default: putchar('d'); break; case 'A': putchar('a'); break; case 'B': putchar('b'); break;  } putchar('.');",
-                b"",
-                100,
-                "d.|0 8",
+                &[
+                    (b"A", "a.|0 8"),
+                    (b"B", "b.|0 8"),
+                    (b"C", "d.|0 8"),
+                    (b"", "d.|0 8"),
+                ],
             ),
             (
                 "switch (getchar()) { case 'A': putchar('a'); break; default: putchar('d'); break; case 'B': putchar('b'); break;  } putchar('.');",
-                b"A",
-                100,
-                "a.|0 8",
-            ),
-            (
-                "switch (getchar()) { case 'A': putchar('a'); break; default: putchar('d'); break; case 'B': putchar('b'); break;  } putchar('.');",
-                b"B",
-                100,
-                "b.|0 8",
-            ),
-            (
-                "switch (getchar()) { case 'A': putchar('a'); break; default: putchar('d'); break; case 'B': putchar('b'); break;  } putchar('.');",
-                b"C",
-                100,
-                "d.|0 8",
-            ),
-            (
-                "switch (getchar()) { case 'A': putchar('a'); break; default: putchar('d'); break; case 'B': putchar('b'); break;  } putchar('.');",
-                b"",
-                100,
-                "d.|0 8",
+                &[
+                    (b"A", "a.|0 8"),
+                    (b"B", "b.|0 8"),
+                    (b"C", "d.|0 8"),
+                    (b"", "d.|0 8"),
+                ],
             ),
             (
                 "switch (getchar()) { case 'A': putchar('a'); break; case 'B': putchar('b'); break; default: putchar('d'); } putchar('.');",
-                b"A",
-                100,
-                "a.|0 8",
-            ),
-            (
-                "switch (getchar()) { case 'A': putchar('a'); break; case 'B': putchar('b'); break; default: putchar('d'); } putchar('.');",
-                b"B",
-                100,
-                "b.|0 8",
-            ),
-            (
-                "switch (getchar()) { case 'A': putchar('a'); break; case 'B': putchar('b'); break; default: putchar('d'); } putchar('.');",
-                b"C",
-                100,
-                "d.|0 8",
-            ),
-            (
-                "switch (getchar()) { case 'A': putchar('a'); break; case 'B': putchar('b'); break; default: putchar('d'); } putchar('.');",
-                b"",
-                100,
-                "d.|0 8",
+                &[
+                    (b"A", "a.|0 8"),
+                    (b"B", "b.|0 8"),
+                    (b"C", "d.|0 8"),
+                    (b"", "d.|0 8"),
+                ],
             ),
         ],
     )
@@ -130,55 +68,24 @@ fn a_case_falls_into_the_lines_behind_it(rt: HostRuntime) -> Result<(), Fail> {
     timed_agree(
         &rt,
         rt.alloc(),
-        "",
         &[
             (
                 "switch (getchar()) { case 'A': putchar('a'); case 'B': putchar('b'); default: putchar('d'); case 'C': putchar('c'); } putchar('.');",
-                b"A",
-                100,
-                "abdc.|0 11",
-            ),
-            (
-                "switch (getchar()) { case 'A': putchar('a'); case 'B': putchar('b'); default: putchar('d'); case 'C': putchar('c'); } putchar('.');",
-                b"B",
-                100,
-                "bdc.|0 10",
-            ),
-            (
-                "switch (getchar()) { case 'A': putchar('a'); case 'B': putchar('b'); default: putchar('d'); case 'C': putchar('c'); } putchar('.');",
-                b"D",
-                100,
-                "dc.|0 9",
-            ),
-            (
-                "switch (getchar()) { case 'A': putchar('a'); case 'B': putchar('b'); default: putchar('d'); case 'C': putchar('c'); } putchar('.');",
-                b"C",
-                100,
-                "c.|0 8",
+                &[
+                    (b"A", "abdc.|0 11"),
+                    (b"B", "bdc.|0 10"),
+                    (b"D", "dc.|0 9"),
+                    (b"C", "c.|0 8"),
+                ],
             ),
             (
                 "switch (getchar()) { case 'A': case 'B': default: putchar('b'); break; case 'D': putchar('d'); } putchar('.');",
-                b"A",
-                100,
-                "b.|0 8",
-            ),
-            (
-                "switch (getchar()) { case 'A': case 'B': default: putchar('b'); break; case 'D': putchar('d'); } putchar('.');",
-                b"B",
-                100,
-                "b.|0 8",
-            ),
-            (
-                "switch (getchar()) { case 'A': case 'B': default: putchar('b'); break; case 'D': putchar('d'); } putchar('.');",
-                b"C",
-                100,
-                "b.|0 8",
-            ),
-            (
-                "switch (getchar()) { case 'A': case 'B': default: putchar('b'); break; case 'D': putchar('d'); } putchar('.');",
-                b"D",
-                100,
-                "d.|0 8",
+                &[
+                    (b"A", "b.|0 8"),
+                    (b"B", "b.|0 8"),
+                    (b"C", "b.|0 8"),
+                    (b"D", "d.|0 8"),
+                ],
             ),
         ],
     )
@@ -189,31 +96,18 @@ fn a_label_as_the_last_line_leads_past_its_switch(rt: HostRuntime) -> Result<(),
     timed_agree(
         &rt,
         rt.alloc(),
-        "",
         &[
             (
                 "switch (getchar()) { case 'A': putchar('a'); break; case 'B': } putchar('.');",
-                b"A",
-                100,
-                "a.|0 8",
-            ),
-            (
-                "switch (getchar()) { case 'A': putchar('a'); break; case 'B': } putchar('.');",
-                b"B",
-                100,
-                ".|0 7",
+                &[(b"A", "a.|0 8"), (b"B", ".|0 7")],
             ),
             (
                 "switch (getchar()) { case 'A': putchar('a'); break; default: } putchar('.');",
-                b"C",
-                100,
-                ".|0 7",
+                &[(b"C", ".|0 7")],
             ),
             (
                 "switch (getchar()) { case 'A': case 'B': default: } putchar('.');",
-                b"A",
-                100,
-                ".|0 7",
+                &[(b"A", ".|0 7")],
             ),
         ],
     )
@@ -231,39 +125,19 @@ fn each_case_crosses_its_own_edge(rt: HostRuntime) -> Result<(), Fail> {
         &[
             (
                 "switch (getchar()) { putchar('z'); case 'B': putchar('b'); break; case 'A': putchar('a'); default: putchar('d'); } putchar('.');",
-                b"A",
-                100,
-                "ad.|0 9 0,1,2,4,8,9,10",
-            ),
-            (
-                "switch (getchar()) { putchar('z'); case 'B': putchar('b'); break; case 'A': putchar('a'); default: putchar('d'); } putchar('.');",
-                b"B",
-                100,
-                "b.|0 8 0,1,2,3,7,10",
-            ),
-            (
-                "switch (getchar()) { putchar('z'); case 'B': putchar('b'); break; case 'A': putchar('a'); default: putchar('d'); } putchar('.');",
-                b"C",
-                100,
-                "d.|0 8 0,1,2,5,9,10",
+                &[
+                    (b"A", 100, "ad.|0 9 0,1,2,4,8,9,10"),
+                    (b"B", 100, "b.|0 8 0,1,2,3,7,10"),
+                    (b"C", 100, "d.|0 8 0,1,2,5,9,10"),
+                ],
             ),
             (
                 "switch (getchar()) { case 65: putchar(97); break; default: putchar(63); } return 0;",
-                b"A",
-                100,
-                "a|0 8 0,1,2,3,5,7",
-            ),
-            (
-                "switch (getchar()) { case 65: putchar(97); break; default: putchar(63); } return 0;",
-                b"B",
-                100,
-                "?|0 8 0,1,2,4,6,7",
-            ),
-            (
-                "switch (getchar()) { case 65: putchar(97); break; default: putchar(63); } return 0;",
-                b"",
-                100,
-                "?|0 8 0,1,2,4,6,7",
+                &[
+                    (b"A", 100, "a|0 8 0,1,2,3,5,7"),
+                    (b"B", 100, "?|0 8 0,1,2,4,6,7"),
+                    (b"", 100, "?|0 8 0,1,2,4,6,7"),
+                ],
             ),
         ],
     )
@@ -278,12 +152,9 @@ fn a_break_leaves_the_switch_and_a_continue_goes_on_in_the_loop(
     timed_agree(
         &rt,
         rt.alloc(),
-        "",
         &[(
             "for (; getchar() == '+'; putchar(';')) { switch (getchar()) { case 'A': putchar('a'); break; case 'B': continue; case 'C': putchar('c'); } putchar('.'); }",
-            b"+A+B+C+D",
-            100,
-            "a.;;c.;.;|0 23",
+            &[(b"+A+B+C+D", "a.;;c.;.;|0 23")],
         )],
     )
 }
@@ -294,33 +165,15 @@ fn a_break_leaves_the_nearest_switch(rt: HostRuntime) -> Result<(), Fail> {
     timed_agree(
         &rt,
         rt.alloc(),
-        "",
-        &[
-            (
-                "switch (getchar()) { case 'A': switch (getchar()) { case 'A': putchar('a'); break; case 'E': putchar('e'); break; default: putchar('b'); } putchar('o'); break; default: putchar('d'); } putchar('.');",
-                b"AA",
-                100,
-                "ao.|0 10",
-            ),
-            (
-                "switch (getchar()) { case 'A': switch (getchar()) { case 'A': putchar('a'); break; case 'E': putchar('e'); break; default: putchar('b'); } putchar('o'); break; default: putchar('d'); } putchar('.');",
-                b"AE",
-                100,
-                "eo.|0 10",
-            ),
-            (
-                "switch (getchar()) { case 'A': switch (getchar()) { case 'A': putchar('a'); break; case 'E': putchar('e'); break; default: putchar('b'); } putchar('o'); break; default: putchar('d'); } putchar('.');",
-                b"AB",
-                100,
-                "bo.|0 10",
-            ),
-            (
-                "switch (getchar()) { case 'A': switch (getchar()) { case 'A': putchar('a'); break; case 'E': putchar('e'); break; default: putchar('b'); } putchar('o'); break; default: putchar('d'); } putchar('.');",
-                b"E",
-                100,
-                "d.|0 8",
-            ),
-        ],
+        &[(
+            "switch (getchar()) { case 'A': switch (getchar()) { case 'A': putchar('a'); break; case 'E': putchar('e'); break; default: putchar('b'); } putchar('o'); break; default: putchar('d'); } putchar('.');",
+            &[
+                (b"AA", "ao.|0 10"),
+                (b"AE", "eo.|0 10"),
+                (b"AB", "bo.|0 10"),
+                (b"E", "d.|0 8"),
+            ],
+        )],
     )
 }
 
@@ -330,49 +183,22 @@ fn a_switch_is_over_its_promoted_number(rt: HostRuntime) -> Result<(), Fail> {
     timed_agree(
         &rt,
         rt.alloc(),
-        "",
         &[
             (
                 "switch ((char) getchar()) { case 200: putchar('a'); break; case -56: putchar('b'); break; default: putchar('d'); } putchar('.');",
-                b"\xc8",
-                100,
-                "b.|0 8",
-            ),
-            (
-                "switch ((char) getchar()) { case 200: putchar('a'); break; case -56: putchar('b'); break; default: putchar('d'); } putchar('.');",
-                b"A",
-                100,
-                "d.|0 8",
+                &[(b"\xc8", "b.|0 8"), (b"A", "d.|0 8")],
             ),
             (
                 "switch (getchar()) { case 200: putchar('a'); break; case -56: putchar('b'); break; default: putchar('d'); } putchar('.');",
-                b"\xc8",
-                100,
-                "a.|0 8",
+                &[(b"\xc8", "a.|0 8")],
             ),
             (
                 "switch ((unsigned) getchar()) { case 255: putchar('a'); break; case 4294967295u: putchar('b'); break; default: putchar('d'); } putchar('.');",
-                b"",
-                100,
-                "b.|0 8",
-            ),
-            (
-                "switch ((unsigned) getchar()) { case 255: putchar('a'); break; case 4294967295u: putchar('b'); break; default: putchar('d'); } putchar('.');",
-                b"\xff",
-                100,
-                "a.|0 8",
-            ),
-            (
-                "switch ((unsigned) getchar()) { case 255: putchar('a'); break; case 4294967295u: putchar('b'); break; default: putchar('d'); } putchar('.');",
-                b"A",
-                100,
-                "d.|0 8",
+                &[(b"", "b.|0 8"), (b"\xff", "a.|0 8"), (b"A", "d.|0 8")],
             ),
             (
                 "switch (getchar()) { case 255: putchar('a'); break; case -1: putchar('b'); break; default: putchar('d'); } putchar('.');",
-                b"",
-                100,
-                "b.|0 8",
+                &[(b"", "b.|0 8")],
             ),
         ],
     )

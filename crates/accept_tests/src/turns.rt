@@ -12,15 +12,18 @@ fn an_empty_main_takes_five_turns(rt: HostRuntime) -> Result<(), Fail> {
         &rt,
         rt.alloc(),
         "",
-        &[
-            ("", b"", 0, "|turns 0 "),
-            ("", b"", 1, "|turns 1 0"),
-            ("", b"", 2, "|turns 2 0"),
-            ("", b"", 3, "|turns 3 0,2"),
-            ("", b"", 4, "|turns 4 0,1,2"),
-            ("", b"", 5, "|0 5 0,1,2"),
-            ("", b"", 9, "|0 5 0,1,2"),
-        ],
+        &[(
+            "",
+            &[
+                (b"", 0, "|turns 0 "),
+                (b"", 1, "|turns 1 0"),
+                (b"", 2, "|turns 2 0"),
+                (b"", 3, "|turns 3 0,2"),
+                (b"", 4, "|turns 4 0,1,2"),
+                (b"", 5, "|0 5 0,1,2"),
+                (b"", 9, "|0 5 0,1,2"),
+            ],
+        )],
     )
 }
 
@@ -35,39 +38,19 @@ fn a_test_of_the_input_chooses_what_is_written(rt: HostRuntime) -> Result<(), Fa
         &[
             (
                 "if (getchar() == 65) { putchar(66); } else { putchar(67); } return 0;",
-                b"A",
-                100,
-                "B|0 8 0,1,2,3,5,7",
-            ),
-            (
-                "if (getchar() == 65) { putchar(66); } else { putchar(67); } return 0;",
-                b"B",
-                100,
-                "C|0 8 0,1,2,4,6,7",
-            ),
-            (
-                "if (getchar() == 65) { putchar(66); } else { putchar(67); } return 0;",
-                b"",
-                100,
-                "C|0 8 0,1,2,4,6,7",
+                &[
+                    (b"A", 100, "B|0 8 0,1,2,3,5,7"),
+                    (b"B", 100, "C|0 8 0,1,2,4,6,7"),
+                    (b"", 100, "C|0 8 0,1,2,4,6,7"),
+                ],
             ),
             (
                 "int c; c = getchar(); if (c == 65) { putchar(66); } else { putchar(67); } return 0;",
-                b"A",
-                100,
-                "B|0 9 0,1,2,3,4,6,8",
-            ),
-            (
-                "int c; c = getchar(); if (c == 65) { putchar(66); } else { putchar(67); } return 0;",
-                b"B",
-                100,
-                "C|0 9 0,1,2,3,5,7,8",
-            ),
-            (
-                "int c; c = getchar(); if (c == 65) { putchar(66); } else { putchar(67); } return 0;",
-                b"A",
-                0,
-                "|turns 0 ",
+                &[
+                    (b"A", 100, "B|0 9 0,1,2,3,4,6,8"),
+                    (b"B", 100, "C|0 9 0,1,2,3,5,7,8"),
+                    (b"A", 0, "|turns 0 "),
+                ],
             ),
         ],
     )
@@ -82,16 +65,14 @@ fn a_turn_that_traps_counts_and_crosses_nothing(rt: HostRuntime) -> Result<(), F
         rt.alloc(),
         "",
         &[
-            ("return 300;", b"", 100, "|44 6 0,1,2,3"),
-            ("return 1 / 0;", b"", 100, "|divide 4 0,2"),
+            ("return 300;", &[(b"", 100, "|44 6 0,1,2,3")]),
+            ("return 1 / 0;", &[(b"", 100, "|divide 4 0,2")]),
             (
                 "putchar(120); 2147483647 + 1; return 0;",
-                b"",
-                100,
-                "x|overflow 5 0,2,3",
+                &[(b"", 100, "x|overflow 5 0,2,3")],
             ),
-            ("int x; return x;", b"", 100, "|unset 4 0,2"),
-            ("main();", b"", 10000, "|depth 512 0,2"),
+            ("int x; return x;", &[(b"", 100, "|unset 4 0,2")]),
+            ("main();", &[(b"", 10000, "|depth 512 0,2")]),
         ],
     )
 }
@@ -103,7 +84,7 @@ fn a_recursion_without_end_traps_at_the_257th_frame(rt: HostRuntime) -> Result<(
         &rt,
         rt.alloc(),
         "int f(int n) { return f(n + 1); }",
-        &[("return f(0);", b"", 1000, "|depth 512 0,2,5")],
+        &[("return f(0);", &[(b"", 1000, "|depth 512 0,2,5")])],
     )
 }
 
@@ -113,7 +94,7 @@ fn a_large_frame_is_a_frame(rt: HostRuntime) -> Result<(), Fail> {
         &rt,
         rt.alloc(),
         "int f(int n) { int pad[1000]; return f(n + 1); }",
-        &[("return f(0);", b"", 1000, "|depth 512 0,2,5")],
+        &[("return f(0);", &[(b"", 1000, "|depth 512 0,2,5")])],
     )
 }
 
@@ -126,20 +107,13 @@ fn a_recursion_comes_back_through_its_frames(rt: HostRuntime) -> Result<(), Fail
         &rt,
         rt.alloc(),
         "int f(int n) { if (n == 0) { return 1; } return f(n - 1); }",
-        &[
-            (
-                "if (getchar() == 65) { return f(3); } return 0;",
-                b"A",
-                100,
-                "|1 27 0,1,2,3,4,5,6,7,8,9,11,12",
-            ),
-            (
-                "if (getchar() == 65) { return f(3); } return 0;",
-                b"B",
-                100,
-                "|0 7 0,1,8,10,13",
-            ),
-        ],
+        &[(
+            "if (getchar() == 65) { return f(3); } return 0;",
+            &[
+                (b"A", 100, "|1 27 0,1,2,3,4,5,6,7,8,9,11,12"),
+                (b"B", 100, "|0 7 0,1,8,10,13"),
+            ],
+        )],
     )
 }
 
@@ -152,9 +126,7 @@ fn what_one_frame_stored_is_not_in_the_next(rt: HostRuntime) -> Result<(), Fail>
         "int f(int n) { int x; if (n == 0) { x = 5; } return x; }",
         &[(
             "f(0); f(1); return 0;",
-            b"",
-            100,
-            "|unset 13 0,2,3,4,5,6,7,8",
+            &[(b"", 100, "|unset 13 0,2,3,4,5,6,7,8")],
         )],
     )
 }
@@ -167,26 +139,18 @@ fn loops_turn_until_a_test_or_a_break_ends_them(rt: HostRuntime) -> Result<(), F
         &rt,
         rt.alloc(),
         "",
-        &[
-            (
-                "for (putchar('0'); getchar() == 'A'; putchar('1')) { if (getchar() == 'B') break; if (getchar() == 'C') continue; putchar('2'); } do putchar('3'); while (getchar() == 'A'); return 7;",
-                b"AxxAxCABA",
-                100,
-                "021133|7 22 0,1,2,3,4,6,7,8,9,10,11,12,13,14,15",
-            ),
-            (
-                "for (putchar('0'); getchar() == 'A'; putchar('1')) { if (getchar() == 'B') break; if (getchar() == 'C') continue; putchar('2'); } do putchar('3'); while (getchar() == 'A'); return 7;",
-                b"AxxAxCABA",
-                13,
-                "0211|turns 13 0,2,3,4,6,8,9,10,11",
-            ),
-            (
-                "for (putchar('0'); getchar() == 'A'; putchar('1')) { if (getchar() == 'B') break; if (getchar() == 'C') continue; putchar('2'); } do putchar('3'); while (getchar() == 'A'); return 7;",
-                b"",
-                100,
-                "03|7 10 0,1,2,3,5,12,14,15",
-            ),
-        ],
+        &[(
+            "for (putchar('0'); getchar() == 'A'; putchar('1')) { if (getchar() == 'B') break; if (getchar() == 'C') continue; putchar('2'); } do putchar('3'); while (getchar() == 'A'); return 7;",
+            &[
+                (
+                    b"AxxAxCABA",
+                    100,
+                    "021133|7 22 0,1,2,3,4,6,7,8,9,10,11,12,13,14,15",
+                ),
+                (b"AxxAxCABA", 13, "0211|turns 13 0,2,3,4,6,8,9,10,11"),
+                (b"", 100, "03|7 10 0,1,2,3,5,12,14,15"),
+            ],
+        )],
     )
 }
 
@@ -199,9 +163,7 @@ fn a_call_passes_an_argument_and_gives_a_result(rt: HostRuntime) -> Result<(), F
         "int next(int x) { x += 1; return x; }",
         &[(
             "int x = 41; return next(x) + x;",
-            b"",
-            100,
-            "|83 12 0,1,2,3,4,5,6,7,8",
+            &[(b"", 100, "|83 12 0,1,2,3,4,5,6,7,8")],
         )],
     )
 }

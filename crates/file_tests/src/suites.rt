@@ -6,61 +6,80 @@ use test_suite::{SuiteError, Test, copy_test, is_test_name, read_suite, write_su
 
 const TWO_TESTS: &[u8] = b"dejavu suite 1\ntest A 100 41\ntest B 100 42\n";
 
+/// Whether a test is the second of `TWO_TESTS`.
+fn is_second(test: &Test) -> bool {
+    test.name().bytes() == b"B".as_slice()
+        && test.budget() == 100
+        && test.input() == b"B".as_slice()
+}
+
 #[test]
-fn a_suite_is_read_copied_and_written_as_it_was(rt: HostRuntime) -> Result<(), Fail> {
-    let alloc = rt.alloc();
-    let tests = read_suite(alloc, TWO_TESTS)?;
+fn a_suite_is_written_as_it_was_read(rt: HostRuntime) -> Result<(), Fail> {
+    let tests = read_suite(rt.alloc(), TWO_TESTS)?;
     assert_eq!(rt; tests.len(), 2);
-    let second = copy_test(alloc, &tests[1])?;
-    assert!(rt; second.name().bytes() == b"B".as_slice() && second.budget() == 100);
-    assert!(rt; second.input() == b"B".as_slice());
-    assert!(rt; write_suite(alloc, &tests)?.as_slice() == TWO_TESTS);
-    assert!(rt; is_test_name(b"_9.a-B") && !is_test_name(b"-9") && !is_test_name(b""));
+    assert!(rt; write_suite(rt.alloc(), &tests)?.as_slice() == TWO_TESTS);
     Ok(())
 }
 
 #[test]
+fn a_copy_of_a_test_has_its_name_its_budget_and_its_input(rt: HostRuntime) -> Result<(), Fail> {
+    let tests = read_suite(rt.alloc(), TWO_TESTS)?;
+    let second = tests.last().expect(&rt, "two tests");
+    let copy = copy_test(rt.alloc(), second)?;
+    assert!(rt; is_second(second) && is_second(&copy));
+    Ok(())
+}
+
+#[test]
+fn a_name_begins_with_no_dash_and_is_not_empty(rt: HostRuntime) {
+    assert!(rt; is_test_name(b"_9.a-B") && !is_test_name(b"-9") && !is_test_name(b""));
+}
+
+/// A suite, the line that is refused, and its least rule.
+const REFUSED: &[(&str, u32, u8)] = &[
+    // line 1
+    ("", 1, 1),
+    ("dejavu suite 2\n", 1, 1),
+    ("dejavu suite 1 \ntest A 1 4\n", 1, 1),
+    ("test A 1 -\n", 1, 1),
+    ("dejavu suite 1", 1, 2),
+    // the end of a line comes before all else that is wrong with it
+    ("dejavu suite 1\ntest", 2, 2),
+    ("dejavu suite 1\ntest A 1 -\ntest B 1 -", 3, 2),
+    // four words, the first `test`
+    ("dejavu suite 1\n\n", 2, 3),
+    ("dejavu suite 1\ntest A 1\n", 2, 3),
+    ("dejavu suite 1\ntest A 1 \n", 2, 3),
+    ("dejavu suite 1\ntest A 1 - \n", 2, 3),
+    ("dejavu suite 1\ntest A 1 - -\n", 2, 3),
+    ("dejavu suite 1\ntest  A 1 -\n", 2, 3),
+    ("dejavu suite 1\n test A 1 -\n", 2, 3),
+    ("dejavu suite 1\nTest A 1 -\n", 2, 3),
+    // the name
+    ("dejavu suite 1\ntest .a 01 4\n", 2, 4),
+    ("dejavu suite 1\ntest -a 1 -\n", 2, 4),
+    ("dejavu suite 1\ntest a/b 1 -\n", 2, 4),
+    ("dejavu suite 1\ntest a\u{e9} 1 -\n", 2, 4),
+    // the budget
+    ("dejavu suite 1\ntest A 10000001 -\n", 2, 5),
+    ("dejavu suite 1\ntest A 01 4\n", 2, 5),
+    ("dejavu suite 1\ntest A +1 -\n", 2, 5),
+    ("dejavu suite 1\ntest A - -\n", 2, 5),
+    // the input
+    ("dejavu suite 1\ntest A 1 4\n", 2, 6),
+    ("dejavu suite 1\ntest A 1 0A\n", 2, 6),
+    ("dejavu suite 1\ntest A 1 --\n", 2, 6),
+    ("dejavu suite 1\ntest A 1 41\r\n", 2, 6),
+    // a later line's fault comes before a name that stands twice
+    ("dejavu suite 1\ntest A 1 -\ntest A 1 -\ntest B x -\n", 4, 5),
+];
+
+#[test]
 fn every_fault_is_named_by_its_line_and_least_rule(rt: HostRuntime) {
-    for &(text, line, rule) in &[
-        // line 1
-        ("", 1, 1),
-        ("dejavu suite 2\n", 1, 1),
-        ("dejavu suite 1 \ntest A 1 4\n", 1, 1),
-        ("test A 1 -\n", 1, 1),
-        ("dejavu suite 1", 1, 2),
-        // the end of a line comes before all else that is wrong with it
-        ("dejavu suite 1\ntest", 2, 2),
-        ("dejavu suite 1\ntest A 1 -\ntest B 1 -", 3, 2),
-        // four words, the first `test`
-        ("dejavu suite 1\n\n", 2, 3),
-        ("dejavu suite 1\ntest A 1\n", 2, 3),
-        ("dejavu suite 1\ntest A 1 \n", 2, 3),
-        ("dejavu suite 1\ntest A 1 - \n", 2, 3),
-        ("dejavu suite 1\ntest A 1 - -\n", 2, 3),
-        ("dejavu suite 1\ntest  A 1 -\n", 2, 3),
-        ("dejavu suite 1\n test A 1 -\n", 2, 3),
-        ("dejavu suite 1\nTest A 1 -\n", 2, 3),
-        // the name
-        ("dejavu suite 1\ntest .a 01 4\n", 2, 4),
-        ("dejavu suite 1\ntest -a 1 -\n", 2, 4),
-        ("dejavu suite 1\ntest a/b 1 -\n", 2, 4),
-        ("dejavu suite 1\ntest a\u{e9} 1 -\n", 2, 4),
-        // the budget
-        ("dejavu suite 1\ntest A 10000001 -\n", 2, 5),
-        ("dejavu suite 1\ntest A 01 4\n", 2, 5),
-        ("dejavu suite 1\ntest A +1 -\n", 2, 5),
-        ("dejavu suite 1\ntest A - -\n", 2, 5),
-        // the input
-        ("dejavu suite 1\ntest A 1 4\n", 2, 6),
-        ("dejavu suite 1\ntest A 1 0A\n", 2, 6),
-        ("dejavu suite 1\ntest A 1 --\n", 2, 6),
-        ("dejavu suite 1\ntest A 1 41\r\n", 2, 6),
-        // a later line's fault comes before a name that stands twice
-        ("dejavu suite 1\ntest A 1 -\ntest A 1 -\ntest B x -\n", 4, 5),
-    ] {
+    for (text, line, rule) in REFUSED {
         let answer = read_suite(rt.alloc(), text.as_bytes());
         assert!(rt;
-            answer.err() == Some(SuiteError::Line(line, rule)),
+            answer.err() == Some(SuiteError::Line(*line, *rule)),
             "{text}"
         );
     }
