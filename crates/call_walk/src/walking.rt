@@ -162,8 +162,8 @@ fn walk_by<L: Ledger>(
 ///
 /// Each point's label gets a number at the beginning. Beside one comparison of two numbers at most for each edge of a
 /// reached pair, which `steps` counts, also before an `Err`, the edge's exit label is looked for at the new point, a case
-/// of a `switch` by a logarithm, and functions are looked for by their names, one by one. Whether a pair is held says a
-/// bit: there is one for each old point and new point.
+/// of a `switch` by a logarithm, and at a call the callee by a logarithm of the functions. Whether a pair is held says a bit:
+/// there is one for each old point and new point.
 pub fn walk<L: Ledger>(
     alloc: Global,
     old: &Graph,

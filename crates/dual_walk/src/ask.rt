@@ -74,8 +74,8 @@ pub fn successors<L: Ledger>(
     }
 }
 
-/// The function that is called at a point of the old graph; `None` where nothing is called. Functions are looked for by
-/// their names, one by one.
+/// The function that is called at a point of the old graph; `None` where nothing is called. It is looked for by its name
+/// in both graphs, by a logarithm of their functions.
 pub fn callee_at(old: &Graph, new: &Graph, point: u32) -> Option<Callee>
     requires { point < point_count old.now }
     ensures callee { (P P' : ProgramTree) (f : Name) (p p' : PointTree) → IsGraphOf old.now P → IsGraphOf new.now P' →

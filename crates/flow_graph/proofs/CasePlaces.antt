@@ -1,39 +1,20 @@
 -- The table of the cases of all `switch`es.
-use Rattle.std.proofs.Common.{◌≡◌, ◌≢◌, ◌∙◌, ℕ, ◌+◌, ◌<◌, ◌≤◌, ℤ, List, ◌∷◌, length, get_or, drop, Bool, true, false, cond, Option, Some, None, IfSome, sym, ap, subst, subst₂, arith, ◌⊎◌, inl, inr}
+use Rattle.std.proofs.Common.{◌≡◌, ◌≢◌, ◌∙◌, ℕ, ◌+◌, ◌<◌, ◌≤◌, ℤ, List, length, get_or, Bool, Option, Some, None, IfSome, sym, ap, subst, subst₂, arith, ◌⊎◌, inl, inr}
 use Rattle.std.specs.List.{slice_get, find}
 use Rattle.std.specs.Option.{option_and_then}
 use Rattle.std.proofs.lemmas.Bool.{cases_lt}
-use Rattle.std.proofs.lemmas.List.{drop_more}
 use Rattle.std.proofs.lemmas.Option.{slice_get-get_or, same_Some}
 use Rattle.csub_semantics.specs.Points.{exit_tree, exit_eq, on_case}
 use Rattle.flow_graph.specs.declared.node.GraphWay.{GraphWay}
 use Rattle.flow_graph.specs.declared.node.GraphPoint.{GraphPoint}
 use Rattle.flow_graph.specs.Cases.{ArePlaces}
 
--- the first way out by a case value
+-- whether a way out is by a case value, and the first that is
+abbrev pub is_by : ℤ → GraphWay → Bool
+is_by v w = exit_eq (exit_tree w.exit) (on_case v)
+
 abbrev pub first_by : ℤ → List GraphWay → Option GraphWay
 first_by v ways = find (λ w. exit_eq (exit_tree w.exit) (on_case v)) ways
-
--- one way out more, in front of those that are entered
-module _ (ways : List GraphWay) (i k : ℕ) (w : GraphWay) (next : k + 1 ≡ i) (inside : k < length ways) (is : w ≡ get_or ways k w)
-    (before after : ℤ → Option ℕ) (taken : (v : ℤ) → after v ≡ cond (exit_eq (exit_tree w.exit) (on_case v)) (Some k) (before v)) where
-  ways_from : w ∷ drop i ways ≡ drop k ways
-  ways_from = ap (λ n. w ∷ drop n ways) (sym next) ∙ ap (λ x. x ∷ drop (k + 1) ways) is ∙ sym (drop_more ways k w inside)
-
-  pub found_more : ((v : ℤ) → option_and_then (slice_get ways) (before v) ≡ first_by v (drop i ways)) → (v : ℤ) → option_and_then (slice_get ways) (after v) ≡ first_by v (drop k ways)
-  found_more found v =
-      ap (option_and_then (slice_get ways)) (taken v) ∙ pick (exit_eq (exit_tree w.exit) (on_case v)) ∙ ap (first_by v) ways_from
-    where
-      pick : (b : Bool) → option_and_then (slice_get ways) (cond b (Some k) (before v)) ≡ cond b (Some w) (first_by v (drop i ways))
-      pick true = slice_get-get_or ways k w inside ∙ ap Some (sym is)
-      pick false = found v
-
-  pub within_more : ((v : ℤ) → IfSome (before v) (λ n. n < length ways)) → (v : ℤ) → IfSome (after v) (λ n. n < length ways)
-  within_more within v = subst (λ o. IfSome o (λ n. n < length ways)) (sym (taken v)) (pick (exit_eq (exit_tree w.exit) (on_case v)))
-    where
-      pick : (b : Bool) → IfSome (cond b (Some k) (before v)) (λ n. n < length ways)
-      pick true = inside
-      pick false = within v
 
 -- what is entered, where it is the same by each value
 pub same_places : (ways : List GraphWay) (before after : ℤ → Option ℕ) → ((v : ℤ) → after v ≡ before v) → ArePlaces ways before → ArePlaces ways after

@@ -6,6 +6,7 @@ mod Rows
 mod Emitted
 mod Lengths
 mod Table
+mod FirstPlaces
 mod CasePlaces
 mod Listed
 mod Numbering

@@ -1,4 +1,5 @@
 pub mod Numbers
 pub mod Jumps
 pub mod Cases
+pub mod Names
 pub mod Graph

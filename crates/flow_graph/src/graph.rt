@@ -1,5 +1,5 @@
 //! The graph of a program.
-ghost use Rattle.std.specs.Prelude.{◌≡◌, ◌<◌, ◌≤◌, ◌+◌, ◌↔◌, ℕ, IfOk, IfSome, OnSome, Some, length, map, slice_get};
+ghost use Rattle.std.specs.Prelude.{◌≡◌, ◌<◌, ◌≤◌, ◌+◌, ◌↔◌, ℕ, IfOk, IfSome, Some, length, map, slice_get};
 ghost use Rattle.std.specs.Option.{option_and_then, option_map};
 ghost use Rattle.csub_objects.specs.Types.{Name};
 ghost use Rattle.csub_semantics.specs.Types.{global_tree};
@@ -14,8 +14,9 @@ ghost use Rattle.flow_graph.specs.Graph.{IsGraphOf, HasProgram, point_count, edg
 use crate::build::{Listed, copy_globals, list_points};
 use crate::case_table::list_cases;
 use crate::edges::{EdgeNumbers, number_edges};
+use crate::names::list_names;
 use crate::node::{GraphFunction, GraphPoint};
-use crate::search::{find_exit, find_function};
+use crate::search::find_exit;
 use csub_core::Program;
 use csub_semantics::{ExitLabel, GlobalVar, Label, Point, Span, Text};
 use std::alloc::{AllocError, Global};
@@ -25,7 +26,8 @@ use std::ops::Range;
 
 /// The graph of a program: its points and edges, numbered from 0, and its objects of file scope. Points are numbered function by function, and in a
 /// function the entry, the points of the body in the order of the text, and the exit; edges by their source points and
-/// then in order, a `Default` last; functions in the program's order, `#start` first.
+/// then in order, a `Default` last; functions in the program's order, `#start` first. Beside them stand two ordered maps,
+/// by which the way out by a case and the function with a name are found.
 #[derive(Drop)]
 pub struct Graph {
     functions: Vec<GraphFunction>,
@@ -33,6 +35,7 @@ pub struct Graph {
     firsts: Vec<u32>,
     sources: Vec<u32>,
     cases: BTreeMap<(u32, i64), u32>,
+    names: BTreeMap<Text, u32>,
     globals: Vec<GlobalVar>,
 }
 
@@ -44,6 +47,7 @@ impl Model for Graph {
     ghost use Rattle.csub_semantics.specs.contracts.expression.RExpr as expr;
     ghost use Rattle.csub_semantics.specs.contracts.label.RInit as init;
     ghost use Rattle.flow_graph.specs.Cases.{AreEntered};
+    ghost use Rattle.flow_graph.specs.Names.{AreNamed};
     ghost use Rattle.flow_graph.specs.Graph.{Tables, IsClosed, HasProgram, firsts_of, sources_of};
 
     ghost Value = { Tables };
@@ -52,7 +56,7 @@ impl Model for Graph {
 
     ghost view = { λ g. (g.functions.items, g.points.items, g.globals.items) };
 
-    ghost invariant = { λ g. IsClosed (g.functions.items, g.points.items, g.globals.items) × (g.firsts.items ≡ firsts_of g.points.items 0) × (g.sources.items ≡ sources_of g.points.items 0) × AreEntered g.points.items g.cases × HasProgram (g.functions.items, g.points.items, g.globals.items) };
+    ghost invariant = { λ g. IsClosed (g.functions.items, g.points.items, g.globals.items) × (g.firsts.items ≡ firsts_of g.points.items 0) × (g.sources.items ≡ sources_of g.points.items 0) × AreEntered g.points.items g.cases × HasProgram (g.functions.items, g.points.items, g.globals.items) × AreNamed g.functions.items g.names };
 }
 
 /// An edge: its source point, its exit label and the point to which it leads.
@@ -77,13 +81,15 @@ pub struct WayOut {
 
 impl Graph {
     /// The graph of a program. An `Err` is want of memory. The work is in proportion to the labels, and to the
-    /// statements and the points, each times the length of its path; and the cases are put into an ordered map.
+    /// statements and the points, each times the length of its path; and the cases and the functions are put into ordered
+    /// maps.
     pub fn build(alloc: Global, program: &Program) -> Result<Graph, AllocError>
         ensures { IfOk result (λ graph. IsGraphOf graph (program_tree program.now)) }
     {
         let Listed { functions, points } = list_points(alloc, program.functions())?;
         let EdgeNumbers { firsts, sources } = number_edges(alloc, points.as_slice())?;
         let cases = list_cases(alloc, points.as_slice())?;
+        let names = list_names(alloc, functions.as_slice())?;
         let globals = copy_globals(alloc, program.globals())?;
         Ok(Graph {
             functions,
@@ -91,6 +97,7 @@ impl Graph {
             firsts,
             sources,
             cases,
+            names,
             globals,
         })
     }
@@ -179,13 +186,14 @@ impl Graph {
         &self.functions[function as usize].name
     }
 
-    /// The number of the function with a name; `None` exactly where no function has it. Names are compared one by one.
+    /// The number of the function with a name; `None` exactly where no function has it. It is found by a logarithm of the
+    /// functions.
     pub fn find(&self, name: &Text) -> Option<u32>
         ensures found { (P : ProgramTree) → IsGraphOf self.now P → option_and_then (name_at P) result ≡ option_map (λ g. g.name) (function_of P name.now) }
         ensures within { IfSome result (λ f. f < function_count self.now) }
     {
-        let function = find_function(self.functions.as_slice(), name)?;
-        Some(function as u32)
+        let function = self.names.get(name)?;
+        Some(*function)
     }
 
     /// The edge that leaves a point by an exit label, and the point to which it leads; `None` exactly where the point has no

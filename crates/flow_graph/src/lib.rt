@@ -20,6 +20,7 @@ mod emit;
 mod graph;
 mod jumps;
 mod marks;
+mod names;
 mod node;
 mod onward;
 mod search;

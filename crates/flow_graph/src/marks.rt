@@ -4,7 +4,7 @@ ghost use Rattle.csub_semantics.specs.Syntax.{part_tree, do_loop, for_loop, stmt
 ghost use Rattle.flow_graph.specs.Numbers.{around, count, count_list, enter, enter_list, marks, marks_list, numbered_mark};
 
 use crate::begin::{Begin, begin_again, ends, part_begin, parts_begin};
-use crate::count::{count_of, count_parts_of};
+use crate::count::count_of;
 use crate::onward::{Onward, looping, switching};
 use csub_semantics::{RPart, RStmt, Text};
 use std::alloc::AllocError;

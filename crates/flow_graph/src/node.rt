@@ -1,6 +1,6 @@
 //! Points with the numbers of the points to which they lead.
 ghost use Rattle.std.specs.Prelude.{◌≡◌, ◌++◌, IfOk, [], ◌∷◌, map};
-ghost use Rattle.csub_semantics.specs.Points.{point_tree, at, exit_tree, next};
+ghost use Rattle.csub_semantics.specs.Points.{point_tree, at, next};
 ghost use Rattle.csub_semantics.specs.Successors.{way, test_ways as test_ways'};
 ghost use Rattle.flow_graph.specs.Numbers.{numbered_way};
 

@@ -1,15 +1,12 @@
 //! Searches in short lists.
-ghost use Rattle.std.specs.Prelude.{◌≡◌, ◌<◌, length, IfSome, slice_get, find, nat_eq};
+ghost use Rattle.std.specs.Prelude.{◌≡◌, ◌<◌, length, IfSome, slice_get, find};
 ghost use Rattle.std.specs.Option.{option_and_then};
-ghost use Rattle.std.specs.Ordering.{int_eq};
-ghost use Rattle.std.specs.Cmp.Lexicographic.{pointwise};
 ghost use Rattle.csub_semantics.specs.Points.{exit_tree, exit_eq};
-ghost use Rattle.csub_semantics.specs.Types.{name_eq};
 ghost use Rattle.flow_graph.specs.Cases.{place_in, ArePlaces};
 
 use crate::case_table::find_case;
-use crate::node::{GraphFunction, GraphWay};
-use csub_semantics::{ExitLabel, Text};
+use crate::node::GraphWay;
+use csub_semantics::ExitLabel;
 use std::collections::BTreeMap;
 
 /// Whether two exit labels are equal.
@@ -61,17 +58,4 @@ pub fn find_exit(
         ExitLabel::Case(value) => find_case(cases, point, *value),
         _ => find_way(ways, exit),
     }
-}
-
-/// The place of the first function with this name.
-pub fn find_function(functions: &[GraphFunction], name: &Text) -> Option<usize>
-    ensures found { option_and_then (slice_get functions.now) result ≡ find (λ f. name_eq f.name name.now) functions.now }
-    ensures within { IfSome result (λ i. i < length functions.now) }
-{
-    for i in 0..functions.len() {
-        if functions[i].name == *name {
-            return Some(i);
-        }
-    }
-    None
 }

@@ -1,13 +1,14 @@
 use Rattle.std.proofs.Common.{◌≡◌, ◌∙◌, ℕ, ℤ, ◌+◌, ◌-◌, ◌<◌, cond, length, Option, Some, ap, arith}
 use Rattle.csub_semantics.specs.Points.{exit_tree, exit_eq, on_case}
 use Rattle.flow_graph.specs.Cases.{place_in}
-use Rattle.flow_graph.proofs.CasePlaces.{found_more, within_more}
+use Rattle.flow_graph.proofs.FirstPlaces.{found_more, within_more}
+use Rattle.flow_graph.proofs.CasePlaces.{is_by}
 use Rattle.flow_graph.proofs.case_table.enter_ways.Goals as goal
 
 pub loop-i-preserved : goal.loop-i-preserved
 loop-i-preserved c = record {
-  found = found_more c.args.ways.now c.loop-i.i (c.loop-i.i - 1) c.index-ways-i.result next inside c.index-ways-i.is before after taken c.loop-i.invariant.found;
-  within = within_more c.args.ways.now c.loop-i.i (c.loop-i.i - 1) c.index-ways-i.result next inside c.index-ways-i.is before after taken c.loop-i.invariant.within;
+  found = found_more is_by c.args.ways.now c.loop-i.i (c.loop-i.i - 1) c.index-ways-i.result next inside c.index-ways-i.is before after taken c.loop-i.invariant.found;
+  within = within_more is_by c.args.ways.now c.loop-i.i (c.loop-i.i - 1) c.index-ways-i.result next inside c.index-ways-i.is before after taken c.loop-i.invariant.within;
   others = λ n v other. c.in_ok-enter_way.ensures.others n v other ∙ c.loop-i.invariant.others n v other;
 }
   where
