@@ -16,22 +16,16 @@ pub fn certified_text(alloc: Global, versions: &Versions) -> Result<Vec<u8>, Ref
         (λ text. IsMade (IsCertifiedText versions.now.source.items versions.now.new_source.items (program_tree versions.now.old) (program_tree versions.now.new)) text.items)
         (IsTooMuchCause product.Certificate (IsCertifiedText versions.now.source.items versions.now.new_source.items (program_tree versions.now.old) (program_tree versions.now.new))) }
 {
-    let Ok(graphs) = build_graphs(alloc, versions) else {
-        return Err(Refusal::Memory);
-    };
-    let Ok(walked) = walk_of(alloc, &graphs.old, &graphs.new) else {
-        return Err(Refusal::Memory);
-    };
-    let Ok(certificate) = certificate_of(
+    let graphs = build_graphs(alloc, versions)?;
+    let walked = walk_of(alloc, &graphs.old, &graphs.new)?;
+    let certificate = certificate_of(
         alloc,
         &graphs.old,
         &graphs.new,
         &walked,
         &versions.source,
         &versions.new_source,
-    ) else {
-        return Err(Refusal::Memory);
-    };
+    )?;
     match write_certificate(alloc, &certificate) {
         Ok(text) => Ok(text),
         Err(CertificateTextError::TooLong(count)) => {

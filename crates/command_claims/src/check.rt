@@ -28,23 +28,14 @@ pub fn checked_text(alloc: Global, versions: &Versions, bytes: &[u8]) -> Result<
 {
     // What a closed claim is good for.
     closed_claim();
-    let Ok(graphs) = build_graphs(alloc, versions) else {
-        return Err(Refusal::Memory);
-    };
-    let certificate = match read_claim(alloc, versions, &graphs, bytes) {
-        Ok(certificate) => certificate,
-        Err(refusal) => return Err(refusal),
-    };
-    let Ok(verdict) = check(alloc, &graphs.old, &graphs.new, &certificate) else {
-        return Err(Refusal::Memory);
-    };
-    match verdict_text(alloc, &graphs.old, &certificate, verdict) {
-        Ok(text) => Ok(Checked {
-            text,
-            closed: is_closed(verdict),
-        }),
-        Err(_) => Err(Refusal::Memory),
-    }
+    let graphs = build_graphs(alloc, versions)?;
+    let certificate = read_claim(alloc, versions, &graphs, bytes)?;
+    let verdict = check(alloc, &graphs.old, &graphs.new, &certificate)?;
+    let text = verdict_text(alloc, &graphs.old, &certificate, verdict)?;
+    Ok(Checked {
+        text,
+        closed: is_closed(verdict),
+    })
 }
 
 /// The certificate in these bytes, for two versions and their graphs.

@@ -71,19 +71,12 @@ pub fn select_tests(alloc: Global, versions: &Versions, bytes: &[u8]) -> Result<
         (IsSelectionOf versions.now.source.items bytes.now (program_tree versions.now.old) (program_tree versions.now.new))
         (IsHistoryCause Third versions.now.source.items bytes.now (program_tree versions.now.old)) }
 {
-    let Ok(graphs) = build_graphs(alloc, versions) else {
-        return Err(Refusal::Memory);
-    };
-    let history = match read_entries(alloc, bytes, &versions.source, graphs.old.edges()) {
-        Ok(history) => history,
-        Err(refusal) => return Err(refusal),
-    };
-    match choose(alloc, versions, &graphs, &history) {
-        Ok(chosen) => Ok(Selection {
-            history,
-            graphs,
-            chosen,
-        }),
-        Err(_) => Err(Refusal::Memory),
-    }
+    let graphs = build_graphs(alloc, versions)?;
+    let history = read_entries(alloc, bytes, &versions.source, graphs.old.edges())?;
+    let chosen = choose(alloc, versions, &graphs, &history)?;
+    Ok(Selection {
+        history,
+        graphs,
+        chosen,
+    })
 }

@@ -1,5 +1,5 @@
 //! Files that a command names.
-ghost use Rattle.std.specs.Prelude.{◌≡◌, IfOk, IfErr, MatchResult, length, map};
+ghost use Rattle.std.specs.Prelude.{◌≡◌, IfOk, IfErr, MatchResult, length};
 ghost use Rattle.dv_outside.specs.Outside.{IsFetched, NeverFalls};
 ghost use Rattle.csub_semantics.specs.Syntax.{ProgramTree, program_tree};
 ghost use Rattle.csub_semantics.specs.Flows.{edge_list};

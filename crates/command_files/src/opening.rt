@@ -43,6 +43,7 @@ pub fn open_source<S: Shelf>(
         (IsOpened (S.files shelf.old) name.now second_name.now most)
         (IsOpenCause role name.now second_name.now (S.files shelf.old) (S.faults shelf.old) (S.faults shelf.new)) }
     ensures counts { NeverFalls (S.faults shelf.old) (S.faults shelf.new) }
+    ensures same { S.files shelf.new ≡ S.files shelf.old }
 {
     let source = fetch_file(shelf, name, SOURCE_AND_ONE)?;
     let program = read_source(alloc, role, &source)?;
@@ -67,6 +68,7 @@ pub fn open_versions<S: Shelf>(
         (AreOpened (S.files shelf.old) old_name.now new_name.now third_name.now most)
         (AreOpenCause old_name.now new_name.now third_name.now (S.files shelf.old) (S.faults shelf.old) (S.faults shelf.new)) }
     ensures counts { NeverFalls (S.faults shelf.old) (S.faults shelf.new) }
+    ensures same { S.files shelf.new ≡ S.files shelf.old }
 {
     let versions = read_versions(alloc, old_name, new_name, shelf)?;
     let bytes = fetch_file(shelf, third_name, most)?;

@@ -1,5 +1,5 @@
 //! The two versions that a command names.
-ghost use Rattle.std.specs.Prelude.{◌≡◌, IfOk, MatchResult, map};
+ghost use Rattle.std.specs.Prelude.{◌≡◌, IfOk, MatchResult};
 ghost use Rattle.dv_outside.specs.Outside.{NeverFalls};
 ghost use Rattle.csub_semantics.specs.Syntax.{program_tree};
 ghost use Rattle.command_files.specs.Files.{AreRead, IsVersionsCause};

@@ -36,13 +36,8 @@ pub fn carried_text<R: Threads + Sync, G: Gate>(
 {
     // Why the text is what `record` writes: the law of recorded histories.
     carried_is_recorded();
-    let selection = match select_tests(alloc, versions, bytes) {
-        Ok(selection) => selection,
-        Err(refusal) => return Err(refusal),
-    };
-    let Ok(carried) = carried_history(alloc, versions, &selection, runner) else {
-        return Err(Refusal::Memory);
-    };
+    let selection = select_tests(alloc, versions, bytes)?;
+    let carried = carried_history(alloc, versions, &selection, runner)?;
     match write_history(alloc, &carried) {
         Ok(text) => Ok(text),
         Err(HistoryTextError::TooLong(count)) => Err(Refusal::TooMuch(Product::History, count)),

@@ -23,13 +23,8 @@ pub fn migrated_text(
         (λ text. IsMade (IsMigration source.now bytes.now (program_tree program.now)) text.items)
         (IsMigrationCause source.now bytes.now (program_tree program.now)) }
 {
-    let Ok(graph) = Graph::build(alloc, program) else {
-        return Err(Refusal::Memory);
-    };
-    let history = match read_entries_2(alloc, bytes, source, graph.edges()) {
-        Ok(history) => history,
-        Err(refusal) => return Err(refusal),
-    };
+    let graph = Graph::build(alloc, program)?;
+    let history = read_entries_2(alloc, bytes, source, graph.edges())?;
     match write_history(alloc, &history) {
         Ok(text) => Ok(text),
         Err(HistoryTextError::TooLong(count)) => Err(Refusal::TooMuch(Product::History, count)),

@@ -30,14 +30,8 @@ pub fn ordered_text<R: Threads + Sync, G: Gate>(
         (λ text. IsOrdering versions.now.source.items bytes.now (program_tree versions.now.old) (program_tree versions.now.new) text.items)
         (IsHistoryCause Third versions.now.source.items bytes.now (program_tree versions.now.old)) }
 {
-    let selection = match select_tests(alloc, versions, bytes) {
-        Ok(selection) => selection,
-        Err(refusal) => return Err(refusal),
-    };
-    match text_of(alloc, &selection, runner) {
-        Ok(text) => Ok(text),
-        Err(_) => Err(Refusal::Memory),
-    }
+    let selection = select_tests(alloc, versions, bytes)?;
+    Ok(text_of(alloc, &selection, runner)?)
 }
 
 /// The text of the order of the selected tests. An `Err` is want of memory.

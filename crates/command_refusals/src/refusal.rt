@@ -53,6 +53,17 @@ pub enum Refusal {
     TooMuch(Product, u64),
 }
 
+impl From<AllocError> for Refusal {
+    ghost use Rattle.std.specs.Prelude.{◌≡◌};
+    ghost use Rattle.command_refusals.specs.declared.refusal.Refusal.TheVariants.{Memory};
+
+    ghost from_gives = { λ _ refusal. refusal ≡ Memory };
+
+    fn from(_error: AllocError) -> Refusal {
+        Refusal::Memory
+    }
+}
+
 /// The line for want of memory, which is there without memory.
 pub const MEMORY_LINE: &[u8] = b"refused: memory\n";
 

@@ -1,5 +1,5 @@
 //! Why a source isn't accepted, as it is told.
-ghost use Rattle.std.specs.Prelude.{◌≡◌, ◌++◌, ◌≤◌, OnOk, length};
+ghost use Rattle.std.specs.Prelude.{◌≡◌, ◌++◌, OnOk};
 ghost use Rattle.csub_accept.specs.Accepted.{HasCause};
 ghost use Rattle.command_refusals.specs.Causes.{at_place, kind_word, limit_word, source_cause, source_text};
 

@@ -146,7 +146,7 @@ module _ (told : Option Files) (before now : List ℕ → ℕ) (files : Files) (
 -- ---- the answer
 
 -- the text of a command, where its files are told
-pub told_text : (c : Command) (told : Option Files) (end : End) (text : List ℕ) → HasTextOf (Some c) told end text → (files : Files) → told ≡ Some files → IsTextOf c files end text
+told_text : (c : Command) (told : Option Files) (end : End) (text : List ℕ) → HasTextOf (Some c) told end text → (files : Files) → told ≡ Some files → IsTextOf c files end text
 told_text (gen_numbers seed count) told end text has files at = record { said = has; fits = tt }
 told_text c told end text has files at = has files at
 

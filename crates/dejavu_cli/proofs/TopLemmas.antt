@@ -13,7 +13,6 @@ use Rattle.dejavu_cli.specs.declared.answer.End.{End}
 use Rattle.dejavu_cli.specs.declared.answer.End.TheVariants.{Whole, Differs, Open}
 use Rattle.dejavu_cli.specs.declared.status.Status8.{Status8}
 use Rattle.dejavu_cli.specs.declared.status.Status8.TheVariants as status
-use Rattle.dejavu_cli.proofs.CompleteLemmas.{told_text}
 
 -- what was added to what was written before
 added : (b n : Option (List ℕ)) (text written : List ℕ) → n ≡ option_map (λ held. held ++ text) b → b ≡ Some written → n ≡ Some (written ++ text)
@@ -36,14 +35,13 @@ no_usage_fault Whole is = cc
 no_usage_fault end is = cc
 
 module _ (words : List (List ℕ)) (told : Option Files) (b n : Option (List ℕ)) (fb fn : ℕ) (answer : Status8) where
-  pub headline_is : (wanted end : End) (text : List ℕ) (oc : Option Command) → command_of words ≡ oc → HasTextOf oc told end text → Says b n fb fn (done_as end) text answer
+  pub headline_is : (wanted end : End) (text : List ℕ) → HasTextOf (command_of words) told end text → Says b n fb fn (done_as end) text answer
       → answer ≡ done_as wanted → IsHeadline words told b n wanted
-  headline_is wanted end text None is has says done = absurd has
-  headline_is wanted end text (Some c) is has (inl h) done =
+  headline_is wanted end text has (inl h) done =
       let same : end ≡ wanted = one_end end wanted (sym h.0 ∙ done) in
-      let here : HasTextOf (Some c) told wanted text = subst (λ (e : End). HasTextOf (Some c) told e text) same has in
-      λ files at written held. (c, is, text, told_text c told wanted text here files at, added b n text written h.1 held)
-  headline_is wanted end text (Some c) is has (inr h) done = absurd (no_fault wanted (sym h.0 ∙ done))
+      let here : HasTextOf (command_of words) told wanted text = subst (λ (e : End). HasTextOf (command_of words) told e text) same has in
+      λ written held. (text, here, added b n text written h.1 held)
+  headline_is wanted end text has (inr h) done = absurd (no_fault wanted (sym h.0 ∙ done))
 
   -- a command that is done is no fault of usage
   pub no_usage : (end : End) (text : List ℕ) → Says b n fb fn (done_as end) text answer → answer ≡ status.Usage → command_of words ≡ None

@@ -1,11 +1,11 @@
 -- What is written, and when each answer comes.
 use Rattle.std.specs.Prelude.{ℕ, ◌≡◌, ◌⊎◌, List, ◌++◌, Option, Some}
 use Rattle.dv_outside.specs.Outside.{Files, Rose, Appends, AppendsPrefix}
-use Rattle.command_words.specs.Words.{Command, command_of}
+use Rattle.command_words.specs.Words.{command_of}
 use Rattle.command_refusals.specs.Refusals.{refusal_line}
 use Rattle.command_refusals.specs.declared.refusal.Refusal.{Refusal}
 use Rattle.command_refusals.specs.declared.refusal.Refusal.TheVariants as refusal
-use Rattle.dejavu_cli.specs.Texts.{IsTextOf, HasTextOf}
+use Rattle.dejavu_cli.specs.Texts.{HasTextOf}
 use Rattle.dejavu_cli.specs.Causes.{HasCause}
 use Rattle.dejavu_cli.specs.Statuses.{done_as, status_of}
 use Rattle.dejavu_cli.specs.declared.answer.End.{End}
@@ -24,16 +24,16 @@ Says before now faults_before faults_now s text answer =
     ((answer ≡ s) × Appends before now text)
     ⊎ ((answer ≡ status.WriteFault) × Rose faults_before faults_now × AppendsPrefix before now text)
 
--- The headline: where the files and the written bytes are told, the words are a command and its text was added to what
--- was written before. For `select` that text names exactly the tests whose recorded run crosses a dangerous edge, and
+-- The headline: where the written bytes are told, the words are a command and its text was added to what was written
+-- before; where the files are told, but for `gen`, it is the text that they decide. For `select` that text names exactly the tests whose recorded run crosses a dangerous edge, and
 -- each test that it leaves behaves the same on the new program (`IsChosen` of `command_files`). For `rerun` whether a test
 -- differs is whether any test of a recorded suite does, the left ones too (`IsFaithful`). What `carry` writes for a recorded
 -- history is the history that `record` writes on the new source (`IsRecordedAnew` of `command_histories`). A run that
 -- crosses no edge of a claim that `check` finds closed behaves the same on the new program (`IsChecked` of `command_claims`).
 abbrev pub IsHeadline : List (List ℕ) → Option Files → Option (List ℕ) → Option (List ℕ) → End → Type 0
 IsHeadline words told before now end =
-    (files : Files) → told ≡ Some files → (written : List ℕ) → before ≡ Some written →
-    (c : Command) × (command_of words ≡ Some c) × (text : List ℕ) × IsTextOf c files end text × (now ≡ Some (written ++ text))
+    (written : List ℕ) → before ≡ Some written →
+    (text : List ℕ) × HasTextOf (command_of words) told end text × (now ≡ Some (written ++ text))
 
 -- the refusal's line was written with its status, or that for want of memory
 abbrev pub Refuses : Option (List ℕ) → Option (List ℕ) → ℕ → ℕ → Refusal → Status8 → Type 0

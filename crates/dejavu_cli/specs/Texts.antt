@@ -32,7 +32,7 @@ abbrev pub end_of_check : Bool → End
 end_of_check true = Whole
 end_of_check false = Open
 
--- what a text is, by an old source with its program and the bytes of a second file
+-- what a text is, by a source with its program and the bytes of a second file
 abbrev pub IsOfSecond : Files → List ℕ → List ℕ → (List ℕ → List ℕ → ProgramTree → List ℕ → Type 0) → List ℕ → Type 0
 IsOfSecond files source second IsText text = (are : HasSecond files source second) × IsText are.source are.bytes are.program text
 

@@ -1,5 +1,5 @@
 //! Why a test has to run again.
-ghost use Rattle.std.specs.Prelude.{◌≡◌, ◌<◌, ◌≤◌, ℕ, List, IfOk, MatchOption, MatchResult, map, length};
+ghost use Rattle.std.specs.Prelude.{◌≡◌, ◌<◌, ◌≤◌, ℕ, List, IfOk, MatchOption, MatchResult, length};
 ghost use Rattle.csub_semantics.specs.Syntax.{ProgramTree, program_tree};
 ghost use Rattle.csub_accept.specs.Accepted.{Accepted};
 ghost use Rattle.dejavu_cli.specs.Explain.{HasTest, IsExplained, IsTestAt};
@@ -29,20 +29,12 @@ pub(crate) fn explanation(
         (λ text. IsExplained versions.now.source.items versions.now.new_source.items bytes.now (program_tree versions.now.old) (program_tree versions.now.new) test.now text.items)
         (IsTestCause versions.now.source.items bytes.now (program_tree versions.now.old) test.now) }
 {
-    let Ok(graphs) = build_graphs(alloc, versions) else {
-        return Err(Refusal::Memory);
-    };
-    let history = match read_entries(alloc, bytes, &versions.source, graphs.old.edges()) {
-        Ok(history) => history,
-        Err(refusal) => return Err(refusal),
-    };
+    let graphs = build_graphs(alloc, versions)?;
+    let history = read_entries(alloc, bytes, &versions.source, graphs.old.edges())?;
     let Some(place) = find_test(history.entries(), test) else {
         return Err(no_test(alloc, test));
     };
-    match explain_at(alloc, versions, &graphs, &history, place) {
-        Ok(text) => Ok(text),
-        Err(_) => Err(Refusal::Memory),
-    }
+    Ok(explain_at(alloc, versions, &graphs, &history, place)?)
 }
 
 /// The place of the test with a name.

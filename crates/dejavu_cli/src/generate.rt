@@ -1,5 +1,5 @@
 //! Generated pairs of programs, and what the method says of them.
-ghost use Rattle.std.specs.Prelude.{◌≡◌, ◌<◌, ◌≤◌, ◌++◌, ◌∷◌, [], ℕ, List, All, IfOk, OnOk, MatchResult, map, length};
+ghost use Rattle.std.specs.Prelude.{◌≡◌, ◌<◌, ◌≤◌, ◌++◌, ◌∷◌, [], All, IfOk, OnOk, MatchResult, length};
 ghost use Rattle.std.specs.Fmt.{decimal};
 ghost use Rattle.csub_semantics.specs.Syntax.{ProgramTree, program_tree};
 ghost use Rattle.csub_accept.specs.Accepted.{Accepted};
@@ -54,15 +54,9 @@ pub(crate) fn generated_text<R: Threads + Sync, G: Gate>(
     requires few { runner.workers ≤ 64 }
     ensures { MatchResult result (λ text. IsGenText seed size text.items) (IsMadeCause seed size) }
 {
-    let Ok(made) = make_pair(alloc, seed, size) else {
-        return Err(Refusal::Memory);
-    };
-    let Made { old, new, tests } = made;
+    let Made { old, new, tests } = make_pair(alloc, seed, size)?;
     let versions = read_made(alloc, old, new)?;
-    match measured_text(alloc, seed, size, &versions, &tests, runner) {
-        Ok(text) => Ok(text),
-        Err(_) => Err(Refusal::Memory),
-    }
+    Ok(measured_text(alloc, seed, size, &versions, &tests, runner)?)
 }
 
 /// Both versions by their sources.
@@ -125,6 +119,7 @@ fn measure<R: Threads + Sync, G: Gate>(
         alloc,
         &versions.source,
         &versions.old,
+        &graphs.old,
         tests,
         runner.again(),
     )?;

@@ -11,7 +11,7 @@
 //! `certify` and `check` in `command_claims`.
 #![tactic(auto)]
 
-ghost use Rattle.std.specs.Prelude.{◌≡◌, ℕ, List, None, false, true};
+ghost use Rattle.std.specs.Prelude.{◌≡◌, ◌≤◌, ℕ, List, None};
 ghost use Rattle.dv_outside.specs.Outside.{Rose, NeverFalls};
 ghost use Rattle.command_words.specs.Words.{texts_of, command_of};
 ghost use Rattle.dejavu_cli.specs.Answers.{Decides, Says, Refuses, IsHeadline};
@@ -86,7 +86,8 @@ pub fn dejavu<R: Threads + Sync, S: Shelf, K: Sink, G: Gate>(
         × Decides (texts_of words.now) (S.files shelf.old) (S.faults shelf.old) (S.faults shelf.new) status text
         × Says (K.written out.old) (K.written out.new) (K.faults out.old) (K.faults out.new) status text result }
 
-    // Where the files and the written bytes are told, Done says that the command's text was written.
+    // Done says that the command's text was written, where the written bytes are told. This and the clauses up to `complete`
+    // follow from the first one, and say what a caller asks of it.
     ensures headline { result ≡ Status8.Done → IsHeadline (texts_of words.now) (S.files shelf.old) (K.written out.old) (K.written out.new) ends.Whole }
     // So does Differs, and a test that ran again differs.
     ensures differs { result ≡ Status8.Differs → IsHeadline (texts_of words.now) (S.files shelf.old) (K.written out.old) (K.written out.new) ends.Differs }
@@ -96,7 +97,10 @@ pub fn dejavu<R: Threads + Sync, S: Shelf, K: Sink, G: Gate>(
     ensures write_fault { result ≡ Status8.WriteFault → Rose (K.faults out.old) (K.faults out.new) }
     // Where nothing stands in its way it is done.
     ensures complete { IsComplete (texts_of words.now) (S.files shelf.old) (S.faults shelf.old) (S.faults shelf.new) (K.faults out.old) (K.faults out.new) result }
+    // The files stay as they are, and faults are only counted up.
+    ensures same { S.files shelf.new ≡ S.files shelf.old }
     ensures counts { NeverFalls (S.faults shelf.old) (S.faults shelf.new) }
+    ensures out_counts { K.faults out.old ≤ K.faults out.new }
 {
     match work(rt, alloc, words, shelf, gate) {
         Ok(Answer { text, end }) => say(out, done_as(end), &text),
@@ -106,7 +110,8 @@ pub fn dejavu<R: Threads + Sync, S: Shelf, K: Sink, G: Gate>(
 
 /// Writes the line of a refusal; where there is no memory for it, the line for want of memory.
 fn refuse<K: Sink>(alloc: Global, out: &mut K, refusal: &Refusal) -> Status8
-    ensures { Refuses (K.written out.old) (K.written out.new) (K.faults out.old) (K.faults out.new) refusal.now result }
+    ensures refuses { Refuses (K.written out.old) (K.written out.new) (K.faults out.old) (K.faults out.new) refusal.now result }
+    ensures counts { K.faults out.old ≤ K.faults out.new }
 {
     match refusal_text(alloc, refusal) {
         Ok(line) => say(out, refusal_status(refusal), &line),
@@ -116,7 +121,8 @@ fn refuse<K: Sink>(alloc: Global, out: &mut K, refusal: &Refusal) -> Status8
 
 /// Writes the text, and answers the status, or that the write failed.
 fn say<K: Sink>(out: &mut K, status: Status8, text: &[u8]) -> Status8
-    ensures { Says (K.written out.old) (K.written out.new) (K.faults out.old) (K.faults out.new) status text.now result }
+    ensures says { Says (K.written out.old) (K.written out.new) (K.faults out.old) (K.faults out.new) status text.now result }
+    ensures counts { K.faults out.old ≤ K.faults out.new }
 {
     match write_whole(out, text) {
         Ok(()) => status,

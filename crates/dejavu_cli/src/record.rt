@@ -1,6 +1,7 @@
 //! The history of a source and a suite.
-ghost use Rattle.std.specs.Prelude.{◌≡◌, ◌<◌, ◌≤◌, IfOk, MatchResult, All, map, length};
+ghost use Rattle.std.specs.Prelude.{◌<◌, ◌≤◌, IfOk, MatchResult, All, length};
 ghost use Rattle.csub_semantics.specs.Syntax.{program_tree};
+ghost use Rattle.flow_graph.specs.Graph.{IsGraphOf};
 ghost use Rattle.test_suite.specs.Suites.{most_tests};
 ghost use Rattle.test_suite.specs.Tests.{IsWithin};
 ghost use Rattle.test_history.specs.Histories.{IsHistoryWithin};
@@ -21,14 +22,16 @@ use suite_run::run_all;
 use test_history::{History, HistoryTextError, digest_of, write_history};
 use test_suite::Test;
 
-/// The history of a source's program and the tests. An `Err` is want of memory.
+/// The history of a source's program, whose graph is given, and the tests. An `Err` is want of memory.
 pub(crate) fn make_history<R: Threads + Sync, G: Gate>(
     alloc: Global,
     source: &[u8],
     program: &Program,
+    graph: &Graph,
     tests: &[Test],
     runner: Runner<'_, R, G>,
 ) -> Result<History, AllocError>
+    requires graph { IsGraphOf graph.now (program_tree program.now) }
     requires within { All IsWithin tests.now }
     requires count { length tests.now ≤ most_tests }
     requires some { 0 < runner.workers }
@@ -36,13 +39,12 @@ pub(crate) fn make_history<R: Threads + Sync, G: Gate>(
     ensures history { IfOk result (λ history. IsHistory source.now (program_tree program.now) tests.now history) }
     ensures within { IfOk result (λ history. IsHistoryWithin history) }
 {
-    let graph = Graph::build(alloc, program)?;
     bounds();
     let entries = run_all(
         runner.rt,
         alloc,
         program,
-        &graph,
+        graph,
         tests,
         runner.workers,
         runner.gate,
@@ -64,13 +66,9 @@ pub(crate) fn record_text<R: Threads + Sync, G: Gate>(
         (λ text. IsMade (IsRecorded source.now bytes.now (program_tree program.now)) text.items)
         (IsRecordCause source.now bytes.now (program_tree program.now)) }
 {
-    let tests = match read_tests(alloc, bytes) {
-        Ok(tests) => tests,
-        Err(refusal) => return Err(refusal),
-    };
-    let Ok(history) = make_history(alloc, source, program, &tests, runner) else {
-        return Err(Refusal::Memory);
-    };
+    let tests = read_tests(alloc, bytes)?;
+    let graph = Graph::build(alloc, program)?;
+    let history = make_history(alloc, source, program, &graph, &tests, runner)?;
     match write_history(alloc, &history) {
         Ok(text) => Ok(text),
         Err(HistoryTextError::TooLong(count)) => Err(Refusal::TooMuch(Product::History, count)),

@@ -39,24 +39,19 @@ pub(crate) fn rerun_answer<R: Threads + Sync, G: Gate>(
         × IsRerun versions.now.source.items bytes.now (program_tree versions.now.old) (program_tree versions.now.new) differs answer.text.items)
         (IsHistoryCause Third versions.now.source.items bytes.now (program_tree versions.now.old)) }
 {
-    let selection = match select_tests(alloc, versions, bytes) {
-        Ok(selection) => selection,
-        Err(refusal) => return Err(refusal),
-    };
-    match rerun_selected(
+    let selection = select_tests(alloc, versions, bytes)?;
+    let told = rerun_selected(
         alloc,
         &selection.history,
         &selection.chosen.choices,
         &versions.new,
         &selection.graphs.new,
         runner,
-    ) {
-        Ok(told) => Ok(Answer {
-            end: rerun_end(told.differs > 0),
-            text: told.bytes,
-        }),
-        Err(_) => Err(Refusal::Memory),
-    }
+    )?;
+    Ok(Answer {
+        end: rerun_end(told.differs > 0),
+        text: told.bytes,
+    })
 }
 
 /// How `rerun` ends, by whether a test differs.

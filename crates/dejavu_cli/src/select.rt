@@ -22,12 +22,7 @@ pub(crate) fn selection_text(
         (λ text. IsSelection versions.now.source.items bytes.now (program_tree versions.now.old) (program_tree versions.now.new) text.items)
         (IsHistoryCause Third versions.now.source.items bytes.now (program_tree versions.now.old)) }
 {
-    let selection = match select_tests(alloc, versions, bytes) {
-        Ok(selection) => selection,
-        Err(refusal) => return Err(refusal),
-    };
-    match select_text(alloc, &selection.history, &selection.chosen.choices) {
-        Ok(text) => Ok(text),
-        Err(_) => Err(Refusal::Memory),
-    }
+    let selection = select_tests(alloc, versions, bytes)?;
+    let choices = &selection.chosen.choices;
+    Ok(select_text(alloc, &selection.history, choices)?)
 }

@@ -1,5 +1,5 @@
 //! The text of the walk of two versions.
-ghost use Rattle.std.specs.Prelude.{◌≡◌, ◌≤◌, IfOk, map, length};
+ghost use Rattle.std.specs.Prelude.{◌≤◌, IfOk, length};
 ghost use Rattle.csub_semantics.specs.Syntax.{program_tree};
 ghost use Rattle.explain_report.specs.Walks.{IsWalkText};
 

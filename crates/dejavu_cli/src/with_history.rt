@@ -28,6 +28,7 @@ pub(crate) fn select<S: Shelf>(
         (λ text. HasTextOf (Some (select_files files.entry.old.now files.entry.new.now files.entry.history.now)) (S.files shelf.old) Whole text.items)
         (HasCauseOf (select_files files.entry.old.now files.entry.new.now files.entry.history.now) (S.files shelf.old) (S.faults shelf.old) (S.faults shelf.new)) }
     ensures counts { NeverFalls (S.faults shelf.old) (S.faults shelf.new) }
+    ensures same { S.files shelf.new ≡ S.files shelf.old }
 {
     let opened = open_versions(
         alloc,
@@ -53,6 +54,7 @@ pub(crate) fn rerun<R: Threads + Sync, S: Shelf, G: Gate>(
         (λ answer. HasTextOf (Some (rerun_files files.entry.old.now files.entry.new.now files.entry.history.now runner.entry.workers)) (S.files shelf.old) answer.end answer.text.items)
         (HasCauseOf (rerun_files files.entry.old.now files.entry.new.now files.entry.history.now runner.entry.workers) (S.files shelf.old) (S.faults shelf.old) (S.faults shelf.new)) }
     ensures counts { NeverFalls (S.faults shelf.old) (S.faults shelf.new) }
+    ensures same { S.files shelf.new ≡ S.files shelf.old }
 {
     let opened = open_versions(
         alloc,
@@ -76,6 +78,7 @@ pub(crate) fn explain<S: Shelf>(
         (λ text. HasTextOf (Some (explain_files files.entry.old.now files.entry.new.now files.entry.history.now test.now)) (S.files shelf.old) Whole text.items)
         (HasCauseOf (explain_files files.entry.old.now files.entry.new.now files.entry.history.now test.now) (S.files shelf.old) (S.faults shelf.old) (S.faults shelf.new)) }
     ensures counts { NeverFalls (S.faults shelf.old) (S.faults shelf.new) }
+    ensures same { S.files shelf.new ≡ S.files shelf.old }
 {
     let opened = open_versions(
         alloc,
@@ -101,6 +104,7 @@ pub(crate) fn carry<R: Threads + Sync, S: Shelf, G: Gate>(
         (λ text. HasTextOf (Some (carry_files files.entry.old.now files.entry.new.now files.entry.history.now runner.entry.workers)) (S.files shelf.old) Whole text.items)
         (HasCauseOf (carry_files files.entry.old.now files.entry.new.now files.entry.history.now runner.entry.workers) (S.files shelf.old) (S.faults shelf.old) (S.faults shelf.new)) }
     ensures counts { NeverFalls (S.faults shelf.old) (S.faults shelf.new) }
+    ensures same { S.files shelf.new ≡ S.files shelf.old }
 {
     let opened = open_versions(
         alloc,
@@ -126,6 +130,7 @@ pub(crate) fn order<R: Threads + Sync, S: Shelf, G: Gate>(
         (λ text. HasTextOf (Some (order_files files.entry.old.now files.entry.new.now files.entry.history.now runner.entry.workers)) (S.files shelf.old) Whole text.items)
         (HasCauseOf (order_files files.entry.old.now files.entry.new.now files.entry.history.now runner.entry.workers) (S.files shelf.old) (S.faults shelf.old) (S.faults shelf.new)) }
     ensures counts { NeverFalls (S.faults shelf.old) (S.faults shelf.new) }
+    ensures same { S.files shelf.new ≡ S.files shelf.old }
 {
     let opened = open_versions(
         alloc,

@@ -28,6 +28,7 @@ pub(crate) fn record<R: Threads + Sync, S: Shelf, G: Gate>(
         (λ text. HasTextOf (Some (record_files source_name.now suite_name.now runner.entry.workers)) (S.files shelf.old) Whole text.items)
         (HasCauseOf (record_files source_name.now suite_name.now runner.entry.workers) (S.files shelf.old) (S.faults shelf.old) (S.faults shelf.new)) }
     ensures counts { NeverFalls (S.faults shelf.old) (S.faults shelf.new) }
+    ensures same { S.files shelf.new ≡ S.files shelf.old }
 {
     let opened = open_source(
         alloc,
@@ -57,6 +58,7 @@ pub(crate) fn migrate<S: Shelf>(
         (λ text. HasTextOf (Some (migrate_files old_name.now history_name.now)) (S.files shelf.old) Whole text.items)
         (HasCauseOf (migrate_files old_name.now history_name.now) (S.files shelf.old) (S.faults shelf.old) (S.faults shelf.new)) }
     ensures counts { NeverFalls (S.faults shelf.old) (S.faults shelf.new) }
+    ensures same { S.files shelf.new ≡ S.files shelf.old }
 {
     let opened = open_source(
         alloc,

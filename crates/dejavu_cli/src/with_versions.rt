@@ -25,12 +25,10 @@ pub(crate) fn walk<S: Shelf>(
         (λ text. HasTextOf (Some (walk_files old_name.now new_name.now)) (S.files shelf.old) Whole text.items)
         (HasCauseOf (walk_files old_name.now new_name.now) (S.files shelf.old) (S.faults shelf.old) (S.faults shelf.new)) }
     ensures counts { NeverFalls (S.faults shelf.old) (S.faults shelf.new) }
+    ensures same { S.files shelf.new ≡ S.files shelf.old }
 {
     let versions = read_versions(alloc, old_name, new_name, shelf)?;
-    match report(alloc, &versions) {
-        Ok(text) => Ok(text),
-        Err(_) => Err(Refusal::Memory),
-    }
+    Ok(report(alloc, &versions)?)
 }
 
 /// The text of `certify`.
@@ -44,6 +42,7 @@ pub(crate) fn certify<S: Shelf>(
         (λ text. HasTextOf (Some (certify_files old_name.now new_name.now)) (S.files shelf.old) Whole text.items)
         (HasCauseOf (certify_files old_name.now new_name.now) (S.files shelf.old) (S.faults shelf.old) (S.faults shelf.new)) }
     ensures counts { NeverFalls (S.faults shelf.old) (S.faults shelf.new) }
+    ensures same { S.files shelf.new ≡ S.files shelf.old }
 {
     let versions = read_versions(alloc, old_name, new_name, shelf)?;
     certified_text(alloc, &versions)
@@ -61,6 +60,7 @@ pub(crate) fn check<S: Shelf>(
         (λ answer. HasTextOf (Some (check_files old_name.now new_name.now certificate_name.now)) (S.files shelf.old) answer.end answer.text.items)
         (HasCauseOf (check_files old_name.now new_name.now certificate_name.now) (S.files shelf.old) (S.faults shelf.old) (S.faults shelf.new)) }
     ensures counts { NeverFalls (S.faults shelf.old) (S.faults shelf.new) }
+    ensures same { S.files shelf.new ≡ S.files shelf.old }
 {
     let opened = open_versions(
         alloc,

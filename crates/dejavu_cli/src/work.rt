@@ -30,11 +30,11 @@ pub(crate) fn work<R: Threads + Sync, S: Shelf, G: Gate>(
         (λ answer. HasTextOf (command_of (texts_of words.now)) (S.files shelf.old) answer.end answer.text.items)
         (HasCause (command_of (texts_of words.now)) (S.files shelf.old) (S.faults shelf.old) (S.faults shelf.new)) }
     ensures counts { NeverFalls (S.faults shelf.old) (S.faults shelf.new) }
+    ensures same { S.files shelf.new ≡ S.files shelf.old }
 {
-    match read_words(alloc, words) {
-        Ok(Some(command)) => answer_to(rt, alloc, command, shelf, gate),
-        Ok(None) => Err(Refusal::Usage),
-        Err(_) => Err(Refusal::Memory),
+    match read_words(alloc, words)? {
+        Some(command) => answer_to(rt, alloc, command, shelf, gate),
+        None => Err(Refusal::Usage),
     }
 }
 
@@ -51,6 +51,7 @@ fn answer_to<R: Threads + Sync, S: Shelf, G: Gate>(
         (λ answer. HasTextOf (Some (command_shown command.entry)) (S.files shelf.old) answer.end answer.text.items)
         (HasCauseOf (command_shown command.entry) (S.files shelf.old) (S.faults shelf.old) (S.faults shelf.new)) }
     ensures counts { NeverFalls (S.faults shelf.old) (S.faults shelf.new) }
+    ensures same { S.files shelf.new ≡ S.files shelf.old }
 {
     match command {
         Command::Record {

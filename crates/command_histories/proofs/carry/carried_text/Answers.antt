@@ -5,25 +5,25 @@ use Rattle.test_history.specs.declared.error.HistoryTextError.TheVariants.{TooLo
 use Rattle.command_histories.proofs.Carrying.{carried_text, carried_too_long}
 use Rattle.command_histories.proofs.carry.carried_text.Goals as goal
 
-pub returns-in-Ok-write_history : goal.returns-in-Ok-write_history
-returns-in-Ok-write_history g c =
+pub returns-in-Ok : goal.returns-in-Ok
+returns-in-Ok g c =
     let P = program_tree c.args.versions.now.old in
     let P' = program_tree c.args.versions.now.new in
-    let selected = c.in-Ok.ensures in
-    let counted : vec_len c.in-Ok-write_history.text ≡ length c.in-Ok-write_history.text.items = search rules in
+    let selected = c.in_ok-selection.ensures in
+    let counted : vec_len c.in-Ok.text ≡ length c.in-Ok.text.items = search rules in
     record {
       text =
-          carried_text c.args.versions.now.source.items c.args.versions.now.new_source.items c.args.bytes.now P P' c.in-Ok.selection c.in-Ok-carried_history.carried selected
-          c.requires.accepted (c.carried_is_recorded.ensures P P' selected.graphs.old.valid selected.graphs.new.valid) c.in-Ok-carried_history.ensures.carried
-          c.in-Ok-write_history.text.items c.in-Ok-write_history.ensures.text;
-      short = subst (λ (n : ℕ). n ≤ 134217728) counted c.in-Ok-write_history.ensures.short;
+          carried_text c.args.versions.now.source.items c.args.versions.now.new_source.items c.args.bytes.now P P' c.in_ok-selection.selection c.in_ok-carried.carried selected
+          c.requires.accepted (c.carried_is_recorded.ensures P P' selected.graphs.old.valid selected.graphs.new.valid) c.in_ok-carried.ensures.carried
+          c.in-Ok.text.items c.in-Ok.ensures.text;
+      short = subst (λ (n : ℕ). n ≤ 134217728) counted c.in-Ok.ensures.short;
     }
 
 pub returns-in-Err-TooLong : goal.returns-in-Err-TooLong
 returns-in-Err-TooLong g c =
     let P = program_tree c.args.versions.now.old in
     let P' = program_tree c.args.versions.now.new in
-    let selected = c.in-Ok.ensures in
-    let why : HasTextCause c.in-Ok-carried_history.carried (TooLong c.in-Err-TooLong.count) = rw c.in-Err-TooLong.field-0-is at c.in-Err-TooLong.ensures.cause in
-    carried_too_long c.args.versions.now.source.items c.args.versions.now.new_source.items c.args.bytes.now P P' c.in-Ok.selection c.in-Ok-carried_history.carried selected
-    c.requires.accepted (c.carried_is_recorded.ensures P P' selected.graphs.old.valid selected.graphs.new.valid) c.in-Ok-carried_history.ensures.carried c.in-Err-TooLong.count why
+    let selected = c.in_ok-selection.ensures in
+    let why : HasTextCause c.in_ok-carried.carried (TooLong c.in-Err-TooLong.count) = rw c.in-Err-TooLong.field-0-is at c.in-Err-TooLong.ensures.cause in
+    carried_too_long c.args.versions.now.source.items c.args.versions.now.new_source.items c.args.bytes.now P P' c.in_ok-selection.selection c.in_ok-carried.carried selected
+    c.requires.accepted (c.carried_is_recorded.ensures P P' selected.graphs.old.valid selected.graphs.new.valid) c.in_ok-carried.ensures.carried c.in-Err-TooLong.count why

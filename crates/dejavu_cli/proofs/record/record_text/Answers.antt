@@ -9,13 +9,13 @@ use Rattle.dejavu_cli.proofs.record.record_text.Goals as goal
 
 pub returns-in-Err-TooLong : goal.returns-in-Err-TooLong
 returns-in-Err-TooLong g c =
-    let history = c.in-Ok-make_history.history in
+    let history = c.in_ok-history.history in
     let why : HasTextCause history (TooLong c.in-Err-TooLong.count) = rw c.in-Err-TooLong.field-0-is at c.in-Err-TooLong.ensures.cause in
-    let made = subst (λ (tests : List TestParts). IsHistory c.args.source.now (program_tree c.args.program.now) tests history) c.deref.ensures.value c.in-Ok-make_history.ensures.history in (
+    let made = subst (λ (tests : List TestParts). IsHistory c.args.source.now (program_tree c.args.program.now) tests history) c.deref.ensures.value c.in_ok-history.ensures.history in (
       refl,
       record {
         bytes = history_text history;
-        text = record { tests = c.in-Ok.tests.items; reads = c.in-Ok.ensures.tests; history = history; of = made; is = refl };
+        text = record { tests = c.in_ok-tests.tests.items; reads = c.in_ok-tests.ensures.tests; history = history; of = made; is = refl };
         counted = why.0;
         long = why.1;
       },

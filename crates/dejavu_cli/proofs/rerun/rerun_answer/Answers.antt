@@ -7,20 +7,20 @@ use Rattle.dejavu_cli.proofs.rerun.rerun_answer.Goals as goal
 
 pub rerun_selected-requires-clause-choices : goal.rerun_selected-requires-clause-choices
 rerun_selected-requires-clause-choices g c = λ κs lives.
-    subst (λ (choices : List Choice). length choices ≡ length c.in-Ok.selection.history.entries) (sym c.deref.ensures.value) c.in-Ok.ensures.walked.many
+    subst (λ (choices : List Choice). length choices ≡ length c.in_ok-selection.selection.history.entries) (sym c.deref.ensures.value) c.in_ok-selection.ensures.walked.many
 
 pub rerun_selected-requires-clause-within : goal.rerun_selected-requires-clause-within
-rerun_selected-requires-clause-within g c = λ κs lives. c.in-Ok.ensures.reads.file.readable.within.entries
+rerun_selected-requires-clause-within g c = λ κs lives. c.in_ok-selection.ensures.reads.file.readable.within.entries
 
-pub returns-in-Ok-rerun_selected : goal.returns-in-Ok-rerun_selected
-returns-in-Ok-rerun_selected g c =
+pub returns : goal.returns
+returns g c =
     let P = program_tree c.args.versions.now.old in
     let P' = program_tree c.args.versions.now.new in
-    let history = c.in-Ok.selection.history in
-    let choices = c.in-Ok.selection.chosen.choices.items in
-    let told = c.in-Ok-rerun_selected.told in (
+    let history = c.in_ok-selection.selection.history in
+    let choices = c.in_ok-selection.selection.chosen.choices.items in
+    let told = c.in_ok-told.told in (
       nat_lt 0 told.differs,
       c.rerun_end.ensures,
-      rerun_is P P' c.args.versions.now.source.items c.args.bytes.now history choices told (nat_lt 0 told.differs) told.bytes.items c.in-Ok.ensures.chosen
-          (subst (λ (each : List Choice). HasReran P' history.entries each told) c.deref.ensures.value c.in-Ok-rerun_selected.ensures) refl refl,
+      rerun_is P P' c.args.versions.now.source.items c.args.bytes.now history choices told (nat_lt 0 told.differs) told.bytes.items c.in_ok-selection.ensures.chosen
+          (subst (λ (each : List Choice). HasReran P' history.entries each told) c.deref.ensures.value c.in_ok-told.ensures) refl refl,
     )

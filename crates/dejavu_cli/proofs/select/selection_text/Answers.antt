@@ -5,12 +5,12 @@ use Rattle.dejavu_cli.proofs.select.selection_text.Goals as goal
 
 pub select_text-requires : goal.select_text-requires
 select_text-requires c =
-    subst (λ (choices : List Choice). length choices ≡ length c.in-Ok.selection.history.entries) (sym c.deref.ensures.value) c.in-Ok.ensures.walked.many
+    subst (λ (choices : List Choice). length choices ≡ length c.in_ok-selection.selection.history.entries) (sym c.deref.ensures.value) c.in_ok-selection.ensures.walked.many
 
-pub returns-in-Ok-select_text : goal.returns-in-Ok-select_text
-returns-in-Ok-select_text c = record {
-  history = c.in-Ok.selection.history;
-  choices = c.in-Ok.selection.chosen.choices.items;
-  chosen = c.in-Ok.ensures.chosen.chosen;
-  is = c.in-Ok-select_text.ensures ∙ ap (select_text c.in-Ok.selection.history.entries) c.deref.ensures.value;
+pub returns : goal.returns
+returns c = record {
+  history = c.in_ok-selection.selection.history;
+  choices = c.in_ok-selection.selection.chosen.choices.items;
+  chosen = c.in_ok-selection.ensures.chosen.chosen;
+  is = c.in_ok-select_text.ensures ∙ ap (select_text c.in_ok-selection.selection.history.entries) c.deref.ensures.value;
 }
