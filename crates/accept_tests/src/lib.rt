@@ -1,6 +1,6 @@
-//! Tests of whole sources in C text: what their runs show, and which rule others break first, and where. What is expected is
-//! what C says, or the language where C leaves a choice. They stand above what they test, since a crate's tests are proved
-//! together with the whole crate.
+//! Tests of whole sources in C text: what their runs show, how two of them are walked, and which rule others break first, and
+//! where. What is expected is what C says, or the language where C leaves a choice. They stand above what they test, since a
+//! crate's tests are proved together with the whole crate.
 #![tactic(auto)]
 
 #[cfg(test)]

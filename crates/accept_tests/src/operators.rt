@@ -4,7 +4,7 @@ use std::test::Fail;
 
 // C11 6.5.5, 6.5.6, 6.5.7 and 6.5.10 to 6.5.12
 #[test]
-fn arithmetic_of_ints(rt: HostRuntime) -> Result<(), Fail> {
+fn operators_on_ints_give_what_c_says(rt: HostRuntime) -> Result<(), Fail> {
     bodies_agree(
         &rt,
         rt.alloc(),

@@ -4,7 +4,7 @@ use std::test::Fail;
 
 // C11 6.8.4.1 and 6.8.5
 #[test]
-fn loops_and_tests(rt: HostRuntime) -> Result<(), Fail> {
+fn loops_and_ifs_go_by_their_tests(rt: HostRuntime) -> Result<(), Fail> {
     bodies_agree(
         &rt,
         rt.alloc(),
@@ -34,7 +34,7 @@ fn loops_and_tests(rt: HostRuntime) -> Result<(), Fail> {
 
 // C11 6.8.4.2 and 6.8.6
 #[test]
-fn switches_and_jumps(rt: HostRuntime) -> Result<(), Fail> {
+fn a_switch_enters_at_its_case_and_a_jump_at_its_label(rt: HostRuntime) -> Result<(), Fail> {
     bodies_agree(
         &rt,
         rt.alloc(),
@@ -85,7 +85,7 @@ fn input_is_read_to_its_end(rt: HostRuntime) -> Result<(), Fail> {
 
 // C11 7.22.4.4 and 5.1.2.2.3; a status has 8 bits
 #[test]
-fn ends_of_runs(rt: HostRuntime) -> Result<(), Fail> {
+fn a_run_ends_with_the_low_8_bits_of_its_value(rt: HostRuntime) -> Result<(), Fail> {
     bodies_agree(
         &rt,
         rt.alloc(),

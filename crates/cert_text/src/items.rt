@@ -1,4 +1,4 @@
-// The lines of an edge and of a pair, read off the front of a text.
+//! The lines of an edge and of a pair, read off the front of a text.
 ghost use Rattle.std.specs.Prelude.{◌≡◌, ◌≢◌, ◌≤◌, ◌<◌, ◌++◌, ◌∷◌, [], ℕ, MatchOption, IsTrue, ◌↔◌};
 ghost use Rattle.std.specs.Fmt.{decimal};
 ghost use Rattle.line_text.specs.Words.{line_of_words};

@@ -1,6 +1,5 @@
-// How long the text of a certificate is, found without writing it.
+//! How long the text of a certificate is, found without writing it.
 ghost use Rattle.std.specs.Prelude.{◌≡◌, ◌≤◌, length, map};
-ghost use Rattle.std.specs.Fmt.{decimal};
 ghost use Rattle.line_text.specs.Lines.{text_of_lines};
 ghost use Rattle.cert_text.specs.Certificates.{IsWithin, most_pairs};
 ghost use Rattle.edge_trace.specs.Rows.{numbers_of};

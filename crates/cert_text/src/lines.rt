@@ -1,12 +1,9 @@
-// The lines of a certificate.
+//! The lines of a certificate.
 ghost use Rattle.std.specs.Prelude.{◌≡◌, ◌++◌, ◌∷◌, [], OnOk};
-ghost use Rattle.std.specs.Fmt.{decimal};
-ghost use Rattle.hex.specs.Hex.{encode_lower};
 ghost use Rattle.cert_text.specs.CertificateTexts.{pair_line};
-ghost use Rattle.line_text.specs.Values.{value_line};
 
 use crate::pair::Pair;
-use line_text::{push_decimal, push_hex};
+use line_text::push_decimal;
 use std::alloc::AllocError;
 
 /// Appends the line of a pair.

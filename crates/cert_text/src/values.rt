@@ -1,9 +1,8 @@
-// The lines of a word and a value, read off the front of a text.
-ghost use Rattle.std.specs.Prelude.{◌≡◌, ◌≤◌, ◌++◌, ◌∷◌, ℕ, List, codes, IfSome, MatchOption};
+//! The lines of a word and a value, read off the front of a text.
+ghost use Rattle.std.specs.Prelude.{◌≡◌, ◌≤◌, ◌++◌, ◌∷◌, ℕ, MatchOption};
 ghost use Rattle.std.specs.Fmt.{decimal};
-ghost use Rattle.hex.specs.Hex.{encode_lower};
 ghost use Rattle.cert_text.specs.CertificateTexts.{title};
-ghost use Rattle.line_text.specs.Values.{value_line, IsDigest, HasNumber, HasDigest};
+ghost use Rattle.line_text.specs.Values.{value_line, HasNumber};
 ghost use Rattle.line_text.specs.Lines.{HasLine};
 
 use line_text::{cut_value, read_number_line};

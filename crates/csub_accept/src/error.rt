@@ -1,7 +1,6 @@
 //! Why a source isn't accepted.
 use csub_lex::FaultKind;
 use csub_text::Span;
-use std::alloc::AllocError;
 use thiserror::Error;
 
 /// Why a source isn't accepted.

@@ -227,13 +227,6 @@ fn evaluate(scope: &Scope, e: &Expr) -> Option<Found>
     }
 }
 
-/// Whether an expression is made as constant expressions are (C11 6.6p3 and p6), whether it traps or not.
-pub fn is_constant(scope: &Scope, e: &Expr) -> bool
-    ensures { result ≡ is_constant (scope_of scope.now) (expr_tree e.now) }
-{
-    evaluate(scope, e).is_some()
-}
-
 /// The value of a constant expression, and none where an expression is none or traps (C11 6.6p4).
 pub fn constant(scope: &Scope, e: &Expr) -> Option<i64>
     ensures { result ≡ constant (scope_of scope.now) (expr_tree e.now) }

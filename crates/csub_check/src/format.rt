@@ -1,7 +1,7 @@
 //! Strings, and what `printf` asks of its first argument (C11 7.21.6.1).
-ghost use Rattle.std.specs.Prelude.{◌≡◌, ◌+◌, ◌<◌, ◌≤◌, ℕ, List, ◌∷◌, [], map, option_map, IsSome};
+ghost use Rattle.std.specs.Prelude.{◌≡◌, ◌+◌, ◌<◌, ◌≤◌, ℕ, List, ◌∷◌, [], map, option_map};
 ghost use Rattle.csub_tree.specs.Expressions.{expr_tree, exprs_of};
-ghost use Rattle.csub_rules.specs.ExprFaults.{format_fault, literal_fault};
+ghost use Rattle.csub_rules.specs.ExprFaults.{format_fault};
 ghost use Rattle.csub_rules.specs.Formats.{asks_for, conversions, is_conversion, is_literal, literal_of};
 ghost use Rattle.csub_check.specs.Arguments.{first_format};
 ghost use Rattle.csub_check.specs.Scans.{asked, held};

@@ -3,10 +3,10 @@
 //! What is promised: [`check`] gives the sort of an expression and the earliest fault in it, exactly as `sort_of` and
 //! `fault` of the definitions of rules (`csub_rules`) say; [`check_use`] gives the earliest fault of an expression where
 //! it stands by itself, and [`check_enum_constant`] that of an enum constant. [`constant`] gives the value of a
-//! constant expression (C11 6.6), and none for an expression that is none or traps; [`is_constant`] tells these two
-//! apart, [`check_constant`] gives value and fault, and [`enum_value`] the value of an enum constant. [`callee_of`] says
-//! what a called name is, the functions of [`kind`] which kinds numbers have, and [`first_bytes`] where a word stands. Each
-//! of them takes time in proportion to the expression and the types that it compares, no memory, and fails for nothing.
+//! constant expression (C11 6.6), and none for an expression that is none or traps; [`check_constant`] gives value and
+//! fault, and [`enum_value`] the value of an enum constant. [`callee_of`] says what a called name is, the functions of
+//! [`kind`] which kinds numbers have, and [`first_bytes`] where a word stands. Each of them takes time in proportion to the
+//! expression and the types that it compares, no memory, and fails for nothing.
 #![tactic(auto)]
 
 mod arguments;
@@ -25,7 +25,7 @@ mod words;
 
 pub use callee::{Callee, callee_of};
 pub use checked::Checked;
-pub use constants::{constant, is_constant};
+pub use constants::constant;
 pub use expression::check;
 pub use kind::{binary_kind, named_kind, number_literal_kind, operation_kind, unary_kind};
 pub use library::is_reserved;

@@ -2,7 +2,7 @@
 //!
 //! Each rule of `specs/Valid` of `csub_validity` has a function of its own, there or here, and what a rule joins is
 //! joined by `&&`. The limits are looked at first, so that the rest is done for programs of bounded size alone.
-ghost use Rattle.std.specs.Prelude.{◌≡◌, ◌≢◌, ◌↔◌, ◌≤◌, All, AllPairs, IsTrue, length, map};
+ghost use Rattle.std.specs.Prelude.{◌≢◌, ◌↔◌, ◌≤◌, All, AllPairs, IsTrue, length, map};
 ghost use Rattle.std.specs.List.{AllWithin};
 ghost use Rattle.csub_semantics.specs.declared.function.Function.{Function};
 ghost use Rattle.csub_semantics.specs.Syntax.{function_tree};

@@ -1,8 +1,7 @@
 //! Initialisers (C11 6.7.9).
-ghost use Rattle.std.specs.Prelude.{◌≡◌, IfSome, map, option_map};
+ghost use Rattle.std.specs.Prelude.{◌≡◌, map, option_map};
 ghost use Rattle.csub_objects.specs.Meaning.{type_tree};
 ghost use Rattle.csub_rules.specs.Initialisers.{entries_fault, fills, init_fault, lacks_list, use_at, value_fault};
-ghost use Rattle.csub_rules.specs.Sorts.{kind_of_type};
 ghost use Rattle.csub_scopes.specs.Meanings.{scope_of};
 ghost use Rattle.csub_tree.specs.Declarations.{init_tree, inits_of};
 ghost use Rattle.csub_tree.specs.Expressions.{expr_tree};

@@ -1,5 +1,5 @@
 //! Declared names with their lengths (C11 6.7.6.2).
-ghost use Rattle.std.specs.Prelude.{◌≡◌, ◌||◌, IfOk, map, nat_lt, length, option_map};
+ghost use Rattle.std.specs.Prelude.{◌≡◌, ◌||◌, IfOk, map, length, option_map};
 ghost use Rattle.csub_objects.specs.Meaning.{type_tree};
 ghost use Rattle.csub_rules.specs.Constants.{constant};
 ghost use Rattle.csub_rules.specs.Declarators.{array_of, as_length, declared_type, dims_fault, if_sized, is_bad_length, is_too_large, length_of, object_type, slot_fault};

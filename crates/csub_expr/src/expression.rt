@@ -1,6 +1,6 @@
 //! The descent of expressions (C11 6.5). Each reading may use a tree of the depth `budget`, and refuses a token where no
 //! such tree is left.
-ghost use Rattle.std.specs.Prelude.{◌≡◌, ℕ, ◌≤◌, ◌<◌, ◌-◌, zero, suc, List, length, map, IfOk, IfErr, Ok, Err};
+ghost use Rattle.std.specs.Prelude.{◌≡◌, ◌≤◌, ◌<◌, ◌-◌, suc, length, map, IfOk, Ok, Err};
 ghost use Rattle.csub_tree.specs.Expressions.{expr_tree, exprs_of};
 ghost use Rattle.csub_tree.specs.Depth.{expr_depth, exprs_depth};
 ghost use Rattle.csub_tree.specs.SpellsExpressions.{assignment, conditional, binary};

@@ -1,5 +1,5 @@
 //! The descent of initialisers (C11 6.7.9).
-ghost use Rattle.std.specs.Prelude.{◌≡◌, ℕ, ◌≤◌, suc, List, length, map, Ok, Err};
+ghost use Rattle.std.specs.Prelude.{◌≡◌, ◌≤◌, suc, List, length, map, Ok, Err};
 ghost use Rattle.csub_lex.specs.declared.token.Mark.TheVariants.{CloseBrace};
 ghost use Rattle.csub_tree.specs.Declarations.{init_tree, inits_of};
 ghost use Rattle.csub_tree.specs.Declarations as tree;

@@ -1,5 +1,5 @@
 //! What is seen of the first token.
-ghost use Rattle.std.specs.Prelude.{◌≡◌, ℕ, ◌-◌, length};
+ghost use Rattle.std.specs.Prelude.{◌≡◌, ◌-◌};
 ghost use Rattle.std.specs.Option.{option_map};
 ghost use Rattle.csub_expr.specs.Looks.{same_mark, same_key, begins, begins_key, begins_number, rest, head_span, op_at, assignment_at, prefix_at, tail_at, operator_view, prefix_view};
 ghost use Rattle.csub_expr.specs.Answers.{Gives, expect, expect_name};

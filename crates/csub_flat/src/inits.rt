@@ -5,7 +5,7 @@ ghost use Rattle.csub_objects.specs.Types.{cells, number_kind};
 ghost use Rattle.csub_semantics.specs.Trees.{object, owner_tree, expr_tree};
 ghost use Rattle.csub_semantics.specs.Labels.{listed, init_tree, inits_of};
 ghost use Rattle.csub_flat.specs.Flatten.{cleared, flattened, flat_writes, variable_slot};
-ghost use Rattle.csub_flat.specs.Fits.{FitsExpr, FitsInit, FitInits, IsBegun};
+ghost use Rattle.csub_flat.specs.Fits.{FitsExpr, FitsInit, IsBegun};
 ghost use Rattle.csub_flat.specs.Scopes.{globals_at, function_at};
 ghost use Rattle.csub_flat.specs.Seen.{write_seen};
 ghost use Rattle.csub_flat.specs.Trees.{writes};

@@ -1,5 +1,5 @@
 //! The next piece of a source.
-ghost use Rattle.std.specs.Prelude.{◌≡◌, ◌≤◌, ◌<◌, length, drop, IfOk};
+ghost use Rattle.std.specs.Prelude.{◌≤◌, ◌<◌, length, drop, IfOk};
 ghost use Rattle.csub_lex.specs.Finding.{word_cut, number_cut, constant, character_of, text_cut, characters_of, directive_cut, comment_cut, mark_cut, next, Gives};
 
 use crate::bytes::{begins_with, behind_line, from, front, is_blank, is_letter, word_len};

@@ -1,5 +1,5 @@
 //! What stands between quotes (C11 6.4.4.4, 6.4.5).
-ghost use Rattle.std.specs.Prelude.{◌≡◌, ◌≤◌, ◌++◌, ◌∷◌, length, drop, Result, Ok, Err, IfOk, IfSome, MatchOption, option_map, Option, None, Some};
+ghost use Rattle.std.specs.Prelude.{◌≡◌, Result, Ok, Err, IfOk, option_map, Option, None, Some};
 ghost use Rattle.csub_lex.specs.Quoted.{is_plain, escape_value};
 ghost use Rattle.csub_lex.specs.Numbers.{is_digit_of};
 ghost use Rattle.csub_lex.specs.Finding.{begins, escaped, character_of, characters_of};

@@ -1,9 +1,7 @@
 //! The arguments of calls, as they fit what is called.
 ghost use Rattle.std.specs.Prelude.{◌≡◌, ◌<◌, ◌∷◌, false, IsTrue, drop, length, map};
-ghost use Rattle.csub_types.specs.declared.kind.IntKind.TheVariants.{Int};
 ghost use Rattle.csub_tree.specs.Expressions.{Call, expr_tree, exprs_of};
 ghost use Rattle.csub_objects.specs.Meaning.{type_tree};
-ghost use Rattle.csub_objects.specs.Types.{number_type};
 ghost use Rattle.csub_scopes.specs.Meanings.{scope_of};
 ghost use Rattle.csub_rules.specs.Callees.{callee_of, printf_function, putchar_function, take_all, user_function};
 ghost use Rattle.csub_rules.specs.ExprSorts.{sorts_of};

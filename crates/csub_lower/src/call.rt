@@ -1,7 +1,7 @@
 //! Calls (C11 6.5.2.2).
-ghost use Rattle.std.specs.Prelude.{◌≡◌, ◌+◌, ◌++◌, ◌∷◌, [], false, IfOk, OnOk, IsTrue, length, map, option_map};
+ghost use Rattle.std.specs.Prelude.{◌≡◌, ◌+◌, ◌++◌, ◌∷◌, [], false, IfOk, OnOk, length, map, option_map};
 ghost use Rattle.csub_tree.specs.Expressions.{Call, expr_tree, exprs_of};
-ghost use Rattle.csub_objects.specs.Meaning.{member_tree, type_tree};
+ghost use Rattle.csub_objects.specs.Meaning.{member_tree};
 ghost use Rattle.csub_scopes.specs.Meanings.{scope_of};
 ghost use Rattle.csub_semantics.specs.Trees.{arg_tree};
 ghost use Rattle.csub_semantics.specs.Labels.{calls, call_tree};

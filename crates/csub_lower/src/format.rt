@@ -1,5 +1,5 @@
 //! The pieces of a format (C11 7.21.6.1).
-ghost use Rattle.std.specs.Prelude.{◌≡◌, ◌++◌, ◌∷◌, [], ℕ, List, IfOk, map};
+ghost use Rattle.std.specs.Prelude.{◌≡◌, ◌++◌, ◌∷◌, ℕ, List, IfOk, map};
 ghost use Rattle.csub_tree.specs.Expressions.{expr_tree, exprs_of};
 ghost use Rattle.csub_rules.specs.Formats.{literal_of};
 ghost use Rattle.csub_resolution.specs.Printed.{conversion_piece, format_of, literal_pieces, pieces};

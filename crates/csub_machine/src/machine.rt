@@ -9,8 +9,8 @@ use flow_graph::Graph;
 use std::alloc::{AllocError, Global};
 use std::marker::Model;
 
-/// A run of a valid program on an input, with a copy of that input and a flat copy of the program's labels. No call but
-/// `new` takes memory.
+/// A run of a valid program on an input, with a copy of that input and a flat copy of the program's labels. No calls but
+/// `new` and `over` take memory.
 #[derive(Drop)]
 pub struct Machine<'a> {
     program: &'a Program,
@@ -46,7 +46,7 @@ impl<'a> Model for Machine<'a> {
 }
 
 impl<'a> Machine<'a> {
-    ghost use Rattle.std.specs.Prelude.{ℕ, ◌≡◌, ◌<◌, ◌≤◌, ◌+◌, ◌↔◌, Some, length, map, IsTrue, IfOk, IsSome, IfNone};
+    ghost use Rattle.std.specs.Prelude.{ℕ, ◌≡◌, ◌<◌, ◌≤◌, ◌+◌, ◌↔◌, Some, length, IsTrue, IfOk, IsSome, IfNone};
     ghost use Rattle.edge_trace.specs.Rows.{has};
     ghost use Rattle.csub_semantics.specs.Syntax.{program_tree};
     ghost use Rattle.csub_semantics.specs.Flows.{flow_of, edge_list};
@@ -56,7 +56,7 @@ impl<'a> Machine<'a> {
     ghost use Rattle.csub_flat.specs.Copies.{IsFlatOf};
     ghost use Rattle.csub_machine.specs.Moments.{IsRunning, status_of, moment_of, output_of, turns_of, crossed_of, results_of};
 
-    /// A machine at the beginning of its run. An `Err` is want of memory, of which no other call takes any.
+    /// A machine at the beginning of its run, with a flat copy of the program of its own. An `Err` is want of memory.
     pub fn new(
         alloc: Global,
         program: &'a Program,
@@ -77,7 +77,7 @@ impl<'a> Machine<'a> {
         })
     }
 
-    /// The same over a flat copy of the program, which several machines may share.
+    /// The same over a flat copy of the program, which several machines may share. An `Err` is want of memory.
     pub fn over(
         alloc: Global,
         program: &'a Program,

@@ -1,5 +1,5 @@
 //! One turn of a run. Nothing here takes memory.
-ghost use Rattle.std.specs.Prelude.{◌≡◌, ◌<◌, ◌≤◌, ◌+◌, [], ◌∷◌, ◌++◌, length, map, List, IfOk, vec_len, vec_capacity};
+ghost use Rattle.std.specs.Prelude.{◌≡◌, ◌<◌, ◌+◌, [], ◌∷◌, ◌++◌, length, map, List};
 ghost use Rattle.csub_semantics.specs.Flows.{flow_of, point_list};
 ghost use Rattle.csub_semantics.specs.Points.{exit_tree};
 ghost use Rattle.csub_semantics.specs.Runs.{Frame as StandingFrame, turn, exit_at, cross, pop};

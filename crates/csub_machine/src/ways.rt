@@ -1,5 +1,5 @@
 //! What the graph says of a point, in the words of runs.
-ghost use Rattle.std.specs.Prelude.{◌≡◌, ◌<◌, length, IfSome, IfNone};
+ghost use Rattle.std.specs.Prelude.{◌<◌, length, IfSome, IfNone};
 ghost use Rattle.csub_semantics.specs.Points.{exit_tree};
 ghost use Rattle.csub_semantics.specs.Flows.{point_list};
 ghost use Rattle.flow_graph.specs.Graph.{IsGraphOf};

@@ -1,5 +1,5 @@
 //! Cells, and the limits of types. What is asked of a struct was counted when its members were made.
-ghost use Rattle.std.specs.Prelude.{◌≡◌, ◌↔◌, IsTrue};
+ghost use Rattle.std.specs.Prelude.{◌↔◌, IsTrue};
 ghost use Rattle.csub_objects.specs.Meaning.{type_tree};
 ghost use Rattle.csub_objects.specs.Types.{HasArrays, IsCapped, IsSized, cells, dimensions, levels};
 

@@ -1,7 +1,6 @@
 //! Whether two types are the same.
 ghost use Rattle.std.specs.Prelude.{◌≡◌, ◌↔◌, IsTrue, map};
 ghost use Rattle.csub_objects.specs.Meaning.{type_tree, member_tree};
-ghost use Rattle.csub_objects.specs.Types.{type_eq};
 
 use crate::types::{CType, Member};
 

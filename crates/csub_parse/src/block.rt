@@ -1,6 +1,6 @@
 //! The descent of statements (C11 6.8). `budget` is the depth that a statement or line may have; of the functions for what
 //! stands inside a statement it is the depth that is left for that.
-ghost use Rattle.std.specs.Prelude.{◌≡◌, ℕ, ◌≤◌, suc, List, length, map, Option, Some, None, Ok, Err};
+ghost use Rattle.std.specs.Prelude.{◌≡◌, ◌≤◌, suc, length, map, Option, Some, None, Ok, Err};
 ghost use Rattle.std.specs.Option.{option_map};
 ghost use Rattle.csub_lex.specs.declared.token.Mark.TheVariants.{CloseBrace};
 ghost use Rattle.csub_tree.specs.Expressions.{expr_tree, span_of};

@@ -1,11 +1,11 @@
 //! The descent of items: structs, enumerations, objects and functions (C11 6.7.2 and 6.9). `budget` is the depth that is left for what stands inside.
-ghost use Rattle.std.specs.Prelude.{◌≡◌, ℕ, ◌≤◌, ◌&&◌, nat_le, suc, List, [], ◌∷◌, length, map, Option, Some, None, Ok, Err, IfOk, IfErr};
+ghost use Rattle.std.specs.Prelude.{◌≡◌, ◌≤◌, ◌&&◌, nat_le, suc, [], ◌∷◌, length, map, Option, Some, None, Ok, Err, IfOk, IfErr};
 ghost use Rattle.csub_lex.specs.declared.token.Mark.TheVariants.{CloseBrace, Equal};
-ghost use Rattle.csub_tree.specs.Declarations.{declare_tree, head_tree, param_tree};
+ghost use Rattle.csub_tree.specs.Declarations.{declare_tree, head_tree};
 ghost use Rattle.csub_tree.specs.Units.{constant_tree, item_tree};
 ghost use Rattle.csub_expr.specs.Looks.{begins};
 ghost use Rattle.csub_expr.specs.Answers.{Gives};
-ghost use Rattle.csub_expr.specs.ListDescent.{separated, repeated};
+ghost use Rattle.csub_expr.specs.ListDescent.{separated};
 ghost use Rattle.csub_expr.specs.declared.stop.Stop.TheVariants.{Memory};
 ghost use Rattle.csub_parse.specs.UnitDescent.{constant_after, constant_at, enum_behind, enum_at, fields_after, members_at, object_behind, object_after, tagged_at, struct_at, body_at, head_after, function_at, void_at, numbered_after, numbered_at, item_from, item_at, read_item};
 

@@ -1,5 +1,5 @@
 //! The parts of statements that hold no statement (C11 6.8). `budget` is the depth that is left for what stands inside.
-ghost use Rattle.std.specs.Prelude.{◌≡◌, ℕ, ◌≤◌, Option, Some, None, Ok, Err};
+ghost use Rattle.std.specs.Prelude.{◌≡◌, ◌≤◌, Option, Some, None, Ok, Err};
 ghost use Rattle.std.specs.Option.{option_map};
 ghost use Rattle.csub_tree.specs.Expressions.{expr_tree};
 ghost use Rattle.csub_tree.specs.Statements.{stmt_tree, line_tree, Break, Continue};

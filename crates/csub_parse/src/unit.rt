@@ -1,5 +1,5 @@
 //! The descent of units, and the public call (C11 6.9).
-ghost use Rattle.std.specs.Prelude.{◌≡◌, ℕ, ◌≤◌, suc, length, map, MatchResult, IfOk, IfErr};
+ghost use Rattle.std.specs.Prelude.{◌≡◌, ◌≤◌, suc, length, map, MatchResult, IfOk, IfErr};
 ghost use Rattle.csub_tree.specs.Units.{Source, item_tree, unit_tree};
 ghost use Rattle.csub_tree.specs.Depth.{unit_depth};
 ghost use Rattle.csub_tree.specs.Spells.{Spells};

@@ -71,7 +71,8 @@ act_call c n s =
 abbrev pub leave_frame : ℕ → Option ℤ → Store → Outcome
 leave_frame n r s = pops r (record s { cells = dropped (n - 1) s.cells })
 
--- the end of a function, where n frames stand
+-- the end of a function, where n frames stand; of a value that no `return` gave C leaves only the use undefined (C11 6.9.1p12),
+-- and here the end itself traps
 abbrev pub act_exit : EndRule → ℕ → Option ℤ → Store → Outcome
 act_exit Nothing n r s = leave_frame n r s
 act_exit Value n None s = ends (Trap Missing) s

@@ -1,6 +1,6 @@
 //! Copies of labels and of globals.
 ghost use Rattle.std.specs.Prelude.{◌≡◌, IfOk, map};
-ghost use Rattle.csub_objects.specs.Meaning.{member_tree, type_tree};
+ghost use Rattle.csub_objects.specs.Meaning.{member_tree};
 ghost use Rattle.csub_semantics.specs.Types.{global_tree};
 ghost use Rattle.csub_semantics.specs.Trees.{owner_tree, place_tree, expr_tree, arg_tree};
 ghost use Rattle.csub_semantics.specs.Labels.{answer_tree, call_tree, init_tree, label_tree};

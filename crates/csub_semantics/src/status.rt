@@ -4,7 +4,7 @@ use csub_types::Trap;
 /// How a run ends.
 #[derive(Clone, Copy, Debug, PartialEq, Eq)]
 pub enum Status {
-    /// With an exit status: the low 8 bits of what `main` returned.
+    /// With an exit status: the low 8 bits of what `main` returned or `exit` was given.
     Exit(u8),
     /// By a trap.
     Trap(Trap),

@@ -1,6 +1,5 @@
 //! The acts of flat labels. Nothing here takes memory.
-ghost use Rattle.std.specs.Prelude.{ℕ, ◌≡◌, ◌+◌, ◌*◌, ◌<◌, ◌≤◌, ◌++◌, [], ◌∷◌, length, map, take, All, replicate, vec_len, vec_capacity};
-ghost use Rattle.csub_semantics.specs.declared.label.EndRule.{EndRule as Rule};
+ghost use Rattle.std.specs.Prelude.{◌≡◌, ◌+◌, ◌*◌, ◌<◌, ◌≤◌, ◌++◌, [], ◌∷◌, length, map, take, All, replicate, vec_len, vec_capacity};
 ghost use Rattle.csub_semantics.specs.declared.status.Status.TheVariants.{Exit};
 ghost use Rattle.csub_semantics.specs.Memory.{low_byte};
 ghost use Rattle.csub_slots.specs.declared.act.Outcome.TheVariants.{Ends};

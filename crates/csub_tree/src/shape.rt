@@ -1,12 +1,12 @@
 //! Whether two units differ in nothing but their places.
 ghost use Rattle.std.specs.Prelude.{◌≡◌, ◌≤◌, ◌↔◌, IsTrue, map};
 ghost use Rattle.std.specs.Option.{option_map};
-ghost use Rattle.csub_tree.specs.Expressions.{expr_tree, kind_tree, exprs_of};
-ghost use Rattle.csub_tree.specs.Declarations.{init_tree, inits_of, declarator_tree, declare_tree, param_tree, head_tree};
-ghost use Rattle.csub_tree.specs.Statements.{stmt_tree, line_tree, stmts_of};
+ghost use Rattle.csub_tree.specs.Expressions.{expr_tree, kind_tree};
+ghost use Rattle.csub_tree.specs.Declarations.{init_tree, declarator_tree, declare_tree, param_tree, head_tree};
+ghost use Rattle.csub_tree.specs.Statements.{stmt_tree, line_tree};
 ghost use Rattle.csub_tree.specs.Units.{constant_tree, item_tree, unit_tree};
 ghost use Rattle.csub_tree.specs.Depth.{unit_depth};
-ghost use Rattle.csub_tree.specs.Shape.{name_shape, type_shape, expr_shape, kind_shape, exprs_shape, init_shape, inits_shape, declarator_shape, declare_shape, param_shape, head_shape, stmt_shape, line_shape, stmts_shape, constant_shape, item_shape, SameShape};
+ghost use Rattle.csub_tree.specs.Shape.{name_shape, type_shape, expr_shape, kind_shape, init_shape, declarator_shape, declare_shape, param_shape, head_shape, stmt_shape, line_shape, constant_shape, item_shape, SameShape};
 
 use crate::declaration::{Declarator, Declare, Head, Init, Param};
 use crate::expression::{Expr, ExprKind};

@@ -1,5 +1,6 @@
 -- A source without a fault can be resolved: each item leaves each object of file scope with a type.
 use Rattle.std.proofs.Common.{◌≡◌, ◌∙◌, ap, ℕ, ℤ, pos, Bool, true, false, List, [], ◌∷◌, Option, Some, None, refl, sym, subst}
+use Rattle.std.specs.Option.{option_or}
 use Rattle.std.proofs.Common.{IsTrue, is_some, bytes_eq, option_map, if◌then◌else◌}
 use Rattle.csub_tree.specs.declared.name.Name.{Name as NameAt}
 use Rattle.csub_tree.specs.declared.name.TypeName.{TypeName}
@@ -34,7 +35,7 @@ use Rattle.csub_units.specs.Enums.{past_enum, enumeration_fault}
 use Rattle.csub_units.specs.Heads.{at_params, past_name, past_param, past_params, param_name_fault, params_fault, signature, is_taken, contradicts}
 use Rattle.csub_units.specs.Heads.{head_fault, past_head}
 use Rattle.csub_units.specs.Items.{past_item, is_misdefined, in_function, item_fault, items_fault}
-use Rattle.csub_units.specs.Units.{all_defined, undefineds_fault, placed_fault, main_fault, or_last, unit_fault}
+use Rattle.csub_units.specs.Units.{all_defined, undefineds_fault, placed_fault, main_fault, unit_fault}
 use Rattle.csub_units.specs.FineItems.{FineInitial, FineObject, FineObjects, FineDeclaration, FineName, FineParams, FineHead, FineItem, FineItems}
 
 -- ---- names with types
@@ -262,7 +263,7 @@ fine_items file (i ∷ rest) types e =
 
 -- ---- sources
 
-none_before : (o last : Option Fault) → or_last o last ≡ None → o ≡ None
+none_before : (o last : Option Fault) → option_or o last ≡ None → o ≡ None
 none_before None last e = refl
 none_before (Some f) last e = absurd (cc)
 

@@ -1,5 +1,6 @@
 -- The laws of sources as wholes.
 use Rattle.std.proofs.Common.{◌≡◌, List, [], ◌∷◌, Option, Some, None, IsTrue, not}
+use Rattle.std.specs.Option.{option_or}
 use Rattle.csub_tree.specs.Declarations.{Head}
 use Rattle.csub_tree.specs.Units.{Item, Struct, Enum, Object, Prototype, Function, Source}
 use Rattle.csub_rules.specs.declared.fault.Fault.{Fault}
@@ -9,7 +10,7 @@ use Rattle.csub_rules.proofs.LawsEarlier.{on_left, on_right, tested}
 use Rattle.csub_rules.proofs.LawsSound.{Gives, nothing, join, tells}
 use Rattle.csub_units.specs.Files.{no_file}
 use Rattle.csub_units.specs.Items.{main_name}
-use Rattle.csub_units.specs.Units.{undefined_fault, undefineds_fault, all_defined, placed_fault, no_place, main_fault, or_last, unit_fault}
+use Rattle.csub_units.specs.Units.{undefined_fault, undefineds_fault, all_defined, placed_fault, no_place, main_fault, unit_fault}
 use Rattle.csub_units.specs.BrokenObject.{IsIn, this_one, next_one}
 use Rattle.csub_units.specs.BrokenItem.{BrokenPlaced, by_item, m19_undefined, BrokenUnit, placed, m19_missing}
 use Rattle.csub_units.proofs.LawsItems.{covered_items, sound_items}
@@ -46,7 +47,7 @@ sound_placed items = join (sound_items items no_file items (λ k i w. w)) (sound
 
 -- ---- with what is told last
 
-sound_last : (items : List Item) (o : Option Fault) → Gives o (BrokenPlaced items) → (f : Fault) → or_last o (main_fault items) ≡ Some f → BrokenUnit items f
+sound_last : (items : List Item) (o : Option Fault) → Gives o (BrokenPlaced items) → (f : Fault) → option_or o (main_fault items) ≡ Some f → BrokenUnit items f
 sound_last items None p f h =
     (tells {P = BrokenUnit items} (not (stands_in main_name (all_defined items))) 19 no_place (λ q. m19_missing q)).holds f h
 sound_last items (Some g) p f h = placed f (p.holds f h)
@@ -54,7 +55,7 @@ sound_last items (Some g) p f h = placed f (p.holds f h)
 pub sound_unit : (u : Source) (f : Fault) → unit_fault u ≡ Some f → BrokenUnit u.items f
 sound_unit u f h = sound_last u.items (placed_fault u.items) (sound_placed u.items) f h
 
-least_last : (items : List Item) (o last : Option Fault) (f g : Fault) → Gives o (BrokenPlaced items) → Covers o g → or_last o last ≡ Some f
+least_last : (items : List Item) (o last : Option Fault) (f g : Fault) → Gives o (BrokenPlaced items) → Covers o g → option_or o last ≡ Some f
     → BrokenPlaced items f × IsFirst f g
 least_last items None last f g p c h = absurd c
 least_last items (Some k) last f g p c h = let same : k ≡ f = cc in (p.holds f h, rw same at c)
@@ -63,11 +64,11 @@ pub least_unit : (u : Source) (f g : Fault) → unit_fault u ≡ Some f → Brok
 least_unit u f g h b =
     least_last u.items (placed_fault u.items) (main_fault u.items) f g (sound_placed u.items) (covered_placed u.items g b) h
 
-no_place_last : (o last : Option Fault) (g : Fault) → or_last o last ≡ None → Covers o g → ⊥
+no_place_last : (o last : Option Fault) (g : Fault) → option_or o last ≡ None → Covers o g → ⊥
 no_place_last None last g h c = c
 no_place_last (Some k) last g h c = cc
 
-nothing_last : (o last : Option Fault) (g : Fault) → or_last o last ≡ None → Covers last g → ⊥
+nothing_last : (o last : Option Fault) (g : Fault) → option_or o last ≡ None → Covers last g → ⊥
 nothing_last None last g h c = rw h at c
 nothing_last (Some k) last g h c = cc
 

@@ -1,5 +1,6 @@
 -- Sources as wholes, and the earliest place where one breaks a rule.
 use Rattle.std.specs.Prelude.{List, [], ◌∷◌, Option, Some, None, not}
+use Rattle.std.specs.Option.{option_or}
 use Rattle.csub_text.specs.declared.span.Span.{Span}
 use Rattle.csub_tree.specs.Units.{Item, Struct, Enum, Object, Prototype, Function, Source}
 use Rattle.csub_objects.specs.Types.{Name}
@@ -36,10 +37,6 @@ no_place = record { start = 0; end = 0 }
 abbrev pub main_fault : List Item → Option Fault
 main_fault items = fault_if (not (stands_in main_name (all_defined items))) 19 no_place
 
-abbrev pub or_last : Option Fault → Option Fault → Option Fault
-or_last None last = last
-or_last (Some f) last = Some f
-
 -- the first rule that a source breaks
 abbrev pub unit_fault : Source → Option Fault
-unit_fault u = or_last (placed_fault u.items) (main_fault u.items)
+unit_fault u = option_or (placed_fault u.items) (main_fault u.items)

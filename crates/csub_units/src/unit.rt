@@ -3,7 +3,7 @@ ghost use Rattle.std.specs.Prelude.{◌≡◌, IfOk, map};
 ghost use Rattle.csub_tree.specs.Units.{item_tree, unit_tree};
 ghost use Rattle.csub_units.specs.Files.{no_file};
 ghost use Rattle.csub_units.specs.Views.{file_of};
-ghost use Rattle.csub_units.specs.Units.{no_place, or_last, undefined_fault, undefineds_fault, unit_fault};
+ghost use Rattle.csub_units.specs.Units.{no_place, undefined_fault, undefineds_fault, unit_fault};
 
 use crate::file::File;
 use crate::items::check_items;
@@ -48,15 +48,6 @@ fn no_place() -> Span
     Span { start: 0, end: 0 }
 }
 
-fn or_last(fault: Option<Fault>, last: Option<Fault>) -> Option<Fault>
-    ensures { result ≡ or_last fault last }
-{
-    match fault {
-        None => last,
-        Some(fault) => Some(fault),
-    }
-}
-
 /// The first rule that the items of a source break; nothing is declared before them.
 fn check_in(alloc: Global, file: &mut File, items: &[Item]) -> Result<Option<Fault>, AllocError>
     requires { file_of file.old ≡ no_file }
@@ -66,7 +57,7 @@ fn check_in(alloc: Global, file: &mut File, items: &[Item]) -> Result<Option<Fau
     let undefined = check_all_defined(&file.defined, items);
     let has_main = stands_in(&file.defined, b"main".as_slice());
     let missing = fault_if(!has_main, 19, no_place());
-    Ok(or_last(earlier(broken, undefined), missing))
+    Ok(earlier(broken, undefined).or(missing))
 }
 
 /// The first rule that a source breaks: the one that stands first, and of those at one place the one of the least number;

@@ -1,5 +1,5 @@
 //! Whether calls fit the functions that they call.
-ghost use Rattle.std.specs.Prelude.{◌≡◌, ◌↔◌, ◌<◌, ◌≤◌, ◌^◌, map, All, IsTrue, IfSome};
+ghost use Rattle.std.specs.Prelude.{◌≡◌, ◌↔◌, ◌<◌, ◌≤◌, map, IsTrue, IfSome};
 ghost use Rattle.std.specs.Option.{option_map};
 ghost use Rattle.csub_objects.specs.Meaning.{type_tree, member_tree};
 ghost use Rattle.csub_semantics.specs.Types.{name_eq};
@@ -15,7 +15,6 @@ use crate::places::place_type;
 use crate::role::{Definitions, Site};
 use csub_objects::{element_type, is_number, same_members, same_type};
 use csub_semantics::{CType, CallLabel, Function, Member, RArg, RPart};
-use csub_types::IntKind;
 
 /// Whether each of the calls of a function's part, numbered from 1, fits its callee in the program, as [`is_call`] says
 /// it of one.

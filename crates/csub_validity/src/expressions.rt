@@ -13,7 +13,7 @@ use crate::formats::is_format;
 use crate::objects::is_object;
 use crate::places::{is_number_place, place_kind};
 use crate::role::Site;
-use csub_semantics::{Function, Label, Place, RExpr, RPart};
+use csub_semantics::{Label, Place, RExpr, RPart};
 use csub_text::{BinOp, UnaryOp};
 use csub_types::{IntKind, common, convert, promote};
 

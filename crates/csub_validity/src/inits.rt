@@ -1,5 +1,5 @@
 //! Whether initialisers fit the objects that they initialise.
-ghost use Rattle.std.specs.Prelude.{◌≡◌, ◌↔◌, IsTrue, IsSome, map, option_map};
+ghost use Rattle.std.specs.Prelude.{◌≡◌, ◌↔◌, IsTrue, map, option_map};
 ghost use Rattle.csub_objects.specs.Meaning.{type_tree};
 ghost use Rattle.csub_semantics.specs.Labels.{init_tree, inits_of};
 ghost use Rattle.csub_validity.specs.Valid.{AreInits, IsInit, IsNumberAt, is_whole, part_of};

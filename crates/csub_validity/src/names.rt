@@ -1,5 +1,5 @@
 //! The members of a struct have different names: the types of the code keep it.
-ghost use Rattle.std.specs.Prelude.{All, map};
+ghost use Rattle.std.specs.Prelude.{All};
 ghost use Rattle.csub_objects.specs.declared.types.Member.{Member};
 ghost use Rattle.csub_objects.specs.Meaning.{type_tree};
 ghost use Rattle.csub_semantics.specs.declared.types.GlobalVar.{GlobalVar};

@@ -1,5 +1,5 @@
 //! The objects that a function may name: those of file scope, its parameters, and its locals.
-ghost use Rattle.std.specs.Prelude.{◌≡◌, ◌≢◌, ◌↔◌, ◌≤◌, [], AllPairs, All, IsTrue, Some, length, map};
+ghost use Rattle.std.specs.Prelude.{◌≡◌, ◌≢◌, ◌↔◌, ◌≤◌, [], AllPairs, IsTrue, Some, length, map};
 ghost use Rattle.std.specs.Option.{option_map};
 ghost use Rattle.std.specs.List.{AllWithin};
 ghost use Rattle.csub_objects.specs.declared.types.Member.{Member};

@@ -1,5 +1,5 @@
 //! What follows from a fact by steps, and over the call at which it stands.
-ghost use Rattle.std.specs.Prelude.{◌≡◌, ◌<◌, ◌≤◌, ◌+◌, ◌^◌, ◌⊎◌, ℕ, List, Some, length, slice_get, Contains, OnOk};
+ghost use Rattle.std.specs.Prelude.{◌≡◌, ◌<◌, ◌≤◌, ◌+◌, ◌^◌, ◌⊎◌, ℕ, Some, length, slice_get, Contains, OnOk};
 ghost use Rattle.csub_objects.specs.Types.{Name};
 ghost use Rattle.csub_semantics.specs.Points.{PointTree, ExitTree, exit_tree, next};
 ghost use Rattle.csub_semantics.specs.Syntax.{ProgramTree};

@@ -1,5 +1,5 @@
 //! The facts of a walk, and the set of their pairs.
-ghost use Rattle.std.specs.Prelude.{◌≡◌, ◌<◌, ◌≤◌, ◌^◌, ◌⊎◌, ◌↔◌, ◌++◌, ℕ, [], ◌∷◌, Some, length, slice_get, slice_index, IfOk, IfSome, IfNone, IsTrue, OnOk};
+ghost use Rattle.std.specs.Prelude.{◌≡◌, ◌<◌, ◌≤◌, ◌^◌, ◌⊎◌, ◌↔◌, ◌++◌, ℕ, [], ◌∷◌, Some, length, slice_get, slice_index, IfOk, IfSome, IfNone, IsTrue, OnErr, OnOk};
 ghost use Rattle.dual_walk.specs.Held.{HasPair, has_pair};
 ghost use Rattle.dual_walk.specs.Bits.{IsIn};
 ghost use Rattle.dual_walk.specs.declared.fact.Fact.{Fact};
@@ -85,6 +85,7 @@ pub fn add(pairs: &mut Pairs, fact: Fact) -> Result<(), AllocError>
     ensures width { pairs.new.held.width ≡ pairs.old.held.width }
     ensures facts { (pairs.new.facts.items ≡ pairs.old.facts.items) ⊎ ((HasPair pairs.old.facts.items fact.old fact.new → ⊥) × (pairs.new.facts.items ≡ pairs.old.facts.items ++ fact ∷ [])) }
     ensures held { OnOk result (HasPair pairs.new.facts.items fact.old fact.new) }
+    ensures err { OnErr result (pairs.new.facts.items ≡ pairs.old.facts.items) }
 {
     if holds(pairs, fact.old, fact.new) {
         return Ok(());

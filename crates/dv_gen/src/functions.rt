@@ -1,6 +1,5 @@
 //! The numbers of the functions of a pair.
-ghost use Rattle.std.specs.Prelude.{◌≡◌, ◌*◌, ℕ, map, OnOk, IfOk};
-ghost use Rattle.std.specs.List.{range_with_len};
+ghost use Rattle.std.specs.Prelude.{◌≡◌, ◌*◌, OnOk, IfOk};
 ghost use Rattle.dv_gen.specs.Draws.{state_after};
 ghost use Rattle.dv_gen.specs.Functions.{numbers_of, functions_of};
 

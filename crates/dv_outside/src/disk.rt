@@ -1,5 +1,5 @@
-// The files and the standard output of the system. They tell nothing of contents: what the system does to
-// them is trusted.
+//! The files and the standard output of the system. They tell nothing of contents: what the system does to
+//! them is trusted.
 ghost use Rattle.std.specs.Prelude.{◌≡◌, ◌≢◌, ◌≤◌, ◌↔◌, length, IfOk};
 ghost use Rattle.std.specs.IoError.{error_kind};
 

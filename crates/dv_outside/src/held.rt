@@ -1,5 +1,5 @@
-// Files that are kept as a list of names and contents.
-ghost use Rattle.std.specs.Prelude.{◌≡◌, ◌↔◌, ◌≢◌, take, Option, IfOk, IsErrOf, IsTrue};
+//! Files that are kept as a list of names and contents.
+ghost use Rattle.std.specs.Prelude.{◌≡◌, ◌↔◌, ◌≢◌, take, Option, IfOk, IsTrue};
 ghost use Rattle.std.specs.Option.{option_map};
 ghost use Rattle.dv_outside.specs.Outside.{file_at};
 ghost use Rattle.dv_outside.specs.Held.{files_of, NamesDiffer};

@@ -1,4 +1,4 @@
-// A place that files are read from.
+//! A place that files are read from.
 ghost use Rattle.std.specs.Prelude.{◌≡◌, ◌≤◌, List, ℕ, length, Option, IfOk, IsErrOf};
 ghost use Rattle.dv_outside.specs.Outside.{Files, Rose, NeverFalls, IsFetched, raised};
 

@@ -1,4 +1,4 @@
-// Shelves in memory, which tell their files.
+//! Shelves in memory, which tell their files.
 ghost use Rattle.std.specs.Prelude.{◌≡◌, ◌↔◌, IsTrue, Contains};
 ghost use Rattle.dv_outside.specs.Held.{files_of, NamesDiffer};
 

@@ -1,4 +1,4 @@
-// A place that text is written to.
+//! A place that text is written to.
 ghost use Rattle.std.specs.Prelude.{◌≡◌, ◌<◌, ◌≤◌, List, ℕ, length, take, Option, IfOk, OnOk, OnErr};
 ghost use Rattle.dv_outside.specs.Outside.{Rose, Appends, AppendsPrefix};
 

@@ -1,4 +1,4 @@
-// Sinks in memory, which tell their bytes.
+//! Sinks in memory, which tell their bytes.
 ghost use Rattle.std.specs.Prelude.{◌≡◌, ◌≤◌, ◌<◌, [], length, IfOk};
 ghost use Rattle.std.specs.Vec.{vec_capacity, vec_len};
 

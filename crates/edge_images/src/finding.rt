@@ -1,5 +1,5 @@
 //! Finding the images by the facts of a walk.
-ghost use Rattle.std.specs.Prelude.{ℕ, ◌≡◌, ◌<◌, ◌+◌, All, IfOk, IfSome, List, MatchOption, Some, length, slice_get};
+ghost use Rattle.std.specs.Prelude.{ℕ, ◌≡◌, ◌<◌, ◌+◌, All, IfOk, List, MatchOption, Some, length, slice_get};
 ghost use Rattle.csub_semantics.specs.Syntax.{ProgramTree};
 ghost use Rattle.flow_graph.specs.Graph.{HasProgram, IsGraphOf, edge_count, point_count};
 ghost use Rattle.dual_walk.specs.declared.fact.Fact.{Fact};

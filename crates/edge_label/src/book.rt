@@ -106,6 +106,7 @@ impl LabelBook {
         ensures equal { (x y : PointLabel) → HasNumber self.now a x → HasNumber self.now b y → IsTrue result ↔ (x ≡ y) }
         ensures cost { steps.new ≡ steps.old + 1 }
     {
+        // Why equal labels have one number: no code stands twice in the book, as the contract of its length says.
         let _count = self.codes.len();
         steps.tick();
         a == b

@@ -1,5 +1,7 @@
-//! The codes of bare labels and of globals, number by number.
-ghost use Rattle.std.specs.Prelude.{◌≡◌, ◌++◌, ◌∷◌, [], OnOk, map, option_map};
+//! The codes of bare labels and of globals, number by number, as `specs/Codes` gives them: a tree begins with the number of
+//! its form there, a text and a list with their length, and what may be missing with 0 or 1. In all functions an `Err` is
+//! want of memory, and some of the numbers may have been appended then.
+ghost use Rattle.std.specs.Prelude.{◌≡◌, ◌++◌, ◌∷◌, OnOk, map, option_map};
 ghost use Rattle.csub_semantics.specs.Types.{global_tree};
 ghost use Rattle.csub_semantics.specs.Trees.{constant, reading, stepping, variable, object, temporary, owner_tree, place_tree, expr_tree, formatted, exprs_of, arg_tree};
 ghost use Rattle.csub_semantics.specs.Labels.{answer_tree, call_tree, init_tree, inits_of, label_tree};
@@ -14,7 +16,7 @@ use csub_semantics::{
 };
 use std::alloc::AllocError;
 
-/// Appends the code of a label without its types. An `Err` is want of memory.
+/// Appends the code of a label without its types.
 pub fn push_label(out: &mut Vec<u64>, label: &Label) -> Result<(), AllocError>
     ensures { OnOk result (out.new.items ≡ out.old.items ++ label_code (bare_label (label_tree label.now))) }
 {
@@ -47,7 +49,7 @@ pub fn push_label(out: &mut Vec<u64>, label: &Label) -> Result<(), AllocError>
     Ok(())
 }
 
-/// Appends the code of a global, with a number in the place of its type. An `Err` is want of memory.
+/// Appends the code of a global, with a number in the place of its type.
 pub fn push_global(out: &mut Vec<u64>, global: &GlobalVar, number: u64) -> Result<(), AllocError>
     ensures { OnOk result (out.new.items ≡ out.old.items ++ global_code (with_type (global_tree global.now) (numbered number))) }
 {
@@ -56,6 +58,7 @@ pub fn push_global(out: &mut Vec<u64>, global: &GlobalVar, number: u64) -> Resul
     push_integers(out, &global.initial)
 }
 
+/// Appends the code of the numbers that a global begins with.
 fn push_integers(out: &mut Vec<u64>, values: &[i64]) -> Result<(), AllocError>
     ensures { OnOk result (out.new.items ≡ out.old.items ++ list_code integer_code values.now) }
 {
@@ -66,6 +69,7 @@ fn push_integers(out: &mut Vec<u64>, values: &[i64]) -> Result<(), AllocError>
     Ok(())
 }
 
+/// Appends the code of an initialiser.
 #[cycle(initialisers)]
 fn push_init(out: &mut Vec<u64>, init: &RInit) -> Result<(), AllocError>
     ensures { OnOk result (out.new.items ≡ out.old.items ++ init_code (bare_init (init_tree init.now))) }
@@ -91,6 +95,7 @@ fn push_inits(out: &mut Vec<u64>, entries: &[RInit]) -> Result<(), AllocError>
     Ok(out.push(0)?)
 }
 
+/// Appends the code of what a function returns.
 fn push_answer(out: &mut Vec<u64>, answer: &Option<Answer>) -> Result<(), AllocError>
     ensures { OnOk result (out.new.items ≡ out.old.items ++ option_code answer_code (option_map bare_answer (option_map answer_tree answer.now))) }
 {
@@ -105,6 +110,7 @@ fn push_answer(out: &mut Vec<u64>, answer: &Option<Answer>) -> Result<(), AllocE
     Ok(())
 }
 
+/// Appends the code of a call, whose parameters have no types here: an empty list.
 fn push_call(out: &mut Vec<u64>, call: &CallLabel) -> Result<(), AllocError>
     ensures { OnOk result (out.new.items ≡ out.old.items ++ call_code (bare_call (call_tree call.now))) }
 {
@@ -115,6 +121,7 @@ fn push_call(out: &mut Vec<u64>, call: &CallLabel) -> Result<(), AllocError>
     push_temp(out, call.temp)
 }
 
+/// Appends the code of the kind that a call gives, or of none.
 fn push_result(out: &mut Vec<u64>, result_kind: Option<IntKind>) -> Result<(), AllocError>
     ensures { OnOk result (out.new.items ≡ out.old.items ++ option_code kind_code result_kind) }
 {
@@ -128,6 +135,7 @@ fn push_result(out: &mut Vec<u64>, result_kind: Option<IntKind>) -> Result<(), A
     Ok(())
 }
 
+/// Appends the code of the temporary that keeps what a call gives, or of none.
 fn push_temp(out: &mut Vec<u64>, temp: Option<u32>) -> Result<(), AllocError>
     ensures { OnOk result (out.new.items ≡ out.old.items ++ option_code number_code temp) }
 {
@@ -141,7 +149,7 @@ fn push_temp(out: &mut Vec<u64>, temp: Option<u32>) -> Result<(), AllocError>
     Ok(())
 }
 
-/// Appends the code that stands in the place of a type.
+/// Appends the code that stands in the place of a type: that of `char`.
 fn push_no_type(out: &mut Vec<u64>) -> Result<(), AllocError>
     ensures { OnOk result (out.new.items ≡ out.old.items ++ type_code no_type) }
 {
@@ -149,7 +157,8 @@ fn push_no_type(out: &mut Vec<u64>) -> Result<(), AllocError>
     Ok(out.push(0)?)
 }
 
-/// Appends the code of a number in the place of a type or of a struct in one.
+/// Appends the code of a number in the place of a type or of a struct in one: that of a struct without members, whose tag
+/// has this number as its one letter.
 pub fn push_numbered(out: &mut Vec<u64>, number: u64) -> Result<(), AllocError>
     ensures { OnOk result (out.new.items ≡ out.old.items ++ type_code (numbered number)) }
 {
@@ -159,6 +168,7 @@ pub fn push_numbered(out: &mut Vec<u64>, number: u64) -> Result<(), AllocError>
     Ok(out.push(0)?)
 }
 
+/// Appends the code of the arguments of a call.
 fn push_args(out: &mut Vec<u64>, args: &[RArg]) -> Result<(), AllocError>
     ensures { OnOk result (out.new.items ≡ out.old.items ++ list_code arg_code (map bare_arg (map arg_tree args.now))) }
 {
@@ -169,6 +179,7 @@ fn push_args(out: &mut Vec<u64>, args: &[RArg]) -> Result<(), AllocError>
     Ok(())
 }
 
+/// Appends the code of an argument.
 fn push_arg(out: &mut Vec<u64>, arg: &RArg) -> Result<(), AllocError>
     ensures { OnOk result (out.new.items ≡ out.old.items ++ arg_code (bare_arg (arg_tree arg.now))) }
 {
@@ -178,6 +189,7 @@ fn push_arg(out: &mut Vec<u64>, arg: &RArg) -> Result<(), AllocError>
     }
 }
 
+/// Appends the code of an expression.
 #[cycle(expressions)]
 fn push_expr(out: &mut Vec<u64>, expr: &RExpr) -> Result<(), AllocError>
     ensures { OnOk result (out.new.items ≡ out.old.items ++ expr_code (bare_expr (expr_tree expr.now))) }
@@ -245,6 +257,7 @@ fn push_exprs(out: &mut Vec<u64>, exprs: &[RExpr]) -> Result<(), AllocError>
     Ok(out.push(0)?)
 }
 
+/// Appends the code of the pieces of a format.
 fn push_pieces(out: &mut Vec<u64>, pieces: &[Piece]) -> Result<(), AllocError>
     ensures { OnOk result (out.new.items ≡ out.old.items ++ list_code piece_code pieces.now) }
 {
@@ -302,6 +315,7 @@ fn push_behind(out: &mut Vec<u64>, number: u64, expr: &RExpr) -> Result<(), Allo
     push_expr(out, expr)
 }
 
+/// Appends the code of a constant.
 fn push_constant(out: &mut Vec<u64>, kind: IntKind, value: i64) -> Result<(), AllocError>
     ensures { OnOk result (out.new.items ≡ out.old.items ++ expr_code (constant kind value)) }
 {
@@ -310,7 +324,7 @@ fn push_constant(out: &mut Vec<u64>, kind: IntKind, value: i64) -> Result<(), Al
     push_integer(out, value)
 }
 
-/// Appends the code of the reading of a temporary.
+/// Appends the code of the reading of a temporary: of a reading, of a place that is a variable, and of a temporary.
 fn push_temporary(out: &mut Vec<u64>, number: u32, kind: IntKind) -> Result<(), AllocError>
     ensures { OnOk result (out.new.items ≡ out.old.items ++ expr_code (reading (variable (temporary number kind)))) }
 {
@@ -321,6 +335,7 @@ fn push_temporary(out: &mut Vec<u64>, number: u32, kind: IntKind) -> Result<(), 
     Ok(out.push(kind_number(kind))?)
 }
 
+/// Appends the code of `++` or `--` at a place.
 #[cycle(expressions)]
 fn push_step(out: &mut Vec<u64>, op: StepOp, place: &Place) -> Result<(), AllocError>
     ensures { OnOk result (out.new.items ≡ out.old.items ++ expr_code (stepping op (bare_place (place_tree place.now)))) }
@@ -330,6 +345,7 @@ fn push_step(out: &mut Vec<u64>, op: StepOp, place: &Place) -> Result<(), AllocE
     push_place(out, place)
 }
 
+/// Appends the code of a place.
 #[cycle(expressions)]
 fn push_place(out: &mut Vec<u64>, place: &Place) -> Result<(), AllocError>
     ensures { OnOk result (out.new.items ≡ out.old.items ++ place_code (bare_place (place_tree place.now))) }
@@ -349,7 +365,7 @@ fn push_place(out: &mut Vec<u64>, place: &Place) -> Result<(), AllocError>
     }
 }
 
-/// Appends the code of the place of an object.
+/// Appends the code of the place of an object: of a place that is a variable, and of an object.
 fn push_object(out: &mut Vec<u64>, owner: &Owner) -> Result<(), AllocError>
     ensures { OnOk result (out.new.items ≡ out.old.items ++ place_code (variable (object (owner_tree owner.now) no_type))) }
 {
@@ -359,6 +375,7 @@ fn push_object(out: &mut Vec<u64>, owner: &Owner) -> Result<(), AllocError>
     push_no_type(out)
 }
 
+/// Appends the code of the name of an object, and of its number where it is one of a function.
 fn push_owner(out: &mut Vec<u64>, owner: &Owner) -> Result<(), AllocError>
     ensures { OnOk result (out.new.items ≡ out.old.items ++ owner_code (owner_tree owner.now)) }
 {
@@ -386,6 +403,7 @@ pub fn push_name(out: &mut Vec<u64>, name: &[u8]) -> Result<(), AllocError>
     Ok(())
 }
 
+/// Appends the code of a number: its sign, and how far it is from 0 or from -1.
 fn push_integer(out: &mut Vec<u64>, value: i64) -> Result<(), AllocError>
     ensures { OnOk result (out.new.items ≡ out.old.items ++ integer_code value) }
 {
@@ -410,6 +428,7 @@ pub fn kind_number(kind: IntKind) -> u64
     }
 }
 
+/// The number of a piece of a format: first the conversions, then the bytes.
 fn piece_number(piece: Piece) -> u64
     ensures { result ≡ piece_number piece }
 {
@@ -421,6 +440,7 @@ fn piece_number(piece: Piece) -> u64
     }
 }
 
+/// The number of what the end of a body does.
 fn rule_number(rule: EndRule) -> u64
     ensures { result ≡ rule_number rule }
 {
@@ -432,6 +452,7 @@ fn rule_number(rule: EndRule) -> u64
     }
 }
 
+/// The number of an operator with one operand.
 fn unary_number(op: UnaryOp) -> u64
     ensures { result ≡ unary_number op }
 {
@@ -443,6 +464,7 @@ fn unary_number(op: UnaryOp) -> u64
     }
 }
 
+/// The number of `++` or `--`, before or behind its operand.
 fn step_number(op: StepOp) -> u64
     ensures { result ≡ step_number op }
 {
@@ -454,6 +476,7 @@ fn step_number(op: StepOp) -> u64
     }
 }
 
+/// The number of an operator with two operands.
 fn operator_number(op: BinOp) -> u64
     ensures { result ≡ operator_number op }
 {

@@ -1,5 +1,5 @@
 //! Types with the numbers of their codes.
-ghost use Rattle.std.specs.Prelude.{◌≡◌, ◌++◌, ◌∷◌, [], Some, IsTrue, IfOk, OnOk, map};
+ghost use Rattle.std.specs.Prelude.{◌≡◌, ◌++◌, IsTrue, IfOk, OnOk, map};
 ghost use Rattle.std.specs.List.{All};
 ghost use Rattle.csub_semantics.specs.Trees.{owner_tree};
 ghost use Rattle.csub_semantics.specs.Labels.{label_tree};

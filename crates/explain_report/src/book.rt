@@ -1,5 +1,5 @@
 //! The book of the facts that show that an edge is dangerous.
-ghost use Rattle.std.specs.Prelude.{ℕ, ◌≡◌, ◌<◌, ◌^◌, IfOk, IfSome, length, slice_index};
+ghost use Rattle.std.specs.Prelude.{◌≡◌, ◌<◌, ◌^◌, IfOk, IfSome, length, slice_index};
 ghost use Rattle.std.specs.Option.{option_map};
 ghost use Rattle.csub_semantics.specs.Syntax.{ProgramTree};
 ghost use Rattle.csub_semantics.specs.Flows.{Edge};

@@ -31,7 +31,7 @@ pub struct Shown {
     pub back: Option<u32>,
 }
 
-/// The first facts that show that an edge is dangerous. It goes three times over the facts, and takes a flag for each new point. An
+/// Facts that show that an edge is dangerous. It goes three times over the facts, and takes a flag for each new point. An
 /// `Err` is want of memory.
 pub fn find_shown(
     alloc: Global,

@@ -1,11 +1,12 @@
 -- The first fault of a source lies where its tree lies. Crates above cite this.
 use Rattle.std.proofs.Common.{◌≡◌, ℕ, List, [], ◌∷◌, Option, Some, None, arith}
+use Rattle.std.specs.Option.{option_or}
 use Rattle.csub_tree.specs.Units.{Item, Struct, Enum, Object, Prototype, Function, Source}
 use Rattle.csub_objects.specs.Types.{Name}
 use Rattle.csub_rules.specs.declared.fault.Fault.{Fault}
 use Rattle.csub_rules.proofs.LawsSound.{nothing, join}
 use Rattle.csub_units.specs.Files.{no_file}
-use Rattle.csub_units.specs.Units.{undefined_fault, undefineds_fault, all_defined, placed_fault, no_place, main_fault, or_last, unit_fault}
+use Rattle.csub_units.specs.Units.{undefined_fault, undefineds_fault, all_defined, placed_fault, no_place, main_fault, unit_fault}
 use Rattle.fault_places.specs.Within.{IsWithin, WithinEach, WithinItem, SpansWithin}
 use Rattle.fault_places.proofs.Told.{Told, told_if}
 use Rattle.fault_places.proofs.ToldItems.{items_told}
@@ -29,7 +30,7 @@ module _ (n : ℕ) where
   start_within : IsWithin n no_place
   start_within = record { ordered = omega arith; within = omega arith }
 
-  last_told : (o last : Option Fault) → Told n o → Told n last → Told n (or_last o last)
+  last_told : (o last : Option Fault) → Told n o → Told n last → Told n (option_or o last)
   last_told None last p q = q
   last_told (Some f) last p q = p
 

@@ -1,4 +1,4 @@
-// Bytes as one word of a line.
+//! Bytes as one word of a line.
 ghost use Rattle.std.specs.Prelude.{◌≡◌, ◌≢◌, ◌≤◌, ◌+◌, ◌*◌, ◌++◌, ℕ, List, length, OnOk, OnErr, IfOk, MatchOption};
 ghost use Rattle.hex.specs.Hex.{IsBytes};
 ghost use Rattle.line_text.specs.Bytes.{bytes_or_dash};

@@ -1,4 +1,4 @@
-// Bytes as two hexadecimal digits each, in lower case.
+//! Bytes as two hexadecimal digits each, in lower case.
 ghost use Rattle.std.specs.Prelude.{◌≡◌, ◌≢◌, ◌++◌, ℕ, List, length, OnOk, OnErr, IfOk, MatchOption};
 ghost use Rattle.std.specs.Char.{is_ascii_uppercase};
 ghost use Rattle.std.specs.List.{list_any};

@@ -1,5 +1,5 @@
-// The lines of a text.
-ghost use Rattle.std.specs.Prelude.{◌≡◌, ◌≢◌, ◌↔◌, ◌++◌, ◌∷◌, [], ℕ, List, IsNone, IfSome, All, MatchBool};
+//! The lines of a text.
+ghost use Rattle.std.specs.Prelude.{◌≡◌, ◌≢◌, ◌↔◌, ◌++◌, ◌∷◌, [], IsNone, IfSome, All, MatchBool};
 ghost use Rattle.line_text.specs.Lines.{lines_of, line_with};
 
 use memchr::memchr;

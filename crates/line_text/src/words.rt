@@ -1,5 +1,5 @@
-// The words of a line.
-ghost use Rattle.std.specs.Prelude.{◌≡◌, ◌≢◌, ◌++◌, ◌∷◌, [], ℕ, List, MatchOption, IfSome, All};
+//! The words of a line.
+ghost use Rattle.std.specs.Prelude.{◌≡◌, ◌≢◌, ◌++◌, ◌∷◌, [], MatchOption, IfSome, All};
 ghost use Rattle.line_text.specs.Words.{pieces, StartsWithNoWord};
 
 use memchr::memchr;

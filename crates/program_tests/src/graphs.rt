@@ -46,7 +46,7 @@ pub const SMALL: &str =
     "choose at:4 test getchar { line at:5 eval putchar 66 } { line at:6 eval putchar 67 } line at:7 return:int 0";
 
 #[test]
-fn the_numbers_of_a_small_program(rt: HostRuntime) -> Result<(), Fail> {
+fn points_and_edges_are_numbered_in_the_order_of_the_text(rt: HostRuntime) -> Result<(), Fail> {
     let graph = graph_of(rt.alloc(), SMALL)?;
     assert!(rt; graph.points() == 9 && graph.edges() == 8);
     assert!(rt; has_edges(&graph, SMALL_EDGES));
@@ -112,7 +112,7 @@ const LOOPS: &str =
     "for:1:1 at:4 eval putchar 65 at:5 test getchar at:6 eval putchar 66 { if at:7 test getchar { break } if at:8 test getchar { continue } line at:9 eval getchar } do { while at:10 test getchar { line at:11 eval putchar 68 } } at:12 test getchar line at:13 return:int 0";
 
 #[test]
-fn the_edges_of_loops(rt: HostRuntime) -> Result<(), Fail> {
+fn loops_lead_back_to_their_tests_or_third_parts(rt: HostRuntime) -> Result<(), Fail> {
     let graph = graph_of(rt.alloc(), LOOPS)?;
     assert!(rt; graph.points() == 15);
     for point in 4..14u32 {

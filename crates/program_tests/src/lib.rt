@@ -1,5 +1,6 @@
-//! Tests of what is made of programs: the graph, the numbers of labels, and what is found of the claims of two versions. The
-//! programs are written in words (`program_words`).
+//! Tests of what is made of programs: the graph, the numbers of labels, the images of edges, what is found of the claims of
+//! two versions, and that programs and graphs go between threads. The programs are written in
+//! words (`program_words`).
 #![tactic(auto)]
 
 #[cfg(test)]

@@ -1,5 +1,6 @@
 -- The bodies, the labels and the lists of the program of a source that breaks no rule and passes no limit. Crates above cite these.
 use Rattle.std.proofs.Common.{◌≡◌, ◌≢◌, refl, sym, arith, ◌≤◌, List, [], ◌∷◌, All, AllPairs, Option, Some, None, IsTrue, not}
+use Rattle.std.specs.Option.{option_or}
 use Rattle.std.proofs.lemmas.List.Elements.{All-cons, All-tail, All-weaker}
 use Rattle.csub_text.specs.declared.span.Span.{Span}
 use Rattle.csub_tree.specs.Units.{Item, Source}
@@ -13,7 +14,7 @@ use Rattle.csub_rules.proofs.LawsEarlier.{neither}
 use Rattle.csub_rules.proofs.LawsServed.{holds}
 use Rattle.csub_units.specs.Files.{no_file}
 use Rattle.csub_units.specs.Items.{main_name, past_items, items_fault}
-use Rattle.csub_units.specs.Units.{all_defined, undefineds_fault, placed_fault, main_fault, no_place, or_last, unit_fault}
+use Rattle.csub_units.specs.Units.{all_defined, undefineds_fault, placed_fault, main_fault, no_place, unit_fault}
 use Rattle.csub_units.proofs.LawsFineItems.{fine_unit}
 use Rattle.csub_resolution.specs.Values.{Defined}
 use Rattle.csub_resolution.specs.Programs.{defined_in, functions_in, globals_in, start, span_of_main, program_of}
@@ -27,11 +28,11 @@ use Rattle.program_validity.proofs.Files.{Holds, items_hold}
 use Rattle.program_validity.proofs.Heads.{Declares, items_heads}
 use Rattle.program_validity.proofs.Programs.{SeesFile, bodies_in, labels_in, can_call, start_is}
 
-none_before : (o last : Option Fault) → or_last o last ≡ None → o ≡ None
+none_before : (o last : Option Fault) → option_or o last ≡ None → o ≡ None
 none_before None last e = refl
 none_before (Some f) last e = absurd (cc)
 
-none_last : (o last : Option Fault) → or_last o last ≡ None → last ≡ None
+none_last : (o last : Option Fault) → option_or o last ≡ None → last ≡ None
 none_last None last e = e
 none_last (Some f) last e = absurd (cc)
 

@@ -1,5 +1,6 @@
 -- `#start` stands first, `main` is there as it has to be, and no two functions have one name.
 use Rattle.std.proofs.Common.{◌≡◌, ◌≢◌, Bool, true, false, List, [], ◌∷◌, All, IsTrue, not, bytes_eq, Option, Some, None, refl, subst, sym, ap}
+use Rattle.std.specs.Option.{option_or}
 use Rattle.std.specs.Prelude.{AllPairs, ◌||◌, ◌&&◌, find, if◌then◌else◌}
 use Rattle.std.proofs.lemmas.List.Elements.{All-nil, All-cons}
 use Rattle.csub_text.specs.declared.span.Span.{Span}
@@ -22,7 +23,7 @@ use Rattle.csub_scopes.specs.Scopes.{Scope}
 use Rattle.csub_units.specs.Files.{File, no_file}
 use Rattle.csub_units.specs.Heads.{at_params, past_head}
 use Rattle.csub_units.specs.Items.{past_item, past_items, is_int, has_none, is_other_main, lacks_names, is_misdefined}
-use Rattle.csub_units.specs.Units.{all_defined, placed_fault, no_place, main_fault, or_last, unit_fault}
+use Rattle.csub_units.specs.Units.{all_defined, placed_fault, no_place, main_fault, unit_fault}
 use Rattle.csub_units.specs.FineItems.{FineItems}
 use Rattle.csub_units.proofs.LawsFineItems.{fine_unit}
 use Rattle.csub_resolution.specs.Values.{Defined}
@@ -158,7 +159,7 @@ module _ (defined : List Defined) where
 
 -- ---- sources
 
-none_last : (o last : Option Fault) → or_last o last ≡ None → last ≡ None
+none_last : (o last : Option Fault) → option_or o last ≡ None → last ≡ None
 none_last None last e = e
 none_last (Some f) last e = absurd (cc)
 

@@ -1,5 +1,6 @@
 -- The types of a program: those of its objects, and the structs in them.
 use Rattle.std.proofs.Common.{◌≡◌, ℤ, pos, Bool, true, false, List, [], ◌∷◌, ◌++◌, map, All, IsTrue, is_some, not, Option, Some, None, refl, subst, sym, ap, ◌∙◌}
+use Rattle.std.specs.Option.{option_or}
 use Rattle.std.specs.Prelude.{if◌then◌else◌}
 use Rattle.std.specs.List.{flat_map}
 use Rattle.std.proofs.lemmas.List.Elements.{All-nil, All-cons, All-append, All-map, All-weaker}
@@ -25,7 +26,7 @@ use Rattle.csub_units.specs.Structs.{struct_fault, sound_members}
 use Rattle.csub_units.specs.Enums.{value_after, past_constant, past_constants, past_tag, past_enum, constants_fault, perhaps_tag_fault, enumeration_fault}
 use Rattle.csub_units.specs.Heads.{at_params, past_params, past_head, signature}
 use Rattle.csub_units.specs.Items.{past_item, past_items, item_fault, items_fault}
-use Rattle.csub_units.specs.Units.{all_defined, undefineds_fault, placed_fault, main_fault, or_last, unit_fault}
+use Rattle.csub_units.specs.Units.{all_defined, undefineds_fault, placed_fault, main_fault, unit_fault}
 use Rattle.csub_resolution.specs.Values.{Defined}
 use Rattle.csub_resolution.specs.Lines.{locals_lines}
 use Rattle.csub_resolution.specs.Programs.{params, function_by, functions_in, globals_by, globals_in, defined_in, start, span_of_main, program_of}
@@ -198,7 +199,7 @@ module _ (defined : List Defined) where
 
 -- ---- sources
 
-none_before : (o last : Option Fault) → or_last o last ≡ None → o ≡ None
+none_before : (o last : Option Fault) → option_or o last ≡ None → o ≡ None
 none_before None last e = refl
 none_before (Some f) last e = absurd (cc)
 

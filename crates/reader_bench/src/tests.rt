@@ -1,5 +1,5 @@
-// Sources with the depth of their unit and what it holds, or with the place of the token that is refused. The tests of one layer alone
-// stand in `tokens`, `trees` and `depths`.
+//! Sources with the depth of their unit and what it holds, or with the place of the token that is refused. The tests of one layer alone
+//! stand in `tokens`, `trees` and `depths`.
 mod depths;
 mod expressions;
 mod items;

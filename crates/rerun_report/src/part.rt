@@ -1,5 +1,5 @@
 //! The parts of a run's behaviour: its output, its status and its number of turns.
-ghost use Rattle.std.specs.Prelude.{◌≡◌, ◌++◌, ◌∷◌, OnOk};
+ghost use Rattle.std.specs.Prelude.{◌≡◌, ◌++◌, OnOk};
 ghost use Rattle.rerun_report.specs.Reruns.{status_eq};
 ghost use Rattle.rerun_report.specs.RerunTexts.{output_text, status_text, turns_text};
 

@@ -1,4 +1,4 @@
-// The crossed edges as bits of bytes, as version 3 has them.
+//! The crossed edges as bits of bytes, as version 3 has them.
 ghost use Rattle.std.specs.Prelude.{◌≡◌, ◌≢◌, ◌<◌, ◌≤◌, ◌*◌, ℕ, List, Bool, length, IfOk, MatchOption, replicate, false};
 ghost use Rattle.hex.specs.Hex.{IsBytes};
 ghost use Rattle.line_text.specs.Bytes.{bytes_or_dash};

@@ -1,4 +1,4 @@
-// The line of the crossed edges.
+//! The line of the crossed edges.
 ghost use Rattle.std.specs.Prelude.{◌≡◌, ◌≢◌, ◌++◌, ◌∷◌, List, Bool, length, IfOk, MatchOption};
 ghost use Rattle.test_history.specs.HistoryTexts.{crossed_line, crossed_text};
 ghost use Rattle.line_text.specs.Lines.{HasLine};

@@ -1,4 +1,4 @@
-// Why lines are refused.
+//! Why lines are refused.
 use std::alloc::AllocError;
 
 /// Why the lines at hand are refused.

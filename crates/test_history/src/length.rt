@@ -1,9 +1,7 @@
-// How long the text of a history is, found without writing it.
+//! How long the text of a history is, found without writing it.
 ghost use Rattle.std.specs.Prelude.{◌≡◌, ◌≤◌, ◌+◌, ◌*◌, ◌∷◌, length, codes, All};
-ghost use Rattle.std.specs.Fmt.{decimal};
 ghost use Rattle.std.specs.List.{flat_map};
 ghost use Rattle.csub_core.specs.Valid.{most_edges};
-ghost use Rattle.line_text.specs.Bytes.{bytes_or_dash};
 ghost use Rattle.line_text.specs.Lines.{text_of_lines};
 ghost use Rattle.line_text.specs.Words.{line_of_words};
 ghost use Rattle.test_suite.specs.Suites.{most_tests};

@@ -1,10 +1,6 @@
-// The lines of a history.
+//! The lines of a history.
 ghost use Rattle.std.specs.Prelude.{◌≡◌, ◌++◌, ◌∷◌, [], OnOk, codes};
-ghost use Rattle.std.specs.Fmt.{decimal};
-ghost use Rattle.hex.specs.Hex.{encode_lower};
-ghost use Rattle.line_text.specs.Bytes.{bytes_or_dash};
 ghost use Rattle.line_text.specs.Words.{line_of_words};
-ghost use Rattle.line_text.specs.Values.{value_line};
 ghost use Rattle.test_history.specs.HistoryTexts.{trap_name, status_words};
 
 use csub_semantics::{Status, Trap};

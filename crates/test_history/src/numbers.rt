@@ -1,4 +1,4 @@
-// The crossed edges by their numbers, as version 2 has them.
+//! The crossed edges by their numbers, as version 2 has them.
 ghost use Rattle.std.specs.Prelude.{◌≡◌, ◌≢◌, ◌<◌, ◌^◌, List, Bool, length, map, IfOk, MatchBool, MatchOption, replicate, false};
 ghost use Rattle.std.specs.Fmt.{decimal};
 ghost use Rattle.line_text.specs.Words.{line_of_words, pieces};

@@ -1,12 +1,9 @@
 //! Reading a history.
-ghost use Rattle.std.specs.Prelude.{◌≡◌, ◌≤◌, ◌<◌, ◌+◌, ◌*◌, ◌++◌, ◌∷◌, [], ℕ, List, length, map, codes, All, AllPairs, ◌≢◌, IfOk, IfErr, MatchBool, MatchResult, Contains, drop};
-ghost use Rattle.std.specs.Fmt.{decimal};
+ghost use Rattle.std.specs.Prelude.{◌≡◌, ◌≤◌, ◌<◌, ◌+◌, ◌*◌, ◌++◌, ◌∷◌, [], length, map, codes, All, AllPairs, ◌≢◌, IfOk, IfErr, MatchBool, MatchResult, Contains, drop};
 ghost use Rattle.std.specs.List.{flat_map};
 ghost use Rattle.hex.specs.Hex.{encode_lower, IsBytes};
 ghost use Rattle.sha2.specs.Sha256.{sha256};
-ghost use Rattle.csub_core.specs.Valid.{most_edges};
 ghost use Rattle.line_text.specs.Lines.{text_of_lines};
-ghost use Rattle.line_text.specs.Words.{line_of_words};
 ghost use Rattle.test_suite.specs.Suites.{most_tests};
 ghost use Rattle.test_suite.specs.Tests.{IsWithin};
 ghost use Rattle.test_history.specs.Causes.{HasHistoryCause, HasNoCause, IsOnlyCause, SaysHistory};
@@ -14,7 +11,6 @@ ghost use Rattle.test_history.specs.Faults.{IsGoodEntry, IsHead, IsEntryFault, I
 ghost use Rattle.line_text.specs.Values.{IsDigest, value_line};
 ghost use Rattle.test_history.specs.Histories.{HistoryParts, IsReadable, names_of};
 ghost use Rattle.test_history.specs.HistoryTexts.{history_text, history_text_2, versioned_text, text_before_end, version_line, entry_lines, most_history_bytes};
-ghost use Rattle.test_history.specs.Rules.{SaysEdges, SaysTests};
 
 use crate::crossed::read_crossed;
 use crate::digest::digest_of;

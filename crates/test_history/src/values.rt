@@ -1,12 +1,9 @@
-// The lines of a word and a value, read off the front of a text.
-ghost use Rattle.std.specs.Prelude.{◌≡◌, ◌≤◌, ◌<◌, ◌++◌, ◌∷◌, ℕ, List, length, codes, IfOk, IfSome, MatchOption};
-ghost use Rattle.std.specs.Fmt.{decimal};
-ghost use Rattle.hex.specs.Hex.{encode_lower, IsBytes};
+//! The lines of a word and a value, read off the front of a text.
+ghost use Rattle.std.specs.Prelude.{◌≡◌, ◌<◌, ◌++◌, ◌∷◌, ℕ, List, codes, MatchOption};
 ghost use Rattle.csub_semantics.specs.declared.status.Status.{Status};
-ghost use Rattle.line_text.specs.Bytes.{bytes_or_dash};
 ghost use Rattle.line_text.specs.Words.{line_of_words};
 ghost use Rattle.test_suite.specs.Tests.{IsTestName};
-ghost use Rattle.line_text.specs.Values.{IsDigest, value_line, HasNumber, HasBytes, HasDigest};
+ghost use Rattle.line_text.specs.Values.{value_line};
 ghost use Rattle.test_history.specs.Histories.{IsByteStatus};
 ghost use Rattle.test_history.specs.HistoryTexts.{status_words, trap_name};
 ghost use Rattle.line_text.specs.Lines.{HasLine};

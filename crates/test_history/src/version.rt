@@ -1,4 +1,4 @@
-// The versions of the format.
+//! The versions of the format.
 ghost use Rattle.std.specs.Prelude.{◌≡◌};
 ghost use Rattle.test_history.specs.HistoryTexts.{version_number};
 

@@ -1,4 +1,4 @@
-// The line of one test.
+//! The line of one test.
 ghost use Rattle.std.specs.Prelude.{◌≡◌, ◌<◌, ℕ, List, Some, IfOk, IfErr, MatchOption, IsTrue};
 ghost use Rattle.hex.specs.Hex.{IsBytes};
 ghost use Rattle.line_text.specs.Lines.{line_with};

@@ -1,10 +1,9 @@
 //! Reading a suite.
-ghost use Rattle.std.specs.Prelude.{◌≡◌, ◌≤◌, ◌++◌, ◌∷◌, List, length, IfOk, IfErr, All, MatchResult};
-ghost use Rattle.hex.specs.Hex.{IsBytes};
+ghost use Rattle.std.specs.Prelude.{◌≡◌, ◌≤◌, ◌++◌, ◌∷◌, List, length, IfOk, IfErr, MatchResult};
 ghost use Rattle.test_suite.specs.Causes.{HasCause};
 ghost use Rattle.test_suite.specs.Faults.{IsFaultOf, refusal_at as refusal_at_lem};
 ghost use Rattle.test_suite.specs.Rules.{IsFirstFault};
-ghost use Rattle.test_suite.specs.Suites.{IsSuite, SaysTests, suite_text, first_line, most_bytes};
+ghost use Rattle.test_suite.specs.Suites.{IsSuite, SaysTests, first_line, most_bytes};
 ghost use Rattle.test_suite.specs.Tests.{TestParts};
 
 use crate::error::SuiteError;

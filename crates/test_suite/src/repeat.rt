@@ -1,4 +1,4 @@
-// Names that stand twice.
+//! Names that stand twice.
 ghost use Rattle.std.specs.Prelude.{◌≢◌, IfOk, MatchOption, AllPairs};
 ghost use Rattle.test_suite.specs.Causes.{IsFirstRepeat};
 ghost use Rattle.test_suite.specs.Suites.{names_of};

@@ -1,5 +1,5 @@
-// Whether the points of a pair do the same.
-ghost use Rattle.std.specs.Prelude.{◌≡◌, ◌<◌, ◌↔◌, IsTrue};
+//! Whether the points of a pair do the same.
+ghost use Rattle.std.specs.Prelude.{◌<◌, ◌↔◌, IsTrue};
 ghost use Rattle.csub_semantics.specs.Syntax.{ProgramTree};
 ghost use Rattle.flow_graph.specs.Graph.{IsGraphOf, point_count};
 ghost use Rattle.dual_walk.specs.LabelRows.{AreLabelled};

@@ -1,7 +1,6 @@
-// The check of a claim.
-ghost use Rattle.std.specs.Prelude.{◌≡◌, ◌<◌, ℕ, All, length, slice_get, Some, Contains, IfOk, MatchOption};
+//! The check of a claim.
+ghost use Rattle.std.specs.Prelude.{◌≡◌, ◌<◌, length, Some, IfOk, MatchOption};
 ghost use Rattle.csub_semantics.specs.Points.{entry};
-ghost use Rattle.csub_semantics.specs.Flows.{start_name};
 ghost use Rattle.csub_semantics.specs.Syntax.{ProgramTree};
 ghost use Rattle.flow_graph.specs.Graph.{IsGraphOf, point_count, edge_count};
 ghost use Rattle.dual_walk.specs.LabelRows.{AreLabelled};

@@ -1,5 +1,5 @@
-// The ways out of a claim.
-ghost use Rattle.std.specs.Prelude.{◌≡◌, ◌<◌, ◌↔◌, ℕ, Some, length, IsTrue, MatchBool, MatchOption};
+//! The ways out of a claim.
+ghost use Rattle.std.specs.Prelude.{◌≡◌, ◌<◌, ◌↔◌, Some, length, IsTrue, MatchBool, MatchOption};
 ghost use Rattle.csub_objects.specs.Types.{Name};
 ghost use Rattle.csub_semantics.specs.Points.{PointTree, exit_tree};
 ghost use Rattle.csub_semantics.specs.Syntax.{ProgramTree};

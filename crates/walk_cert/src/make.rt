@@ -17,7 +17,8 @@ use sha2::{Digest, Sha256};
 use std::alloc::{AllocError, Global};
 
 /// The certificate of the walk of two graphs: the digests of both sources, the dangerous edges, and the reached pairs, each
-/// once, in rising order. Its claim is closed. An `Err` is want of memory. It sorts the pairs.
+/// once, in rising order. Its claim is closed. An `Err` is want of memory. It sorts the pairs; the graphs are asked for by the
+/// contract alone.
 pub fn certificate_of(
     alloc: Global,
     _old: &Graph,

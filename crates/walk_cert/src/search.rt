@@ -1,4 +1,4 @@
-// Whether a pair stands in a rising list.
+//! Whether a pair stands in a rising list.
 ghost use Rattle.std.specs.Prelude.{◌≡◌, ◌↔◌, IsTrue};
 ghost use Rattle.cert_text.specs.Certificates.{IsAfter, IsBefore, Rise};
 ghost use Rattle.walk_cert.specs.Pairs.{HasPair};

@@ -57,7 +57,7 @@ fn tags_and_members_differ(rt: HostRuntime) -> Result<(), Fail> {
 
 // C11 7.1.3, in every name space
 #[test]
-fn names_of_the_library_are_not_declared(rt: HostRuntime) -> Result<(), Fail> {
+fn names_of_the_library_are_not_declared_at_file_scope(rt: HostRuntime) -> Result<(), Fail> {
     sources_agree(
         &rt,
         rt.alloc(),
@@ -83,7 +83,7 @@ fn names_of_the_library_are_not_declared(rt: HostRuntime) -> Result<(), Fail> {
 
 // C11 6.7.2.3p4: a struct's tag counts behind its members, and one that breaks a rule is no struct's.
 #[test]
-fn a_struct_is_defined_before(rt: HostRuntime) -> Result<(), Fail> {
+fn a_struct_is_defined_before_the_items_that_need_it(rt: HostRuntime) -> Result<(), Fail> {
     sources_agree(
         &rt,
         rt.alloc(),
@@ -206,7 +206,7 @@ fn objects_and_structs_have_sizes(rt: HostRuntime) -> Result<(), Fail> {
 
 // C11 6.7.9p2 and p16
 #[test]
-fn initialisers_fit(rt: HostRuntime) -> Result<(), Fail> {
+fn initialisers_of_file_scope_fit(rt: HostRuntime) -> Result<(), Fail> {
     sources_agree(
         &rt,
         rt.alloc(),
@@ -366,7 +366,7 @@ fn a_source_has_a_main(rt: HostRuntime) -> Result<(), Fail> {
 }
 
 #[test]
-fn the_earlier_place_is_told(rt: HostRuntime) -> Result<(), Fail> {
+fn in_items_the_earlier_place_is_told(rt: HostRuntime) -> Result<(), Fail> {
     sources_agree(
         &rt,
         rt.alloc(),
@@ -392,7 +392,7 @@ fn the_earlier_place_is_told(rt: HostRuntime) -> Result<(), Fail> {
 }
 
 #[test]
-fn at_one_place_the_lesser_rule_is_told(rt: HostRuntime) -> Result<(), Fail> {
+fn in_items_at_one_place_the_lesser_rule_is_told(rt: HostRuntime) -> Result<(), Fail> {
     sources_agree(
         &rt,
         rt.alloc(),

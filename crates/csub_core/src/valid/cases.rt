@@ -1,5 +1,5 @@
 //! The `switch`: its kind, and the labels `case` and `default` among its lines.
-ghost use Rattle.std.specs.Prelude.{◌≡◌, ◌↔◌, ◌≤◌, ◌<◌, ◌^◌, AllPairs, IsTrue, length, map};
+ghost use Rattle.std.specs.Prelude.{◌≡◌, ◌↔◌, ◌≤◌, ◌<◌, AllPairs, IsTrue, length, map};
 ghost use Rattle.std.specs.List.{AllWithin};
 ghost use Rattle.std.specs.Option.{option_map};
 ghost use Rattle.csub_semantics.specs.declared.function.RStmt.{RStmt};

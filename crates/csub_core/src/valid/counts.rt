@@ -1,7 +1,7 @@
 //! Whether a program stays within its limits of points and edges.
 //!
 //! A count is taken away from what is left of its limit, and ends at once where too little is left.
-ghost use Rattle.std.specs.Prelude.{◌≡◌, ◌↔◌, ◌≤◌, ◌<◌, ◌+◌, ◌-◌, ◌^◌, map, sum_by, length, IsTrue};
+ghost use Rattle.std.specs.Prelude.{◌≡◌, ◌↔◌, ◌≤◌, ◌<◌, ◌+◌, ◌-◌, map, sum_by, length, IsTrue};
 ghost use Rattle.std.specs.Option.{SomeIff, option_map};
 ghost use Rattle.csub_semantics.specs.Labels.{label_tree};
 ghost use Rattle.csub_semantics.specs.Syntax.{part_tree, stmt_tree, stmts_of, function_tree};

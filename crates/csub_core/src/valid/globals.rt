@@ -1,5 +1,5 @@
 //! Whether objects of file scope are valid.
-ghost use Rattle.std.specs.Prelude.{◌≡◌, ◌≢◌, ◌↔◌, ◌≤◌, All, AllPairs, IsTrue, length, map, sum_by};
+ghost use Rattle.std.specs.Prelude.{◌≢◌, ◌↔◌, ◌≤◌, AllPairs, IsTrue, length, map, sum_by};
 ghost use Rattle.std.specs.List.{AllWithin};
 ghost use Rattle.csub_semantics.specs.declared.types.GlobalVar.{GlobalVar};
 ghost use Rattle.csub_semantics.specs.Types.{global_tree};

@@ -1,5 +1,5 @@
 //! Whether the objects of a function have types that they may have, and few cells.
-ghost use Rattle.std.specs.Prelude.{◌+◌, ◌-◌, ◌≤◌, ◌↔◌, All, IsTrue, map, sum_by};
+ghost use Rattle.std.specs.Prelude.{◌+◌, ◌-◌, ◌≤◌, ◌↔◌, All, IsTrue, sum_by};
 ghost use Rattle.std.specs.Option.{SomeIff};
 ghost use Rattle.csub_objects.specs.declared.types.Member.{Member};
 ghost use Rattle.csub_semantics.specs.declared.function.LocalVar.{LocalVar};

@@ -1,5 +1,5 @@
 //! Whether statements have a label only where there is a point of its kind.
-ghost use Rattle.std.specs.Prelude.{◌≡◌, ◌↔◌, ◌<◌, ◌≤◌, ◌+◌, ◌^◌, ◌⊎◌, All, IsTrue, true, false, length, map};
+ghost use Rattle.std.specs.Prelude.{◌≡◌, ◌↔◌, ◌<◌, ◌≤◌, ◌+◌, All, IsTrue, true, false, length, map};
 ghost use Rattle.std.specs.Option.{option_map};
 ghost use Rattle.csub_objects.specs.Meaning.{type_tree};
 ghost use Rattle.csub_semantics.specs.Trees.{owner_tree};

@@ -1,4 +1,4 @@
-// How deep is read, and which token is refused where there is no more depth.
+//! How deep is read, and which token is refused where there is no more depth.
 use crate::tests::nesting::repeated;
 use csub_expr::expression::{assign, conditional, number};
 use csub_expr::initialiser::init;

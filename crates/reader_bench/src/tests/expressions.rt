@@ -1,4 +1,4 @@
-// Expressions, each as the initialiser of an object: the depth is 3 more than that of the expression, and the first token is the 3rd from 0.
+//! Expressions, each as the initialiser of an object: the depth is 3 more than that of the expression, and the first token is the 3rd from 0.
 use crate::tests::agrees;
 use std::test::Fail;
 

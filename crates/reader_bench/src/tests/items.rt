@@ -1,9 +1,9 @@
-// Items: structs, enumerations, objects, prototypes and functions.
+//! Items: structs, enumerations, objects, prototypes and functions.
 use crate::tests::agrees;
 use std::test::Fail;
 
 #[test]
-fn structs_and_enumerations(rt: HostRuntime) -> Result<(), Fail> {
+fn structs_and_enumerations_are_read(rt: HostRuntime) -> Result<(), Fail> {
     agrees(
         &rt,
         rt.alloc(),
@@ -30,7 +30,7 @@ fn structs_and_enumerations(rt: HostRuntime) -> Result<(), Fail> {
 }
 
 #[test]
-fn objects_and_initialisers(rt: HostRuntime) -> Result<(), Fail> {
+fn objects_are_read_with_their_initialisers(rt: HostRuntime) -> Result<(), Fail> {
     agrees(
         &rt,
         rt.alloc(),
@@ -55,7 +55,7 @@ fn objects_and_initialisers(rt: HostRuntime) -> Result<(), Fail> {
 }
 
 #[test]
-fn prototypes_and_functions(rt: HostRuntime) -> Result<(), Fail> {
+fn prototypes_and_functions_are_read(rt: HostRuntime) -> Result<(), Fail> {
     agrees(
         &rt,
         rt.alloc(),

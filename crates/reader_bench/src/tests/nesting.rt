@@ -1,4 +1,4 @@
-// Nesting up to the greatest depth, 256, and one more.
+//! Nesting up to the greatest depth, 256, and one more.
 use crate::tests::shown;
 use std::alloc::{AllocError, Global};
 use std::process::Abort;

@@ -1,4 +1,4 @@
-// Whole programs.
+//! Whole programs.
 use crate::tests::agrees;
 use sample_sources::{CHANGED_LINE, LINE_BEFORE, WORD_COUNTER};
 use std::test::Fail;

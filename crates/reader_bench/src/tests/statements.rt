@@ -1,9 +1,9 @@
-// Statements, each in the body of a function: the depth is 2 more than that of the statement, and the first token is the 6th from 0.
+//! Statements, each in the body of a function: the depth is 2 more than that of the statement, and the first token is the 6th from 0.
 use crate::tests::agrees;
 use std::test::Fail;
 
 #[test]
-fn declarations_expressions_labels_and_blocks(rt: HostRuntime) -> Result<(), Fail> {
+fn a_block_has_declarations_expressions_labels_and_blocks(rt: HostRuntime) -> Result<(), Fail> {
     agrees(
         &rt,
         rt.alloc(),
@@ -64,7 +64,7 @@ fn an_else_belongs_to_the_nearest_if(rt: HostRuntime) -> Result<(), Fail> {
 }
 
 #[test]
-fn loops(rt: HostRuntime) -> Result<(), Fail> {
+fn each_loop_is_read_with_its_parts(rt: HostRuntime) -> Result<(), Fail> {
     agrees(
         &rt,
         rt.alloc(),
@@ -87,7 +87,7 @@ fn loops(rt: HostRuntime) -> Result<(), Fail> {
 }
 
 #[test]
-fn switches_and_jumps(rt: HostRuntime) -> Result<(), Fail> {
+fn a_switch_and_each_jump_are_read(rt: HostRuntime) -> Result<(), Fail> {
     agrees(
         &rt,
         rt.alloc(),

@@ -1,4 +1,4 @@
-// Texts with their tokens or their fault: each keyword, mark, escape, form of number and limit, and each fault in each of its ways.
+//! Texts with their tokens or their fault: each keyword, mark, escape, form of number and limit, and each fault in each of its ways.
 mod constants;
 mod lines;
 
@@ -118,7 +118,7 @@ fn each_keyword_and_the_name_that_is_longer_by_one(rt: HostRuntime) -> Result<()
 }
 
 #[test]
-fn each_mark(rt: HostRuntime) -> Result<(), Fail> {
+fn each_mark_is_a_token(rt: HostRuntime) -> Result<(), Fail> {
     agrees(
         &rt,
         rt.alloc(),
@@ -249,7 +249,7 @@ fn a_mark_is_as_long_as_it_can_be(rt: HostRuntime) -> Result<(), Fail> {
 }
 
 #[test]
-fn bytes_that_begin_nothing(rt: HostRuntime) -> Result<(), Fail> {
+fn a_byte_that_begins_no_token_is_the_fault(rt: HostRuntime) -> Result<(), Fail> {
     agrees(
         &rt,
         rt.alloc(),

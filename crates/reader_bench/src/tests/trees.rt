@@ -1,4 +1,4 @@
-// The depth and the shape of small units.
+//! The depth and the shape of small units.
 ghost use Rattle.std.specs.Prelude.{◌≤◌, IfOk};
 ghost use Rattle.csub_tree.specs.Units.{unit_tree};
 ghost use Rattle.csub_tree.specs.Depth.{unit_depth};

@@ -1,4 +1,4 @@
-// Numbers, character constants and strings.
+//! Numbers, character constants and strings.
 use super::agrees;
 use std::test::Fail;
 

@@ -1,4 +1,4 @@
-// Comments and include lines.
+//! Comments and include lines.
 use super::agrees;
 use std::test::Fail;
 
