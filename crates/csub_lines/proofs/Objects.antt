@@ -1,8 +1,8 @@
 -- Declared objects, one after the other and as a whole.
-use Rattle.std.proofs.Common.{◌≡◌, ◌∙◌, refl, sym, ap, subst, append_assoc, ℕ, ◌+◌, ◌<◌, List, [], ◌∷◌, ◌++◌, length, map, drop, get_or, Option}
+use Rattle.std.proofs.Common.{◌≡◌, ◌∙◌, sym, ap, subst, append_assoc, ℕ, ◌+◌, ◌<◌, List, [], ◌∷◌, ◌++◌, length, map, drop, get_or, Option}
 use Rattle.std.proofs.lemmas.List.{drop_more}
 use Rattle.csub_tree.specs.declared.declaration.Declarator.{Declarator as CodeDeclarator}
-use Rattle.csub_tree.specs.Declarations.{Init, Declarator, declarator_tree}
+use Rattle.csub_tree.specs.Declarations.{Declarator, declarator_tree}
 use Rattle.csub_objects.specs.Types.{TypeTree}
 use Rattle.csub_semantics.specs.Syntax.{LocalTree, PartTree}
 use Rattle.csub_rules.specs.BrokenLocal.{FineVar, FineVars}

@@ -1,5 +1,5 @@
 -- What is known of gathered members: objects may have their types, and their names differ where none is told twice.
-use Rattle.std.proofs.Common.{◌≡◌, ◌∙◌, ◌≢◌, refl, ap, subst, arith, ◌+◌, List, [], ◌∷◌, ◌++◌, map, nat_le, bytes_eq}
+use Rattle.std.proofs.Common.{◌≡◌, ◌∙◌, ◌≢◌, refl, ap, subst, arith, List, [], ◌∷◌, ◌++◌, map, nat_le, bytes_eq}
 use Rattle.std.proofs.Common.{Option, Some, None, option_map, Bool, true, false, IsTrue, not, ◌&&◌, ◌||◌, All, if◌then◌else◌}
 use Rattle.std.proofs.lemmas.List.Elements.{All-cons}
 use Rattle.std.proofs.lemmas.List.Kept.{AllPairs-cons}

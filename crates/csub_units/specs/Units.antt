@@ -1,5 +1,5 @@
 -- Sources as wholes, and the earliest place where one breaks a rule.
-use Rattle.std.specs.Prelude.{List, [], ◌∷◌, Option, Some, None, not}
+use Rattle.std.specs.Prelude.{List, [], ◌∷◌, Option, None, not}
 use Rattle.std.specs.Option.{option_or}
 use Rattle.csub_text.specs.declared.span.Span.{Span}
 use Rattle.csub_tree.specs.Units.{Item, Struct, Enum, Object, Prototype, Function, Source}

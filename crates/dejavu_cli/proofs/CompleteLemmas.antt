@@ -1,11 +1,9 @@
 -- Where nothing stands in its way a command is done, or it ends otherwise as it may, or memory was wanted.
-use Rattle.std.proofs.Common.{◌≡◌, ℕ, Bool, true, false, List, Option, Some, None, refl, sym, ap, ◌∙◌, subst, inl, inr, ◌⊎◌}
+use Rattle.std.proofs.Common.{◌≡◌, ℕ, true, false, List, Option, Some, None, refl, sym, ap, ◌∙◌, subst, inl, inr, ◌⊎◌}
 use Rattle.std.specs.Option.{option_map}
 use Rattle.dv_outside.specs.Outside.{Files, file_at, Rose}
 use Rattle.csub_semantics.specs.Syntax.{ProgramTree}
 use Rattle.csub_accept.specs.Accepted.{Accepted}
-use Rattle.test_suite.specs.Tests.{TestParts}
-use Rattle.test_history.specs.Histories.{HistoryParts}
 use Rattle.test_history.specs.declared.version.Version.TheVariants.{Second, Third}
 use Rattle.command_words.specs.Words.{Command, rerun_files, explain_files, check_files, gen_numbers, command_of}
 use Rattle.command_refusals.specs.Refusals.{refusal_line}
@@ -22,14 +20,12 @@ use Rattle.command_files.specs.Record.{IsSuiteFile, IsHistoryFile}
 use Rattle.command_files.specs.Files.{HasSource, HasNoSource, HasBadOfTwo}
 use Rattle.command_claims.specs.Checked.{IsCertificateFile}
 use Rattle.dejavu_cli.specs.Reads.{Reads, suite_of, earlier_of, versions_of, history_of, certificate_of, made_of, reads, HasSecond, HasThree}
-use Rattle.dejavu_cli.specs.Explain.{HasTest}
-use Rattle.dejavu_cli.specs.Texts.{IsSaid, IsTextOf, HasTextOf, product_of, end_of_rerun, end_of_check}
+use Rattle.dejavu_cli.specs.Texts.{IsSaid, IsTextOf, HasTextOf, product_of}
 use Rattle.dejavu_cli.specs.Causes.{HasBadSourceOf, HasBadSuite, HasBadHistory, HasBadCertificate, HasBadTest, HasReadFault, HasCause, HasCauseOf}
 use Rattle.dejavu_cli.specs.Statuses.{done_as, status_of}
 use Rattle.dejavu_cli.specs.Answers.{Decides, Says, Refuses}
 use Rattle.dejavu_cli.specs.Complete.{HaveVersions, AreThere, AreReady, other_end, IsDone, IsComplete}
 use Rattle.dejavu_cli.specs.declared.answer.End.{End}
-use Rattle.dejavu_cli.specs.declared.answer.End.TheVariants as ends
 use Rattle.dejavu_cli.specs.declared.status.Status8.{Status8}
 use Rattle.dejavu_cli.specs.declared.status.Status8.TheVariants as status
 

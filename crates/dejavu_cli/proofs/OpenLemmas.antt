@@ -1,8 +1,8 @@
 -- From the files that a command reads, and what is made of them, to its text or to why it isn't done.
-use Rattle.std.proofs.Common.{◌≡◌, ◌<◌, ◌≤◌, refl, ℕ, List, length, take, Bool, Option, Some, Result, Ok, Err, MatchResult, sym, ap, ◌∙◌, subst, arith}
+use Rattle.std.proofs.Common.{◌≡◌, ◌<◌, ◌≤◌, refl, ℕ, List, length, take, Bool, Option, Some, Result, Ok, Err, MatchResult, sym, ap, subst, arith}
 use Rattle.std.specs.declared.vec.Vec.{Vec}
 use Rattle.std.specs.declared.alloc.Global.{Global}
-use Rattle.dv_outside.specs.Outside.{Files, file_at, IsFetched}
+use Rattle.dv_outside.specs.Outside.{Files, file_at}
 use Rattle.csub_semantics.specs.Syntax.{ProgramTree, program_tree}
 use Rattle.test_history.specs.declared.version.Version.TheVariants.{Second, Third}
 use Rattle.cert_text.specs.Causes.{HasCause as HasCertificateCause}
@@ -13,17 +13,15 @@ use Rattle.command_words.specs.Words.{Command, record_files, migrate_files, walk
 use Rattle.command_words.specs.Words.{carry_files, order_files, certify_files, check_files}
 use Rattle.command_refusals.specs.Causes.{certificate_cause}
 use Rattle.command_refusals.specs.declared.source.SourceCause.{SourceCause}
-use Rattle.command_refusals.specs.declared.suite.SuiteCause.{SuiteCause}
 use Rattle.command_refusals.specs.declared.history.HistoryCause.{HistoryCause}
 use Rattle.command_refusals.specs.declared.certificate.CertificateCause.{CertificateCause}
-use Rattle.command_refusals.specs.declared.refusal.Product.{Product}
 use Rattle.command_refusals.specs.declared.refusal.Product.TheVariants as product
 use Rattle.command_refusals.specs.declared.refusal.Role.{Role}
 use Rattle.command_refusals.specs.declared.refusal.Refusal.{Refusal}
 use Rattle.command_refusals.specs.declared.refusal.Refusal.TheVariants as refusal
-use Rattle.command_files.specs.Causes.{NoSuite, NoHistory}
+use Rattle.command_files.specs.Causes.{NoHistory}
 use Rattle.command_files.specs.Files.{HasBadSource, HasBadOfTwo, HasFaultOfTwo, HasFaultOfThree, IsVersionsCause, AreRead, IsOpened, IsOpenCause, AreOpened, AreOpenCause}
-use Rattle.command_files.specs.Steps.{IsHistoryCause, IsMade, IsTooMuch, IsTooMuchCause}
+use Rattle.command_files.specs.Steps.{IsHistoryCause, IsMade, IsTooMuchCause}
 use Rattle.command_files.specs.declared.versions.Versions.{Versions}
 use Rattle.command_files.specs.declared.opening.OpenedSource.{OpenedSource}
 use Rattle.command_files.specs.declared.opening.OpenedVersions.{OpenedVersions}
@@ -33,13 +31,13 @@ use Rattle.command_histories.specs.Orders.{IsOrdering}
 use Rattle.command_histories.specs.Carried.{IsCarriedText, IsCarriedCause}
 use Rattle.command_claims.specs.Certified.{IsCertifiedText}
 use Rattle.command_claims.specs.Checked.{IsChecked, IsCheckCause, NoCertificate, bounds_by}
-use Rattle.dejavu_cli.specs.Reads.{suite_of, earlier_of, history_of, certificate_of, reads, HasSecond, HasTwo, HasThree}
+use Rattle.dejavu_cli.specs.Reads.{history_of, reads, HasSecond, HasTwo, HasThree}
 use Rattle.dejavu_cli.specs.Recorded.{IsRecorded}
 use Rattle.dejavu_cli.specs.Select.{IsSelection}
 use Rattle.dejavu_cli.specs.Rerun.{IsRerun}
 use Rattle.dejavu_cli.specs.Explain.{IsExplained}
 use Rattle.dejavu_cli.specs.Texts.{HasTextOf, end_of_rerun, end_of_check}
-use Rattle.dejavu_cli.specs.Causes.{HasBadSourceOf, HasBadSuite, HasBadHistory, HasBadCertificate, HasReadFault, HasCauseOf}
+use Rattle.dejavu_cli.specs.Causes.{HasBadSourceOf, HasBadHistory, HasReadFault, HasCauseOf}
 use Rattle.dejavu_cli.specs.Steps.{IsRecordCause, IsTestCause}
 use Rattle.dejavu_cli.specs.declared.answer.Answer.{Answer}
 use Rattle.dejavu_cli.specs.declared.answer.End.{End}

@@ -6,7 +6,7 @@ use Rattle.std.proofs.lemmas.Option.{slice_get-map}
 use Rattle.csub_semantics.specs.Types.{GlobalTree}
 use Rattle.csub_semantics.specs.Labels.{PointLabel, label_tree}
 use Rattle.csub_semantics.specs.Syntax.{ProgramTree}
-use Rattle.csub_semantics.specs.Numbers.{Site, site, site_at}
+use Rattle.csub_semantics.specs.Numbers.{Site, site_at}
 use Rattle.edge_label.specs.Numbers.{HasNumber, HaveNumbers, whole}
 use Rattle.edge_label.specs.declared.standing.Standing.{Standing}
 use Rattle.edge_label.proofs.LawsNumbers.{HaveNumbers-length, HaveNumbers-at}

@@ -1,20 +1,16 @@
 -- Answers when all facts of a walk have been asked.
 use Rattle.std.proofs.Common.{◌≡◌, ℕ, ◌<◌, List, length, get_or, Some, All, sym, ap, ◌∙◌, arith}
 use Rattle.std.specs.Prelude.{slice_get}
-use Rattle.std.proofs.lemmas.Option.{slice_get-map, slice_get_within, slice_get-get_or}
-use Rattle.csub_objects.specs.Types.{Name}
-use Rattle.csub_semantics.specs.Points.{PointTree}
+use Rattle.std.proofs.lemmas.Option.{slice_get_within, slice_get-get_or}
 use Rattle.csub_semantics.specs.Syntax.{ProgramTree}
-use Rattle.csub_semantics.specs.Flows.{Edge, edge_list, point_list, flow_of}
+use Rattle.csub_semantics.specs.Flows.{Edge, edge_list, point_list}
 use Rattle.csub_semantics.specs.Numbers.{Site, site, site_of, site_at, edge_at}
-use Rattle.csub_semantics.specs.Books as books
-use Rattle.csub_semantics.specs.Books.{Reached, IsImage}
 use Rattle.flow_graph.specs.Graph.{Tables, IsGraphOf, point_count, edge_count}
 use Rattle.flow_graph.proofs.LawsLists.{made_of}
 use Rattle.flow_graph.proofs.LawsPlaces.{points_counted, edges_counted}
 use Rattle.dual_walk.specs.declared.fact.Fact.{Fact}
 use Rattle.dual_walk.specs.declared.fact.Why.TheVariants.{Start}
-use Rattle.dual_walk.specs.Books.{IsNamed, named_fact, named_facts, AreReasoned}
+use Rattle.dual_walk.specs.Books.{IsNamed}
 use Rattle.dual_walk.specs.Held.{AreAt, IsHeld}
 use Rattle.dual_walk.proofs.LawsLists.{get_some}
 use Rattle.call_walk.specs.declared.answer.WalkResult.{WalkResult}

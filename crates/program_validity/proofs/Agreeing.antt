@@ -1,5 +1,5 @@
 -- What names mean in a scope is what a program has.
-use Rattle.std.proofs.Common.{◌≡◌, ℕ, List, Option, Some, None, IsTrue}
+use Rattle.std.proofs.Common.{◌≡◌, List, Option, Some, None}
 use Rattle.csub_types.specs.declared.kind.IntKind.TheVariants.{Int}
 use Rattle.csub_types.specs.Kinds.{IsOf}
 use Rattle.csub_objects.specs.Types.{Name}

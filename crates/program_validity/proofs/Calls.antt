@@ -1,31 +1,29 @@
 -- The calls of expressions that break no rule are those of valid programs.
-use Rattle.std.proofs.Common.{◌≡◌, ◌∙◌, refl, sym, ap, subst, arith, ℕ, zero, suc, ◌+◌, ◌≤◌, ◌<◌, List, [], ◌∷◌, ◌++◌, length, map}
-use Rattle.std.proofs.Common.{Option, Some, None, Bool, true, false, IsTrue, IfSome, find, bytes_eq}
+use Rattle.std.proofs.Common.{◌≡◌, ◌∙◌, refl, sym, ap, subst, arith, ℕ, ◌+◌, ◌≤◌, List, [], ◌∷◌, ◌++◌, length, map}
+use Rattle.std.proofs.Common.{Option, Some, None, Bool, false, IsTrue, IfSome}
 use Rattle.csub_types.specs.declared.kind.IntKind.{IntKind}
 use Rattle.csub_tree.specs.declared.name.Name.{Name as NameAt}
-use Rattle.csub_tree.specs.Expressions.{Expr, Kind, Exprs, Node, Number, Char, Text, Named, Paren, Unary, Cast, Step, Binary, And, Or}
+use Rattle.csub_tree.specs.Expressions.{Expr, Exprs, Node, Number, Char, Text, Named, Paren, Unary, Cast, Step, Binary, And, Or}
 use Rattle.csub_tree.specs.Expressions.{Choose, Assign, Call, Index, Member, NoExprs, MoreExprs}
-use Rattle.csub_objects.specs.Types.{Name, TypeTree, number_type, array_type, struct_type, loose_type, element_type, type_eq, MemberTree}
+use Rattle.csub_objects.specs.Types.{Name, TypeTree, number_type, array_type, struct_type, loose_type, element_type, MemberTree}
 use Rattle.csub_objects.proofs.LawsTypes.{type_eq-Decides}
-use Rattle.csub_semantics.specs.Labels.{calls}
 use Rattle.csub_semantics.specs.Syntax.{Stage, FunctionTree, ProgramTree}
 use Rattle.csub_semantics.specs.Flows.{function_of}
 use Rattle.csub_semantics.specs.Trees.{NamedPlace, NamedExpr, NamedArg}
 use Rattle.csub_scopes.specs.Scopes.{Scope, Declared, Meaning, global_object, local_object, enum_constant, a_function, untyped, find as find_name}
 use Rattle.csub_rules.specs.Library.{LibraryName, getchar, putchar, printf, exit, eof, library_name}
-use Rattle.csub_rules.specs.Sorts.{Sort, a_place, a_value, a_void, no_sort, is_number, is_number_place, has_elements, is_type}
+use Rattle.csub_rules.specs.Sorts.{Sort, a_place, a_value, a_void, no_sort, has_elements, is_type}
 use Rattle.csub_rules.specs.Callees.{Callee, no_function, user_function, getchar_function, putchar_function, printf_function, exit_function}
 use Rattle.csub_rules.specs.Callees.{callee_of, callee_by, callee_of_meaning, fixed_params, takes}
-use Rattle.csub_rules.specs.Formats.{literal_of, is_format}
 use Rattle.csub_rules.specs.ExprSorts.{sort_of}
 use Rattle.csub_rules.specs.Fine.{Fine, FineArgs, FineNumbers, FinePrint, FineCall}
-use Rattle.csub_resolution.specs.Values.{Defined, params_in, count, count_all, own_count, own_call, calls_in, calls_in_all, place, value, values, argument, arguments, call_of}
+use Rattle.csub_resolution.specs.Values.{Defined, params_in, count, count_all, own_call, calls_in, calls_in_all, place, value, argument, arguments}
 use Rattle.csub_resolution.specs.Programs.{part_temps, some_count}
 use Rattle.csub_limits.specs.Prints.{prints, prints_all, printed}
 use Rattle.csub_validity.specs.Valid as valid
 use Rattle.csub_validity.specs.Valid.{IsExpr, IsPlace, IsArg, AreArgs, IsCall, IsDefinedAs, IsEarlier, RefersTo, place_type, temp_of, stage_result}
 use Rattle.program_validity.specs.Written.{WrittenExpr, WrittenExprs}
-use Rattle.program_validity.proofs.Counted.{Stand, stand_left, stand_right, calls_length, calls_length_all, silent, temps_append, full, full_call, fit_or_print, number_given, place_given, array_given, member_given, taken_given}
+use Rattle.program_validity.proofs.Counted.{Stand, stand_left, stand_right, calls_length, calls_length_all, silent, temps_append, full, full_call, fit_or_print, number_given, place_given, array_given, taken_given}
 use Rattle.program_validity.proofs.Agreeing.{Agrees}
 use Rattle.program_validity.proofs.Printing.{Few, few_left, few_right}
 use Rattle.program_validity.proofs.Expressions.{IsMadeOf, numeric, made, Given, given_left, given_right}

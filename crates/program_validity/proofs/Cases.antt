@@ -1,5 +1,5 @@
 -- The labels of a `switch`: values of its kind, which differ, and at most one `default`.
-use Rattle.std.proofs.Common.{◌≡◌, ◌≢◌, ◌∙◌, refl, sym, ap, subst, arith, ℕ, ◌+◌, ◌≤◌, ℤ, pos, List, [], ◌∷◌, ◌++◌, All, AllPairs}
+use Rattle.std.proofs.Common.{◌≡◌, ◌≢◌, refl, sym, subst, arith, ℕ, ◌+◌, ◌≤◌, ℤ, pos, List, [], ◌∷◌, ◌++◌, All, AllPairs}
 use Rattle.std.proofs.Common.{Option, Some, None, Bool, true, false, IsTrue, not, ◌||◌, is_some, option_map, unwrap_or, if◌then◌else◌}
 use Rattle.std.specs.List.{list_any}
 use Rattle.std.specs.Ordering.{int_eq}
@@ -9,10 +9,9 @@ use Rattle.std.proofs.lemmas.List.Kept.{AllPairs-cons}
 use Rattle.csub_text.specs.declared.span.Span.{Span}
 use Rattle.csub_types.specs.declared.kind.IntKind.{IntKind}
 use Rattle.csub_types.specs.Kinds.{convert}
-use Rattle.csub_tree.specs.Expressions.{Expr, span_of}
-use Rattle.csub_tree.specs.Statements.{Stmt, StmtKind, Perhaps, Stmts, Line, Declared, Eval, Empty, Block, If, While, Do, For, Switch}
-use Rattle.csub_tree.specs.Statements.{Case, Default, Break, Continue, Goto, Label, Return, NoStmt, OneStmt, NoStmts, MoreStmts}
-use Rattle.csub_semantics.specs.Syntax.{StmtTree, StmtTrees}
+use Rattle.csub_tree.specs.Expressions.{span_of}
+use Rattle.csub_tree.specs.Statements.{Stmt, Stmts, Line, Declared, Eval, Empty, Block, If, While, Do, For, Switch}
+use Rattle.csub_tree.specs.Statements.{Case, Default, Break, Continue, Goto, Label, Return, NoStmts, MoreStmts}
 use Rattle.csub_semantics.specs.Successors.{case_of, case_list, case_values, is_default}
 use Rattle.csub_rules.specs.Constants.{constant}
 use Rattle.csub_rules.specs.FineStmt.{FineStmt, FineLines}

@@ -1,11 +1,11 @@
 -- A converted number is one of its kind.
-use Rattle.std.proofs.Common.{◌≡◌, ℤ, pos, negsuc, ◌≤ℤ◌, refl, arith}
-use Rattle.std.specs.Int.{cast_signed, int_rem_euclid, int_wrap, w8, w32}
+use Rattle.std.proofs.Common.{ℤ, pos, negsuc, arith}
+use Rattle.std.specs.Int.{int_wrap, w8, w32}
 use Rattle.std.specs.Int.RustNames.{FitsSigned}
 use Rattle.std.proofs.lemmas.Int.{ints, SFits-int_wrap}
 use Rattle.csub_types.specs.declared.kind.IntKind.{IntKind}
 use Rattle.csub_types.specs.declared.kind.IntKind.TheVariants.{Char, Int, Unsigned}
-use Rattle.csub_types.specs.Kinds.{IsOf, convert, low_bits}
+use Rattle.csub_types.specs.Kinds.{IsOf, convert}
 
 char_fits : (z : ℤ) → FitsSigned w8 z → IsOf Char z
 char_fits z f = (omega (arith, ints), omega (arith, ints))

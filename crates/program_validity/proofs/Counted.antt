@@ -1,21 +1,21 @@
 -- The calls of an expression: how many they are, and what results they have.
-use Rattle.std.proofs.Common.{◌≡◌, ◌∙◌, refl, sym, ap, subst, arith, ℕ, zero, suc, ◌+◌, ◌≤◌, ◌<◌, List, [], ◌∷◌, ◌++◌, length, Option, Some, None, Bool, true, false, IsTrue}
+use Rattle.std.proofs.Common.{◌≡◌, ◌∙◌, refl, sym, ap, subst, arith, ℕ, ◌+◌, List, [], ◌∷◌, ◌++◌, length, Option, Some, None, Bool, true, false, IsTrue}
 use Rattle.std.proofs.Common.{length-append}
 use Rattle.csub_types.specs.declared.kind.IntKind.{IntKind}
 use Rattle.csub_tree.specs.declared.name.Name.{Name as NameAt}
-use Rattle.csub_tree.specs.Expressions.{Expr, Kind, Exprs, Node, Number, Char, Text, Named, Paren, Unary, Cast, Step, Binary, And, Or}
+use Rattle.csub_tree.specs.Expressions.{Expr, Exprs, Node, Number, Char, Text, Named, Paren, Unary, Cast, Step, Binary, And, Or}
 use Rattle.csub_tree.specs.Expressions.{Choose, Assign, Call, Index, Member, NoExprs, MoreExprs}
-use Rattle.csub_objects.specs.Types.{Name, TypeTree, number_type, array_type, struct_type, loose_type, element_type}
+use Rattle.csub_objects.specs.Types.{Name, TypeTree, number_type, array_type, struct_type, loose_type}
 use Rattle.csub_semantics.specs.Syntax.{Stage}
 use Rattle.csub_scopes.specs.Scopes.{Scope}
-use Rattle.csub_rules.specs.Sorts.{Sort, a_place, a_value, a_void, no_sort, is_sorted, is_number, is_number_place, is_array, has_member, has_elements, sort_if, value_if}
+use Rattle.csub_rules.specs.Sorts.{Sort, a_place, a_value, a_void, no_sort, is_number, is_number_place, is_array, has_member, has_elements, sort_if}
 use Rattle.csub_rules.specs.Callees.{Callee, no_function, user_function, getchar_function, putchar_function, printf_function, exit_function}
 use Rattle.csub_rules.specs.Callees.{callee_of, fixed_params, takes}
-use Rattle.csub_rules.specs.Formats.{Literal, literal_of, is_format}
-use Rattle.csub_rules.specs.ExprSorts.{sort_of, call_sort, suits, given_by, sorts_of}
+use Rattle.csub_rules.specs.Formats.{literal_of, is_format}
+use Rattle.csub_rules.specs.ExprSorts.{sort_of, suits, given_by, sorts_of}
 use Rattle.csub_rules.specs.Fine.{Fine, FineArgs, FineNumbers, FinePrint, FineCall}
 use Rattle.csub_resolution.specs.Values.{Defined, count, count_all, own_count, own_call, calls_in, calls_in_all}
-use Rattle.csub_resolution.specs.Programs.{some_count, part_temps}
+use Rattle.csub_resolution.specs.Programs.{part_temps}
 use Rattle.csub_validity.specs.Valid.{stage_result, result_of}
 
 -- ---- sorts of operands

@@ -1,7 +1,6 @@
 -- Each function that is declared is defined once, with the types of its declarations.
-use Rattle.std.proofs.Common.{◌≡◌, ◌∙◌, refl, sym, ap, subst, arith, ℕ, List, [], ◌∷◌, ◌++◌, map, find, inl, inr, ◌⊎◌, ⊎_elim}
-use Rattle.std.proofs.Common.{Option, Some, None, Bool, true, false, IsTrue, is_some, not, bytes_eq, cond, if◌then◌else◌, option_map, ◌&&◌, ◌||◌, codes}
-use Rattle.std.specs.List.{list_any}
+use Rattle.std.proofs.Common.{◌≡◌, ◌∙◌, refl, sym, ap, subst, List, [], ◌∷◌, ◌++◌, map, find, inl, inr, ◌⊎◌}
+use Rattle.std.proofs.Common.{Option, Some, None, Bool, true, false, IsTrue, is_some, not, bytes_eq, cond, if◌then◌else◌, option_map, ◌&&◌, ◌||◌}
 use Rattle.std.proofs.lemmas.Slice.Eq.{bytes_eq-Decides}
 use Rattle.csub_text.specs.declared.span.Span.{Span}
 use Rattle.csub_types.specs.declared.kind.IntKind.{IntKind}
@@ -9,37 +8,30 @@ use Rattle.csub_types.specs.declared.kind.IntKind.TheVariants.{Char, Int, Unsign
 use Rattle.csub_tree.specs.declared.name.Name.{Name as NameAt}
 use Rattle.csub_tree.specs.declared.name.TypeName.{TypeName}
 use Rattle.csub_tree.specs.declared.name.TypeName.TheVariants as names
-use Rattle.csub_tree.specs.Declarations.{Param, Declarator, Declare, Head}
+use Rattle.csub_tree.specs.Declarations.{Param, Head}
 use Rattle.csub_tree.specs.Statements.{Stmts}
-use Rattle.csub_tree.specs.Units.{Constant, Item, Struct, Enum, Object, Prototype, Function, Source}
+use Rattle.csub_tree.specs.Units.{Item, Struct, Enum, Object, Prototype, Function}
 use Rattle.csub_objects.specs.Types.{Name, TypeTree, type_eq, kind_eq, loose_type, MemberTree}
 use Rattle.csub_objects.proofs.LawsTypes.{type_eq-Decides}
-use Rattle.csub_semantics.specs.Syntax.{FunctionTree, ProgramTree}
-use Rattle.csub_semantics.specs.Types.{name_eq}
+use Rattle.csub_semantics.specs.Syntax.{FunctionTree}
 use Rattle.csub_semantics.specs.Flows.{function_in}
 use Rattle.csub_scopes.specs.Scopes.{Scope, Declared, Meaning, global_object, local_object, enum_constant, a_function, untyped, find as find_name, find_tag}
-use Rattle.csub_rules.specs.declared.fault.Fault.{Fault}
-use Rattle.csub_rules.specs.Faults.{fault_if, ◌or_earlier◌}
+use Rattle.csub_rules.specs.Faults.{fault_if}
 use Rattle.csub_rules.specs.ExprSorts.{number_of}
-use Rattle.csub_rules.specs.Declarators.{number_base, base_type, struct_of, object_type}
+use Rattle.csub_rules.specs.Declarators.{number_base, base_type, struct_of}
 use Rattle.csub_rules.specs.Params.{param_type}
 use Rattle.csub_rules.specs.Here.{Here}
 use Rattle.csub_rules.specs.Labels.{stands_in}
 use Rattle.csub_rules.specs.Bodies.{body_fault}
-use Rattle.csub_rules.specs.Constants.{enum_value}
 use Rattle.csub_rules.proofs.LawsEarlier.{neither, three_none, no_test}
 use Rattle.csub_rules.proofs.LawsServed.{both, both_parts, neither_holds, no_not}
 use Rattle.csub_units.specs.Files.{File, naming, is_known}
-use Rattle.csub_units.specs.Objects.{past_object, past_objects}
-use Rattle.csub_units.specs.Enums.{past_constant, past_constants, past_tag, past_enum, value_after, constant_meaning}
-use Rattle.csub_units.specs.Objects.{global_meaning}
-use Rattle.csub_units.specs.Heads.{at_params, past_name, past_param, sure_type, param_types, signature, types_eq, results_eq, is_other, is_taken, disagrees, is_declared_otherwise, are_typed, contradicts, past_head, head_fault}
+use Rattle.csub_units.specs.Heads.{at_params, past_name, past_param, sure_type, param_types, signature, types_eq, results_eq, is_other, is_taken, disagrees, is_declared_otherwise, are_typed, past_head, head_fault}
 use Rattle.csub_units.specs.Items.{main_name, past_item, past_items, item_fault, items_fault, is_misdefined, is_other_main, lacks_names, has_none, in_function}
 use Rattle.csub_units.specs.Items as items
-use Rattle.csub_units.specs.Units.{undefined_fault, undefineds_fault}
-use Rattle.csub_units.specs.FineItems.{FineHead, FineParams, FineItem, FineItems}
+use Rattle.csub_units.specs.FineItems.{FineHead, FineParams, FineItems}
 use Rattle.csub_resolution.specs.Values.{Defined, params_in, params_or}
-use Rattle.csub_resolution.specs.Programs.{params, params_of, name_or_none, defined_by, defined_in, function_by, functions_by, functions_in}
+use Rattle.csub_resolution.specs.Programs.{params, params_of, defined_by, defined_in, function_by, functions_by, functions_in}
 use Rattle.program_validity.proofs.Files.{items_keep}
 
 -- ---- types of parameters

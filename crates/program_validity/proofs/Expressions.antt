@@ -1,45 +1,39 @@
 -- The values and the places of expressions that break no rule are those of valid programs.
-use Rattle.std.proofs.Common.{◌≡◌, ◌∙◌, refl, sym, ap, subst, arith, ℕ, zero, suc, ◌+◌, ◌≤◌, ◌<◌, ℤ, pos, negsuc, List, [], ◌∷◌, ◌++◌, length}
+use Rattle.std.proofs.Common.{◌≡◌, ◌∙◌, refl, sym, ap, subst, arith, ℕ, ◌+◌, ◌≤◌, ◌<◌, pos, List, [], ◌∷◌, ◌++◌, length}
 use Rattle.std.proofs.Common.{Option, Some, None, Bool, true, false, IsTrue, nat_lt, ◌&&◌, ◌||◌, if◌then◌else◌}
 use Rattle.std.specs.Option.{option_and_then}
 use Rattle.std.proofs.lemmas.Bool.Decides.{nat_tests}
 use Rattle.std.proofs.lemmas.Int.{ints}
 use Rattle.csub_text.specs.declared.operator.BinOp.{BinOp}
 use Rattle.csub_text.specs.declared.operator.BinOp.TheVariants.{Shl, Shr}
-use Rattle.csub_text.specs.declared.operator.UnaryOp.{UnaryOp}
-use Rattle.csub_text.specs.declared.operator.StepOp.{StepOp}
 use Rattle.csub_types.specs.declared.kind.IntKind.{IntKind}
-use Rattle.csub_types.specs.declared.kind.IntKind.TheVariants.{Char as Chars, Int, Unsigned}
+use Rattle.csub_types.specs.declared.kind.IntKind.TheVariants.{Int, Unsigned}
 use Rattle.csub_types.specs.Kinds.{IsOf, promote, common}
 use Rattle.csub_types.specs.Arithmetic.{unary_kind, binary_kind}
 use Rattle.csub_tree.specs.declared.name.Name.{Name as NameAt}
-use Rattle.csub_tree.specs.Expressions.{Expr, Kind, Exprs, Node, Number, Char, Text, Named, Paren, Unary, Cast, Step, Binary, And, Or}
+use Rattle.csub_tree.specs.Expressions.{Expr, Exprs, Node, Number, Char, Text, Named, Paren, Unary, Cast, Step, Binary, And, Or}
 use Rattle.csub_tree.specs.Expressions.{Choose, Assign, Call, Index, Member, NoExprs, MoreExprs}
 use Rattle.csub_objects.specs.Types.{Name, TypeTree, number_type, array_type, struct_type, loose_type, element_type, member_type}
-use Rattle.csub_semantics.specs.declared.expression.Piece.{Piece}
-use Rattle.csub_semantics.specs.Trees.{NamedPlace, NamedExpr, NamedExprs, variable, element_place, member_place, object, temporary}
-use Rattle.csub_semantics.specs.Trees.{constant, reading, unary_operation, conversion, stepping, operation, conjunction, disjunction, choice, assignment, update}
-use Rattle.csub_semantics.specs.Trees.{input_byte, output_byte, formatted, no_expr, more_exprs, expr_count}
-use Rattle.csub_semantics.specs.Formats.{conversion_count}
+use Rattle.csub_semantics.specs.Trees.{NamedPlace, NamedExpr, element_place, member_place}
+use Rattle.csub_semantics.specs.Trees.{reading, unary_operation, conversion, stepping, operation, conjunction, disjunction, choice}
+use Rattle.csub_semantics.specs.Trees.{formatted}
 use Rattle.csub_semantics.specs.Syntax.{Stage}
 use Rattle.csub_scopes.specs.Scopes.{Scope, Declared, Meaning, global_object, local_object, enum_constant, a_function, untyped, find}
 use Rattle.csub_rules.specs.Library.{LibraryName, getchar, putchar, printf, exit, eof, library_name}
-use Rattle.csub_rules.specs.Sorts.{Sort, a_place, a_value, a_void, no_sort, is_number, is_number_place, is_array, has_member, the_kind, sort_if, value_if, element_of, member_of, place_of}
+use Rattle.csub_rules.specs.Sorts.{Sort, a_place, a_value, a_void, no_sort, is_number, is_number_place, the_kind, sort_if, value_if, element_of, member_of, place_of}
 use Rattle.csub_rules.specs.Callees.{Callee, no_function, user_function, getchar_function, putchar_function, printf_function, exit_function}
 use Rattle.csub_rules.specs.Callees.{callee_of, fixed_params, result_sort}
-use Rattle.csub_rules.specs.Formats.{Literal, literal_of, is_format}
 use Rattle.csub_rules.specs.ExprSorts as sorts
 use Rattle.csub_rules.specs.ExprSorts.{sort_of, sorts_of, sort_by, number_literal_kind, named_kind, suits, given_by, call_sort}
 use Rattle.csub_rules.specs.Fine.{Fine, FineArgs, FineNumbers, FinePrint, FineCall}
-use Rattle.csub_rules.proofs.LawsServed.{both}
 use Rattle.csub_resolution.specs.Printed.{format_of}
 use Rattle.csub_resolution.specs.Values.{Defined, count, count_all, own_count, own_call, calls_in, calls_in_all, place, value, values, place_by, value_by}
 use Rattle.csub_resolution.specs.Values.{called_value, first_value, later_values, result_value, no_place, assigned, place_of_meaning, value_of_meaning}
-use Rattle.csub_limits.specs.Prints.{prints, prints_all, printed, values_of}
+use Rattle.csub_limits.specs.Prints.{prints, prints_all, printed}
 use Rattle.csub_validity.specs.Valid as valid
 use Rattle.csub_validity.specs.Valid.{IsPlace, IsExpr, AreExprs, IsModifiable, IsNumberAt, place_type, place_kind, kind_at, kind_of, in_object, most_values, IsFormat}
 use Rattle.program_validity.specs.Written.{WrittenExpr, WrittenExprs}
-use Rattle.program_validity.proofs.Counted.{Stand, stand_left, stand_right, calls_length, calls_length_all, silent}
+use Rattle.program_validity.proofs.Counted.{Stand, stand_left, stand_right, calls_length, calls_length_all}
 use Rattle.program_validity.proofs.Agreeing.{Agrees, IsKnown, IsMeant}
 use Rattle.program_validity.proofs.Printing.{Few, few_left, few_right, format_counts, is_printed}
 

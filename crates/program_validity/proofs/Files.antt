@@ -1,6 +1,6 @@
 -- What is declared at file scope is what the program has.
-use Rattle.std.proofs.Common.{◌≡◌, ◌∙◌, refl, sym, ap, subst, arith, ℕ, ℤ, pos, negsuc, List, [], ◌∷◌, ◌++◌, length, map, find, append_assoc}
-use Rattle.std.proofs.Common.{Option, Some, None, Bool, true, false, IsTrue, is_some, not, bytes_eq, cond, if◌then◌else◌, option_map, ◌&&◌, int_le}
+use Rattle.std.proofs.Common.{◌≡◌, ◌∙◌, refl, sym, subst, arith, ℤ, pos, negsuc, List, [], ◌∷◌, ◌++◌, find, append_assoc}
+use Rattle.std.proofs.Common.{Option, Some, None, Bool, true, false, IsTrue, is_some, bytes_eq, cond, if◌then◌else◌, option_map, int_le}
 use Rattle.std.specs.Option.{option_and_then}
 use Rattle.std.proofs.lemmas.Int.{ints}
 use Rattle.std.proofs.lemmas.List.{append-nil}
@@ -10,27 +10,24 @@ use Rattle.csub_types.specs.Kinds.{IsOf}
 use Rattle.csub_types.specs.Settled.{fits_int}
 use Rattle.csub_tree.specs.declared.name.Name.{Name as NameAt}
 use Rattle.csub_tree.specs.Expressions.{Expr}
-use Rattle.csub_tree.specs.Declarations.{Init, Declarator, Declare, Head}
-use Rattle.csub_tree.specs.Units.{Constant, Item, Struct, Enum, Object, Prototype, Function, Source}
+use Rattle.csub_tree.specs.Declarations.{Declarator, Head}
+use Rattle.csub_tree.specs.Units.{Constant, Item, Struct, Enum, Object, Prototype, Function}
 use Rattle.csub_objects.specs.Types.{Name, TypeTree}
 use Rattle.csub_semantics.specs.Types.{name_eq, GlobalTree}
 use Rattle.csub_scopes.specs.Scopes.{Scope, Declared, Meaning, global_object, local_object, enum_constant, a_function, untyped, find as find_name}
-use Rattle.csub_rules.specs.declared.fault.Fault.{Fault}
-use Rattle.csub_rules.specs.Faults.{fault_if, ◌or_earlier◌}
+use Rattle.csub_rules.specs.Faults.{fault_if}
 use Rattle.csub_rules.specs.Here.{is_reserved}
 use Rattle.csub_rules.specs.Constants.{constant, in_int, enum_value}
 use Rattle.csub_rules.specs.Uses.{enum_fault}
-use Rattle.csub_rules.specs.ExprSorts.{number_of}
 use Rattle.csub_rules.specs.Declarators.{base_type, base_fault, object_type, slot_fault}
-use Rattle.csub_rules.specs.Bodies.{body_fault}
 use Rattle.csub_rules.proofs.LawsEarlier.{neither, three_none, no_test}
 use Rattle.csub_rules.proofs.LawsServed.{both_parts}
-use Rattle.csub_units.specs.Files.{File, no_file, naming, tagging, is_known, name_fault}
-use Rattle.csub_units.specs.Objects.{global_meaning, past_object, past_objects, past_declaration, initial_fault, object_fault, objects_fault, declaration_fault}
-use Rattle.csub_units.specs.Enums.{value_after, constant_meaning, past_constant, past_constants, constant_fault, constants_fault, past_tag, perhaps_tag_fault, past_enum, enumeration_fault}
-use Rattle.csub_units.specs.Heads.{past_head, signature, head_fault, sure_type}
-use Rattle.csub_units.specs.Items.{past_item, past_items, item_fault, items_fault, in_function, is_misdefined}
-use Rattle.csub_units.specs.FineItems.{FineObject, FineObjects, FineItem, FineItems}
+use Rattle.csub_units.specs.Files.{File, naming, is_known, name_fault}
+use Rattle.csub_units.specs.Objects.{global_meaning, past_object, past_objects, initial_fault, object_fault, objects_fault}
+use Rattle.csub_units.specs.Enums.{value_after, constant_meaning, past_constant, past_constants, constant_fault, constants_fault, past_tag, perhaps_tag_fault}
+use Rattle.csub_units.specs.Heads.{past_head, signature}
+use Rattle.csub_units.specs.Items.{past_item, past_items, item_fault, items_fault}
+use Rattle.csub_units.specs.FineItems.{FineObjects, FineItem, FineItems}
 use Rattle.csub_resolution.specs.Programs.{global_by, globals_by, globals_of, globals_in}
 use Rattle.csub_validity.specs.Valid.{global_type}
 use Rattle.program_validity.proofs.Agreeing.{IsKnown, IsMeant}

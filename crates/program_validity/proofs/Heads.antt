@@ -1,24 +1,22 @@
 -- Each function that a scope knows is defined, and the parameters of a function are its first objects.
-use Rattle.std.proofs.Common.{◌≡◌, ◌∙◌, refl, sym, ap, subst, arith, ℕ, zero, ◌+◌, ◌≤◌, ℤ, pos, List, [], ◌∷◌, ◌++◌, map, append_assoc}
+use Rattle.std.proofs.Common.{◌≡◌, ◌∙◌, refl, sym, subst, arith, ℕ, ℤ, pos, List, [], ◌∷◌, ◌++◌, map, append_assoc}
 use Rattle.std.proofs.Common.{Option, Some, None, Bool, true, false, IsTrue, is_some, not, bytes_eq, nat_eq, if◌then◌else◌, option_map, ◌||◌}
-use Rattle.std.specs.List.{list_any}
 use Rattle.std.proofs.lemmas.List.{append-nil}
 use Rattle.std.proofs.lemmas.Bool.Decides.{nat_tests}
 use Rattle.std.proofs.lemmas.Slice.Eq.{bytes_eq-Decides}
 use Rattle.csub_types.specs.declared.kind.IntKind.{IntKind}
 use Rattle.csub_tree.specs.declared.name.Name.{Name as NameAt}
-use Rattle.csub_tree.specs.Declarations.{Param, Declarator, Declare, Head}
+use Rattle.csub_tree.specs.Declarations.{Param, Declarator, Head}
 use Rattle.csub_tree.specs.Units.{Constant, Item, Struct, Enum, Object, Prototype, Function}
 use Rattle.csub_objects.specs.Types.{Name, TypeTree, MemberTree}
 use Rattle.csub_semantics.specs.Syntax.{LocalTree, ProgramTree}
-use Rattle.csub_scopes.specs.Scopes.{Scope, Declared, Meaning, global_object, local_object, enum_constant, a_function, untyped, find as find_name}
-use Rattle.csub_rules.specs.Faults.{fault_if, ◌or_earlier◌}
+use Rattle.csub_scopes.specs.Scopes.{Scope, Declared, Meaning, a_function, find as find_name}
 use Rattle.csub_rules.specs.Constants.{enum_value}
 use Rattle.csub_rules.specs.Declarators.{base_type, object_type}
 use Rattle.csub_rules.specs.Params.{param_type}
 use Rattle.csub_rules.specs.Here.{Here, declaring, local_meaning, number_of, stands_at, is_declared}
 use Rattle.csub_rules.specs.Labels.{stands_in}
-use Rattle.csub_rules.proofs.LawsEarlier.{neither, no_test}
+use Rattle.csub_rules.proofs.LawsEarlier.{neither}
 use Rattle.csub_rules.proofs.LawsServed.{holds}
 use Rattle.csub_units.specs.Files.{File, naming, is_known}
 use Rattle.csub_units.specs.Objects.{global_meaning, past_object, past_objects}

@@ -1,16 +1,14 @@
 -- Initialisers that break no rule are those of valid programs.
-use Rattle.std.proofs.Common.{◌≡◌, ◌∙◌, refl, sym, ap, subst, arith, ℕ, ◌+◌, ◌≤◌, ◌<◌, List, [], ◌∷◌, ◌++◌, length, length-append}
-use Rattle.std.proofs.Common.{Option, Some, None, Bool, true, false, IsTrue, is_some}
-use Rattle.csub_types.specs.declared.kind.IntKind.{IntKind}
+use Rattle.std.proofs.Common.{◌≡◌, refl, arith, ℕ, ◌+◌, List, length, length-append}
+use Rattle.std.proofs.Common.{Option, Some, None, false, IsTrue, is_some}
 use Rattle.csub_tree.specs.Expressions.{Expr}
 use Rattle.csub_tree.specs.Declarations.{Init, Inits, One, Listed, NoInits, MoreInits}
 use Rattle.csub_objects.specs.Types.{TypeTree, number_type, array_type, struct_type, loose_type, IsNumber}
 use Rattle.csub_objects.specs.Parts.{part_type, has_parts}
-use Rattle.csub_semantics.specs.Syntax.{Stage, FunctionTree, ProgramTree}
+use Rattle.csub_semantics.specs.Syntax.{FunctionTree, ProgramTree}
 use Rattle.csub_scopes.specs.Scopes.{Scope}
-use Rattle.csub_rules.specs.Sorts.{is_number, kind_of_type}
+use Rattle.csub_rules.specs.Sorts.{kind_of_type}
 use Rattle.csub_rules.specs.ExprSorts.{sort_of}
-use Rattle.csub_rules.specs.Fine.{Fine}
 use Rattle.csub_rules.specs.BrokenInit.{FineInit, FineEntries, FineValue}
 use Rattle.csub_resolution.specs.Values.{Defined, count, calls_in, place, value}
 use Rattle.csub_resolution.specs.Contents.{init_count, inits_count, init_value, init_values, init_calls, inits_calls}

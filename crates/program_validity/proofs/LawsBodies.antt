@@ -1,12 +1,10 @@
 -- The bodies, the labels and the lists of the program of a source that breaks no rule and passes no limit. Crates above cite these.
-use Rattle.std.proofs.Common.{◌≡◌, ◌≢◌, refl, sym, arith, ◌≤◌, List, [], ◌∷◌, All, AllPairs, Option, Some, None, IsTrue, not}
+use Rattle.std.proofs.Common.{◌≡◌, ◌≢◌, refl, arith, ◌≤◌, List, [], All, AllPairs, Option, Some, None, IsTrue}
 use Rattle.std.specs.Option.{option_or}
 use Rattle.std.proofs.lemmas.List.Elements.{All-cons, All-tail, All-weaker}
 use Rattle.csub_text.specs.declared.span.Span.{Span}
-use Rattle.csub_tree.specs.Units.{Item, Source}
-use Rattle.csub_objects.specs.Types.{Name}
+use Rattle.csub_tree.specs.Units.{Source}
 use Rattle.csub_semantics.specs.Syntax.{FunctionTree, ProgramTree}
-use Rattle.csub_semantics.specs.Flows.{start_name}
 use Rattle.csub_scopes.specs.Scopes.{Scope}
 use Rattle.csub_rules.specs.declared.fault.Fault.{Fault}
 use Rattle.csub_rules.specs.Labels.{stands_in}
@@ -17,7 +15,7 @@ use Rattle.csub_units.specs.Items.{main_name, past_items, items_fault}
 use Rattle.csub_units.specs.Units.{all_defined, undefineds_fault, placed_fault, main_fault, no_place, unit_fault}
 use Rattle.csub_units.proofs.LawsFineItems.{fine_unit}
 use Rattle.csub_resolution.specs.Values.{Defined}
-use Rattle.csub_resolution.specs.Programs.{defined_in, functions_in, globals_in, start, span_of_main, program_of}
+use Rattle.csub_resolution.specs.Programs.{defined_in, functions_in, start, span_of_main, program_of}
 use Rattle.csub_limits.specs.Limits.{limit_passed}
 use Rattle.csub_validity.specs.Valid.{AreStmts, labels_of, no_loop, stmt_count, most_entries}
 use Rattle.program_validity.specs.Names.{NoneIsStart}

@@ -1,6 +1,6 @@
 -- The labels of a function are those of its source.
-use Rattle.std.proofs.Common.{◌≡◌, ◌≢◌, ◌∙◌, refl, sym, ap, subst, arith, ℕ, zero, ◌+◌, List, [], ◌∷◌, ◌++◌, map, AllPairs, All}
-use Rattle.std.proofs.Common.{Option, Some, None, Bool, true, false, IsTrue, not, ◌||◌, bytes_eq}
+use Rattle.std.proofs.Common.{◌≡◌, ◌≢◌, ◌∙◌, refl, sym, ap, arith, ℕ, ◌+◌, List, [], ◌∷◌, ◌++◌, map, AllPairs, All}
+use Rattle.std.proofs.Common.{Option, Bool, true, false, IsTrue, not, ◌||◌, bytes_eq}
 use Rattle.std.specs.List.{list_any}
 use Rattle.std.proofs.lemmas.List.{map-append}
 use Rattle.std.proofs.lemmas.List.Elements.{All-nil, All-cons}
@@ -9,16 +9,15 @@ use Rattle.std.proofs.lemmas.Slice.Eq.{bytes_eq-Decides}
 use Rattle.csub_types.specs.declared.kind.IntKind.{IntKind}
 use Rattle.csub_types.specs.declared.kind.IntKind.TheVariants.{Int}
 use Rattle.csub_tree.specs.declared.name.Name.{Name as NameAt}
-use Rattle.csub_tree.specs.Statements.{Stmt, StmtKind, Perhaps, Stmts, Line, Declared, Eval, Empty, Block, If, While, Do, For, Switch}
+use Rattle.csub_tree.specs.Statements.{Stmt, Perhaps, Stmts, Line, Declared, Eval, Empty, Block, If, While, Do, For, Switch}
 use Rattle.csub_tree.specs.Statements.{Case, Default, Break, Continue, Goto, Label, Return, NoStmt, OneStmt, NoStmts, MoreStmts}
 use Rattle.csub_objects.specs.Types.{Name}
 use Rattle.csub_semantics.specs.Types.{name_eq}
-use Rattle.csub_semantics.specs.Syntax.{StmtTree, StmtTrees, ElseTree}
+use Rattle.csub_semantics.specs.Syntax.{StmtTrees}
 use Rattle.csub_semantics.specs.Successors.{Around, Mark, marks, marks_list, marks_else, in_while, in_for, switching, leaving, enter_list}
 use Rattle.csub_rules.specs.Here.{Here, entering}
 use Rattle.csub_rules.specs.Past.{past, past_perhaps}
 use Rattle.csub_rules.specs.CaseLabels.{switch_kind}
-use Rattle.csub_rules.specs.Labels as rules
 use Rattle.csub_rules.specs.Labels.{labels_of, labels_of_perhaps, labels_of_lines, past_names, stands_in, NamesDiffer}
 use Rattle.csub_resolution.specs.Values.{Defined}
 use Rattle.csub_resolution.specs.Lines.{line, lines, other_line, test_part, for_test, third_parts, first_parts}

@@ -1,13 +1,12 @@
 -- Parts that are made of expressions that break no rule.
-use Rattle.std.proofs.Common.{◌≡◌, ◌∙◌, refl, sym, ap, subst, arith, ℕ, zero, suc, ◌+◌, ◌≤◌, ◌<◌, List, [], ◌∷◌, ◌++◌, length, map, slice_get, append_assoc, add-one, length-append}
-use Rattle.std.proofs.Common.{Option, Some, None, Bool, true, false, IsTrue, if◌then◌else◌}
+use Rattle.std.proofs.Common.{◌≡◌, refl, ap, subst, arith, ℕ, ◌+◌, ◌≤◌, ◌<◌, List, [], ◌∷◌, ◌++◌, length, map, slice_get, append_assoc, add-one, length-append}
+use Rattle.std.proofs.Common.{Option, Some, false, IsTrue}
 use Rattle.std.specs.Option.{option_and_then}
 use Rattle.csub_text.specs.declared.span.Span.{Span}
 use Rattle.csub_types.specs.declared.kind.IntKind.{IntKind}
-use Rattle.csub_tree.specs.Expressions.{Expr, Kind, Exprs, Node, Number, Char, Text, Named, Paren, Unary, Cast, Step, Binary, And, Or}
-use Rattle.csub_tree.specs.Expressions.{Choose, Assign, Call, Index, Member, NoExprs, MoreExprs}
+use Rattle.csub_tree.specs.Expressions.{Expr}
 use Rattle.csub_semantics.specs.Labels.{LabelTree, enters, exits, evaluates, initialises, branches, switches, returns, jumps, halts, calls}
-use Rattle.csub_semantics.specs.Syntax.{Stage, PartTree, FunctionTree, ProgramTree}
+use Rattle.csub_semantics.specs.Syntax.{Stage, FunctionTree, ProgramTree}
 use Rattle.csub_scopes.specs.Scopes.{Scope}
 use Rattle.csub_rules.specs.Sorts.{is_number, the_kind}
 use Rattle.csub_rules.specs.ExprSorts.{sort_of}

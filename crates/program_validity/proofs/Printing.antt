@@ -1,5 +1,5 @@
 -- Formats, and the values that they ask for.
-use Rattle.std.proofs.Common.{◌≡◌, ◌∙◌, refl, sym, ap, subst, arith, ℕ, zero, suc, ◌+◌, ◌≤◌, ◌<◌, List, [], ◌∷◌, ◌++◌, Option, Some, None, Bool, true, false, IsTrue}
+use Rattle.std.proofs.Common.{◌≡◌, ◌∙◌, refl, sym, ap, arith, ℕ, suc, ◌+◌, ◌≤◌, List, [], ◌∷◌, ◌++◌, Option, Some, None, Bool, true, false, IsTrue}
 use Rattle.std.proofs.Common.{bytes_eq, codes, nat_eq, ◌==◌, ◌||◌, if◌then◌else◌, option_map, cond}
 use Rattle.std.proofs.lemmas.Bool.Decides.{nat_tests}
 use Rattle.std.proofs.lemmas.List.Sums.{sum_by-cons}
@@ -7,14 +7,14 @@ use Rattle.csub_tree.specs.Expressions.{Expr, Exprs, NoExprs, MoreExprs}
 use Rattle.csub_objects.specs.Types.{Name}
 use Rattle.csub_semantics.specs.declared.expression.Piece.{Piece}
 use Rattle.csub_semantics.specs.declared.expression.Piece.TheVariants.{Byte, Signed, Plain, Letter}
-use Rattle.csub_semantics.specs.Trees.{NamedExprs, no_expr, more_exprs, expr_count as row_count}
+use Rattle.csub_semantics.specs.Trees.{expr_count as row_count}
 use Rattle.csub_semantics.specs.Formats.{conversion_count, is_conversion as is_converting}
 use Rattle.csub_scopes.specs.Scopes.{Scope, Declared, Meaning, global_object, local_object, enum_constant, a_function, untyped, find}
-use Rattle.csub_rules.specs.Library.{LibraryName, getchar, putchar, printf, exit, eof, library_name}
+use Rattle.csub_rules.specs.Library.{getchar, putchar, printf, exit, eof}
 use Rattle.csub_rules.specs.Callees.{printf_function, callee_of, callee_by, callee_of_declared, callee_of_meaning}
 use Rattle.csub_rules.specs.Formats as formats
 use Rattle.csub_rules.specs.Formats.{Literal, literal_of, is_format, conversions, conversion, is_count}
-use Rattle.csub_resolution.specs.Printed.{format_of, pieces, conversion_pieces, literal_pieces, conversion_piece}
+use Rattle.csub_resolution.specs.Printed.{format_of, pieces, conversion_pieces, literal_pieces}
 use Rattle.csub_resolution.specs.Values.{count, values}
 use Rattle.csub_limits.specs.Prints.{printed, values_of, expr_count}
 use Rattle.csub_validity.specs.Valid.{IsFormat, most_values}

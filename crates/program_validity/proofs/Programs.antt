@@ -1,9 +1,9 @@
 -- The functions of a program whose source breaks no rule.
-use Rattle.std.proofs.Common.{◌≡◌, ◌≢◌, ◌∙◌, refl, sym, ap, subst, arith, ℕ, ◌+◌, ◌≤◌, List, [], ◌∷◌, ◌++◌, map, length, All, AllPairs, find, inl, inr, ⊎_elim, ◌⊎◌}
-use Rattle.std.proofs.Common.{Option, Some, None, Bool, true, false, IsTrue, is_some, not, bytes_eq, cond, if◌then◌else◌, option_map, ◌||◌}
+use Rattle.std.proofs.Common.{◌≡◌, ◌≢◌, ◌∙◌, refl, sym, ap, subst, arith, List, [], ◌∷◌, map, All, AllPairs, inl, inr, ◌⊎◌}
+use Rattle.std.proofs.Common.{Option, Some, None, Bool, true, false, IsTrue, not, bytes_eq, cond, option_map, ◌||◌}
 use Rattle.std.specs.List.{list_any}
 use Rattle.std.proofs.lemmas.List.{append-nil}
-use Rattle.std.proofs.lemmas.List.Elements.{All-nil, All-cons, All-head, All-tail, All-weaker}
+use Rattle.std.proofs.lemmas.List.Elements.{All-nil, All-cons, All-head, All-tail}
 use Rattle.std.proofs.lemmas.Slice.Eq.{bytes_eq-Decides}
 use Rattle.csub_text.specs.declared.span.Span.{Span}
 use Rattle.csub_types.specs.declared.kind.IntKind.{IntKind}
@@ -13,40 +13,38 @@ use Rattle.csub_tree.specs.Statements.{Stmts}
 use Rattle.csub_tree.specs.Units.{Item, Struct, Enum, Object, Prototype, Function}
 use Rattle.csub_objects.specs.Types.{Name, TypeTree}
 use Rattle.csub_semantics.specs.Types.{name_eq}
-use Rattle.csub_semantics.specs.Points.{PointTree, at}
-use Rattle.csub_semantics.specs.Successors.{Mark, marks_list}
+use Rattle.csub_semantics.specs.Points.{at}
 use Rattle.csub_semantics.specs.Syntax.{FunctionTree, ProgramTree}
 use Rattle.csub_semantics.specs.Flows.{start_name, main_name, function_in, function_of, to_exit}
 use Rattle.csub_scopes.specs.Scopes.{Scope, Declared, Meaning, global_object, local_object, enum_constant, a_function, untyped, find as find_name}
-use Rattle.csub_rules.specs.Faults.{fault_if, ◌or_earlier◌}
+use Rattle.csub_rules.specs.Faults.{fault_if}
 use Rattle.csub_rules.specs.ExprSorts.{number_of}
-use Rattle.csub_rules.specs.Here.{Here}
-use Rattle.csub_rules.specs.Labels.{stands_in, labels_of_lines, NamesDiffer}
-use Rattle.csub_rules.specs.StmtFaults.{Surroundings, is_label}
+use Rattle.csub_rules.specs.Labels.{stands_in, labels_of_lines}
+use Rattle.csub_rules.specs.StmtFaults.{Surroundings}
 use Rattle.csub_rules.specs.Bodies.{in_body, body_fault, FineBody}
 use Rattle.csub_rules.proofs.LawsEarlier.{neither, three_none, no_test}
 use Rattle.csub_rules.proofs.LawsServed.{neither_holds}
 use Rattle.csub_units.specs.Files.{File, no_file}
-use Rattle.csub_units.specs.Heads.{at_params, past_params, past_head, head_fault}
+use Rattle.csub_units.specs.Heads.{at_params, past_head, head_fault}
 use Rattle.csub_units.specs.Items.{past_item, past_items, item_fault, items_fault, is_misdefined, is_other_main, lacks_names, in_function}
-use Rattle.csub_units.specs.FineItems.{FineHead, FineItem, FineItems}
-use Rattle.csub_resolution.specs.Values.{Defined, params_in}
-use Rattle.csub_resolution.specs.Lines.{lines, locals_lines}
-use Rattle.csub_resolution.specs.Programs.{most_temps, parts_of_all, params, params_of, defined_in, function_by, functions_by, functions_in, start}
-use Rattle.csub_limits.specs.Prints.{lines_prints, item_prints, items_prints}
+use Rattle.csub_units.specs.FineItems.{FineHead, FineItems}
+use Rattle.csub_resolution.specs.Values.{Defined}
+use Rattle.csub_resolution.specs.Lines.{locals_lines}
+use Rattle.csub_resolution.specs.Programs.{defined_in, function_by, functions_in, start}
+use Rattle.csub_limits.specs.Prints.{lines_prints, items_prints}
 use Rattle.csub_validity.specs.declared.role.Role.TheVariants.{Whole}
-use Rattle.csub_validity.specs.Valid.{AreStmts, AreParts, IsPart, IsCall, IsDefinedAs, IsLast, labels_of, no_loop, parameter_object, start_call, most_entries, stmt_count}
+use Rattle.csub_validity.specs.Valid.{AreStmts, IsPart, IsDefinedAs, labels_of, no_loop, parameter_object, start_call}
 use Rattle.program_validity.specs.Short.{ShortLines}
 use Rattle.program_validity.specs.Written.{WrittenItems, WrittenItem}
 use Rattle.program_validity.proofs.Agreeing.{IsKnown}
 use Rattle.program_validity.proofs.Printing.{Few, few_left, few_right}
 use Rattle.program_validity.proofs.Calls.{CanCall, IsCallable, IsCalled, IsCalledAs}
 use Rattle.program_validity.proofs.Seen.{Sees, Within, SeesIn}
-use Rattle.program_validity.proofs.Marks.{texts, marked_lines, label_stands, names_differ}
+use Rattle.program_validity.proofs.Marks.{marked_lines, label_stands, names_differ}
 use Rattle.program_validity.proofs.Statements.{Around, lines_are}
 use Rattle.program_validity.proofs.Files.{items_keep}
 use Rattle.program_validity.proofs.Definitions.{IsDefined, defined_among, head_keeps_tags, ctypes}
-use Rattle.program_validity.proofs.Heads.{Declares, Fresh, all_fresh, sees_params}
+use Rattle.program_validity.proofs.Heads.{Declares, all_fresh, sees_params}
 
 -- ---- what is known at file scope
 

@@ -1,33 +1,32 @@
 -- What a statement sees is what its function has.
-use Rattle.std.proofs.Common.{◌≡◌, ◌∙◌, refl, sym, ap, subst, arith, ℕ, zero, suc, ◌+◌, ◌≤◌, ◌<◌, List, [], ◌∷◌, ◌++◌, length, map, find, append_assoc, count_by}
-use Rattle.std.proofs.Common.{Option, Some, None, Bool, true, false, IsTrue, nat_eq, bytes_eq, ◌&&◌, cond, if◌then◌else◌, option_map, is_some, eqb-true, true≢false}
+use Rattle.std.proofs.Common.{◌≡◌, ◌∙◌, refl, sym, ap, subst, arith, ℕ, ◌+◌, ◌≤◌, ◌<◌, List, [], ◌∷◌, ◌++◌, map, find, append_assoc, count_by}
+use Rattle.std.proofs.Common.{Option, Some, None, Bool, true, false, IsTrue, nat_eq, bytes_eq, ◌&&◌, cond, if◌then◌else◌, option_map}
 use Rattle.std.proofs.lemmas.Bool.Decides.{nat_tests}
 use Rattle.std.proofs.lemmas.Slice.Eq.{bytes_eq-Decides}
 use Rattle.std.proofs.lemmas.List.{append-nil}
 use Rattle.std.proofs.lemmas.List.Sums.{sum_by-cons}
-use Rattle.csub_types.specs.Kinds.{IsOf}
-use Rattle.csub_tree.specs.Declarations.{Init, Declarator, Declare}
+use Rattle.csub_tree.specs.Declarations.{Declarator}
 use Rattle.csub_tree.specs.Statements.{Stmt, Perhaps, Stmts, Line, Declared as DeclaredLine, Eval, Empty, Block, If, While, Do, For, Switch}
 use Rattle.csub_tree.specs.Statements.{Case, Default, Break, Continue, Goto, Label, Return, NoStmt, OneStmt, NoStmts, MoreStmts}
-use Rattle.csub_objects.specs.Types.{Name, TypeTree, MemberTree, IsSized}
+use Rattle.csub_objects.specs.Types.{Name, TypeTree, IsSized}
 use Rattle.csub_semantics.specs.Types.{name_eq, GlobalTree}
 use Rattle.csub_semantics.specs.Syntax.{LocalTree, FunctionTree, ProgramTree}
 use Rattle.csub_scopes.specs.Scopes.{Scope, Declared, Meaning, global_object, local_object, enum_constant, a_function, untyped, find as find_name}
 use Rattle.csub_rules.specs.Sizes.{is_sized}
 use Rattle.csub_rules.specs.Declarators.{declared_type, if_sized, object_type, base_type}
 use Rattle.csub_rules.specs.BrokenSlot.{FineSlot}
-use Rattle.csub_rules.specs.BrokenLocal.{FineVar, FineVars, FineDeclare}
+use Rattle.csub_rules.specs.BrokenLocal.{FineVar, FineVars}
 use Rattle.csub_rules.specs.FineStmt.{FineStmt, FinePerhaps, FineLines}
 use Rattle.csub_rules.specs.StmtFaults.{Surroundings, in_loop, in_switch, in_first_part}
 use Rattle.csub_rules.specs.Here.{Here, entering, leaving, declaring, number_of}
-use Rattle.csub_rules.specs.Locals.{past_var, past_vars, past_declare}
+use Rattle.csub_rules.specs.Locals.{past_var, past_vars}
 use Rattle.csub_rules.specs.Past.{past, past_perhaps, past_lines}
 use Rattle.csub_rules.proofs.LawsSizes.{is_sized-Decides}
 use Rattle.csub_units.specs.Heads.{sure_type}
 use Rattle.csub_resolution.specs.Values.{Defined}
 use Rattle.csub_resolution.specs.Lines.{vars_locals, locals, locals_perhaps, locals_lines}
 use Rattle.csub_validity.specs.Valid.{type_in, parameter_object, objects_of}
-use Rattle.program_validity.proofs.Agreeing.{Agrees, IsKnown, IsMeant}
+use Rattle.program_validity.proofs.Agreeing.{IsKnown, IsMeant}
 use Rattle.program_validity.proofs.Calls.{CanCall, IsCalledAs}
 use Rattle.program_validity.proofs.Parts.{Stands}
 

@@ -1,27 +1,24 @@
 -- Statements that break no rule are those of valid programs.
-use Rattle.std.proofs.Common.{◌≡◌, ◌∙◌, refl, sym, ap, subst, arith, ℕ, zero, suc, ◌+◌, ◌≤◌, ◌<◌, max, pos, List, [], ◌∷◌, ◌++◌, length, map, inl, inr, All, append_assoc, ◌||◌}
-use Rattle.std.proofs.Common.{Option, Some, None, Bool, true, false, IsTrue, is_some, not, if◌then◌else◌}
+use Rattle.std.proofs.Common.{◌≡◌, ◌∙◌, refl, sym, ap, subst, arith, ℕ, ◌+◌, ◌≤◌, max, List, [], ◌∷◌, ◌++◌, length, map, inl, inr, All, append_assoc, ◌||◌}
+use Rattle.std.proofs.Common.{Option, Some, None, Bool, true, false, IsTrue, is_some, not}
 use Rattle.std.specs.List.{list_any}
 use Rattle.std.proofs.lemmas.Int.{ints}
 use Rattle.std.proofs.lemmas.List.Elements.{All-nil, All-cons, All-append}
 use Rattle.csub_text.specs.declared.span.Span.{Span}
 use Rattle.csub_types.specs.declared.kind.IntKind.{IntKind}
 use Rattle.csub_types.specs.declared.kind.IntKind.TheVariants.{Int}
-use Rattle.csub_types.specs.Kinds.{IsOf, promote, convert}
+use Rattle.csub_types.specs.Kinds.{promote}
 use Rattle.csub_tree.specs.Expressions.{Expr}
 use Rattle.csub_tree.specs.Declarations.{Init, Declarator, Declare}
-use Rattle.csub_tree.specs.Statements.{Stmt, StmtKind, Perhaps, Stmts, Line, Declared, Eval, Empty, Block, If, While, Do, For, Switch as Switched}
+use Rattle.csub_tree.specs.Statements.{Stmt, Perhaps, Stmts, Line, Declared, Eval, Empty, Block, If, While, Do, For, Switch as Switched}
 use Rattle.csub_tree.specs.Statements.{Case, Default, Break, Continue, Goto, Label, Return, NoStmt, OneStmt, NoStmts, MoreStmts}
 use Rattle.csub_objects.specs.Types.{Name, TypeTree}
 use Rattle.csub_semantics.specs.Types.{name_eq}
-use Rattle.csub_semantics.specs.Trees.{OwnerTree, local_owner, constant}
-use Rattle.csub_semantics.specs.Labels.{LabelTree, InitTree, evaluates, initialises, branches, switches, returns, jumps, halts}
-use Rattle.csub_semantics.specs.Syntax.{Stage, PartTree, StmtTree, StmtTrees, ElseTree, LocalTree, FunctionTree, ProgramTree, parts, block, switch_on, for_loop}
+use Rattle.csub_semantics.specs.Trees.{OwnerTree, local_owner}
+use Rattle.csub_semantics.specs.Labels.{LabelTree, InitTree, initialises, branches, switches, returns}
+use Rattle.csub_semantics.specs.Syntax.{Stage, PartTree, LocalTree, FunctionTree, ProgramTree}
 use Rattle.csub_scopes.specs.Scopes.{Scope}
-use Rattle.csub_rules.specs.Sorts.{is_number}
-use Rattle.csub_rules.specs.ExprSorts.{sort_of}
-use Rattle.csub_rules.specs.Fine.{Fine}
-use Rattle.csub_rules.specs.Uses.{Use, as_statement, as_part, as_number, as_constant, has_effect}
+use Rattle.csub_rules.specs.Uses.{Use, as_statement, as_part, as_number}
 use Rattle.csub_rules.specs.BrokenUse.{FineUse}
 use Rattle.csub_rules.specs.BrokenInit.{FineInit}
 use Rattle.csub_rules.specs.BrokenLocal.{FineVar, FineVars, FineValue}
@@ -32,14 +29,12 @@ use Rattle.csub_rules.specs.Locals.{past_var}
 use Rattle.csub_rules.specs.Past.{past, past_perhaps}
 use Rattle.csub_rules.specs.Declarators.{base_type, object_type}
 use Rattle.csub_rules.specs.CaseLabels.{switch_kind}
-use Rattle.csub_rules.specs.Constants as rules
-use Rattle.csub_rules.specs.Words.{word_return, word_for}
+use Rattle.csub_rules.specs.Words.{word_return}
 use Rattle.csub_units.specs.Heads.{sure_type}
-use Rattle.csub_resolution.specs.Values.{Defined, count}
-use Rattle.csub_resolution.specs.Values as values
+use Rattle.csub_resolution.specs.Values.{Defined}
 use Rattle.csub_resolution.specs.Contents.{init_count, init_value, init_calls}
 use Rattle.csub_resolution.specs.Positions.{first_token}
-use Rattle.csub_resolution.specs.Lines.{value, own, own_parts, case_value, calls_in, effect_part, eval_part, exits_with, test_part, for_test, third_parts, switch_part}
+use Rattle.csub_resolution.specs.Lines.{value, own, case_value, calls_in, effect_part, eval_part, exits_with, test_part, for_test, third_parts, switch_part}
 use Rattle.csub_resolution.specs.Lines.{answer, return_part, init_part, var_parts, vars_parts, declare_parts, line, first_parts, other_line, lines}
 use Rattle.csub_resolution.specs.Lines.{vars_locals, locals, locals_perhaps, locals_lines}
 use Rattle.csub_resolution.specs.Programs.{part_temps, most_temps, parts_of, parts_of_all, parts_of_else}
@@ -50,15 +45,13 @@ use Rattle.csub_validity.specs.declared.role.Targets.{Targets}
 use Rattle.csub_validity.specs.Valid as valid
 use Rattle.csub_validity.specs.Valid.{IsExpr, IsLast, IsPart, IsAnswer, IsCase, AreParts, IsForHead, IsStmt, AreStmts, IsElse, IsInitialised, declares, is_declared, scope_of, further_in, most_entries, labels_of, parameter_object, type_in, value_kind}
 use Rattle.program_validity.specs.Written.{WrittenExpr, WrittenMaybe, WrittenInit, WrittenValue, WrittenVars, WrittenStmt, WrittenElse, WrittenFirst, WrittenLines}
-use Rattle.program_validity.specs.Short.{ShortStmt, ShortLines, ShortEach, ShortElse}
-use Rattle.program_validity.proofs.Agreeing.{Agrees}
+use Rattle.program_validity.specs.Short.{ShortStmt, ShortEach, ShortElse}
 use Rattle.program_validity.proofs.Printing.{Few, few_left, few_right}
 use Rattle.program_validity.proofs.Inits.{init_length, init_made, init_calls_made}
-use Rattle.program_validity.proofs.Calls.{CanCall}
 use Rattle.program_validity.proofs.Parts.{MayCall, Stands, own_part, expr_part, expr_kind}
 use Rattle.program_validity.proofs.Effects.{effect_made, eval_made, no_exit}
 use Rattle.program_validity.proofs.Undeclared.{effect_undeclared}
-use Rattle.program_validity.proofs.Seen.{Sees, sees_entering, sees_var, sees_past, sees_perhaps, type_new, none_right, slot_type, Within, within_left, within_right, SeesIn, stands_in, see_more}
+use Rattle.program_validity.proofs.Seen.{sees_entering, sees_var, sees_past, sees_perhaps, type_new, none_right, slot_type, Within, within_left, within_right, SeesIn, stands_in, see_more}
 use Rattle.program_validity.proofs.Cases.{cases_are}
 use Rattle.program_validity.proofs.Converted.{converted}
 

@@ -1,19 +1,15 @@
 -- The pairs of a walk are the reached ones, and with its row they are a closed claim.
-use Rattle.std.proofs.Common.{◌≡◌, ℕ, List, Some, refl, sym, ap, subst, ◌∙◌}
+use Rattle.std.proofs.Common.{◌≡◌, ℕ, List, Some, refl, sym, ap, ◌∙◌}
 use Rattle.std.specs.Prelude.{slice_get}
-use Rattle.std.proofs.lemmas.Option.{slice_get-map}
 use Rattle.csub_objects.specs.Types.{Name}
 use Rattle.csub_semantics.specs.Points.{PointTree, ExitTree}
 use Rattle.csub_semantics.specs.Syntax.{ProgramTree}
 use Rattle.csub_semantics.specs.Flows.{flow_of}
 use Rattle.csub_semantics.specs.Numbers.{site_at}
-use Rattle.csub_semantics.specs.Books as books
 use Rattle.csub_semantics.specs.Books.{Reached, Dangerous, Closed}
 use Rattle.csub_validity.specs.Valid.{IsValid}
-use Rattle.flow_graph.proofs.LawsLists.{made_of}
 use Rattle.dual_walk.specs.declared.fact.Fact.{Fact}
-use Rattle.dual_walk.specs.Books.{IsNamed, named_fact, named_facts}
-use Rattle.dual_walk.specs.Held.{AreAt, IsHeld}
+use Rattle.dual_walk.specs.Held.{AreAt}
 use Rattle.dual_walk.proofs.LawsFacts.{pair_held}
 use Rattle.dual_walk.proofs.LawsNumbers.{edge_of}
 use Rattle.call_walk.specs.declared.answer.WalkResult.{WalkResult}
