@@ -15,5 +15,4 @@ mod Lookups
 mod Indexes
 mod Callees
 mod Programs
-mod Steps
 mod Writes

@@ -14,7 +14,6 @@ use Rattle.csub_flat.specs.Trees as the
 use Rattle.csub_flat.specs.Flatten.{flat_variable, variable_slot, flattened, flat_writes, paired, temp_slot}
 use Rattle.csub_flat.specs.Fits.{FitsLabel}
 use Rattle.csub_flat.specs.Seen.{label_seen}
-use Rattle.csub_flat.specs.Ways.{AreSteps}
 use Rattle.csub_flat.specs.declared.flat.FlatLabel.{FlatLabel as Label}
 use Rattle.csub_flat.specs.declared.program.FlatProgram.{FlatProgram}
 
@@ -62,11 +61,10 @@ first_in (f ∷ rest) = frame_size f
 abbrev pub first_size : ProgramTree → ℕ
 first_size P = first_in P.functions
 
--- a copy for each point, the ways out of each switch, the count of the globals' slots, and no frame larger than the greatest
+-- a copy for each point, the count of the globals' slots, and no frame larger than the greatest
 pub record IsFlatOf (P : ProgramTree) (flat : FlatProgram) : Type 0 where
   pub count : length flat.labels.items ≡ length (point_list P)
   pub copies : (n : ℕ) (m : Label) → n < length flat.labels.items → m ≡ slice_index_or flat.labels.items n m → IsCopyAt P n (label_seen m)
-  pub steps : AreSteps P flat.choices.steps
   pub globals : flat.sizes.globals ≡ objects_size (globals_of P)
   pub most : All (λ f. frame_size f ≤ flat.sizes.most) P.functions
   pub few : flat.sizes.globals ≤ 65536

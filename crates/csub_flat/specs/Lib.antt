@@ -7,5 +7,4 @@ pub mod Seen
 pub mod Globals
 pub mod Objects
 pub mod Scopes
-pub mod Ways
 pub mod Copies

@@ -2,7 +2,7 @@
 use Rattle.std.specs.Prelude.{ℕ, ◌≡◌, ◌<◌, [], length, Option, Some, None}
 use Rattle.csub_objects.specs.Types.{Name}
 use Rattle.csub_semantics.specs.Labels.{LabelTree}
-use Rattle.csub_semantics.specs.Points.{ExitTree, entry}
+use Rattle.csub_semantics.specs.Points.{entry}
 use Rattle.csub_semantics.specs.Globals.{named_globals}
 use Rattle.csub_semantics.specs.Syntax.{ProgramTree}
 use Rattle.csub_semantics.specs.Flows.{point_list, flow_of}
@@ -22,10 +22,6 @@ abbrev pub HasLabel : ProgramTree → ℕ → LabelTree → Type 0
 HasLabel P n l =
     let here = place_of P n in
     (flow_of P).label here.function here.point ≡ Some (record { tree = l; globals = named_globals P.globals l })
-
--- there is no way out along x
-abbrev pub LeadsNowhere : ProgramTree → ℕ → ExitTree → Type 0
-LeadsNowhere P n x = (flow_of P).succ (place_of P n).function (place_of P n).point x ≡ None
 
 -- the number of the entry of a function
 pub record IsEntry (P : ProgramTree) (f : Name) (n : ℕ) : Type 0 where

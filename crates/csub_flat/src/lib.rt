@@ -6,14 +6,12 @@
 //! slots, and an array parameter the slot that says where its array is.
 //!
 //! What is promised of the code: [`flatten_program`] gives for each point of a valid program a copy of its label, in
-//! which every object has its place in the frame of its function or among the globals, the ways out of its switches, by
-//! which [`Choices::choose`] finds the one for a value (`specs/Ways`), and the counts of slots of the globals and of the
-//! greatest frame (`IsFlatOf` of `specs/Copies`). Proofs above cite `proofs/LawsSites`, points and functions by their
-//! numbers and names; `proofs/LawsOrder`, numbers in order; `proofs/LawsSized`, the types of places;
+//! which every object has its place in the frame of its function or among the globals, and the counts of slots of the
+//! globals and of the greatest frame (`IsFlatOf` of `specs/Copies`). Proofs above cite `proofs/LawsSites`, points and
+//! functions by their numbers and names; `proofs/LawsOrder`, numbers in order; `proofs/LawsSized`, the types of places;
 //! `proofs/LawsRows`, rows of expressions as lists; and `proofs/LawsThreads`, that workers may share a flat program.
 #![tactic(auto)]
 
-pub mod choices;
 pub mod flat;
 mod flatten;
 mod frame;
@@ -23,7 +21,6 @@ mod places;
 pub mod program;
 mod scope;
 
-pub use choices::{Choices, Step};
 pub use flat::{
     FlatArg, FlatCall, FlatExpr, FlatGiven, FlatLabel, FlatPart, FlatPlace, FlatVariable,
     FlatWrite, Form,

@@ -14,7 +14,6 @@ ghost use Rattle.csub_flat.specs.Flatten.{temp_slot};
 ghost use Rattle.csub_flat.specs.Copies.{IsFlat, IsFlatCall, IsCopyAt, IsFlatOf, first_size};
 ghost use Rattle.csub_flat.specs.Seen.{call_seen, label_seen};
 
-use crate::choices::{Choices, list_choices};
 use crate::flat::{FlatCall, FlatLabel};
 use crate::flatten::{flatten_args, flatten_expr, flatten_temporary, temporary_slot};
 use crate::frame::{Frame, frame_slots, list_frames};
@@ -36,13 +35,11 @@ pub struct Sizes {
     pub most: u32,
 }
 
-/// The flat copy of a program: a label for each point, the ways out of its switches, and how many slots a run takes.
+/// The flat copy of a program: a label for each point, and how many slots a run takes.
 #[derive(Drop)]
 pub struct FlatProgram {
     /// The labels, by the numbers of their points.
     pub labels: Vec<FlatLabel>,
-    /// The ways out of its switches.
-    pub choices: Choices,
     /// How many slots a run takes.
     pub sizes: Sizes,
 }
@@ -147,32 +144,22 @@ fn flatten_point(
     flatten_label(alloc, graph, scope, graph.label_at(point))
 }
 
-/// The greater of two numbers.
-fn greater(a: u32, b: u32) -> u32
-    ensures first { a ≤ result }
-    ensures second { b ≤ result }
-    ensures small { a ≤ 4096 → b ≤ 4096 → result ≤ 4096 }
-{
-    if a < b { b } else { a }
-}
-
 /// How many slots a frame of a program has at most.
 fn greatest_frame(program: &Program) -> u32
     ensures most { All (λ f. frame_size f ≤ result) (program_tree program.now).functions }
     ensures small { result ≤ 4096 }
 {
     let functions = program.functions();
-    let mut most = 0;
+    let mut most: u32 = 0;
     for i in 0..functions.len() {
-        let slots = frame_slots(&functions[i]);
-        most = greater(most, slots);
+        most = most.max(frame_slots(&functions[i]));
     }
     most
 }
 
 /// The flat copy of a program. An `Err` is want of memory. The work is that of copying the labels, of putting the
-/// objects of the program and of each function and the ways out of switches into ordered maps, a look-up in such a map
-/// for each use of an object, and a comparison of names for each call and function.
+/// objects of the program and of each function into ordered maps, and a look-up in such a map for each use of an object
+/// and each call.
 pub fn flatten_program(
     alloc: Global,
     program: &Program,
@@ -192,12 +179,7 @@ pub fn flatten_program(
         globals: globals_size(globals),
         most: greatest_frame(program),
     };
-    let choices = list_choices(alloc, program, graph)?;
-    Ok(FlatProgram {
-        labels,
-        choices,
-        sizes,
-    })
+    Ok(FlatProgram { labels, sizes })
 }
 
 /// How many slots a frame of the first function has.

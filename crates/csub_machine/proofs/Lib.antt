@@ -3,5 +3,6 @@ mod EdgeLemmas
 mod RowLemmas
 mod WholeLemmas
 mod WayLemmas
+mod Switches
 mod Turns
 mod Moves

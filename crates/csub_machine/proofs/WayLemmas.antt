@@ -1,15 +1,17 @@
 -- What a graph's answers say of where ways out lead.
-use Rattle.std.proofs.Common.{◌≡◌, ◌<◌, ◌∙◌, ℕ, ℤ, List, ◌∷◌, length, Option, Some, None, refl, sym, ap}
-use Rattle.std.specs.Option.{option_map, IfNone}
+use Rattle.std.proofs.Common.{◌≡◌, ◌<◌, ◌∙◌, ℕ, ℤ, List, ◌∷◌, length, Option, Some, None, refl, sym, ap, subst}
+use Rattle.std.specs.Option.{option_map, option_and_then, IfNone, IfSome}
 use Rattle.csub_objects.specs.Types.{Name}
 use Rattle.csub_semantics.specs.Syntax.{ProgramTree}
 use Rattle.csub_semantics.specs.Points.{PointTree, ExitTree}
 use Rattle.csub_semantics.specs.Flows.{Edge, point_list, edge_list, flow_of}
 use Rattle.csub_semantics.specs.Numbers.{Site, site, site_at, edge_at}
-use Rattle.csub_flat.specs.Sites.{place_of, LeadsNowhere}
+use Rattle.flow_graph.specs.Graph.{Tables, IsGraphOf, point_count, edge_count}
+use Rattle.flow_graph.specs.declared.graph.WayOut.{WayOut}
+use Rattle.flow_graph.proofs.LawsPlaces.{points_counted, edges_counted}
+use Rattle.csub_flat.specs.Sites.{place_of}
 use Rattle.csub_flat.proofs.LawsSites.{place_is}
-use Rattle.csub_flat.specs.Ways.{edge_along, LeadsTo}
-use Rattle.csub_flat.specs.declared.choices.Step.{Step}
+use Rattle.csub_machine.specs.Ways.{edge_along, LeadsTo, LeadsNowhere}
 use Rattle.csub_semantics.specs.Acts.{Store}
 use Rattle.csub_semantics.specs.Runs as the
 use Rattle.csub_machine.specs.declared.frames.Frame.{Frame}
@@ -22,20 +24,20 @@ no_way f (Some q) e = cc
 pub leads_nowhere : (P : ProgramTree) (n : ℕ) (x : ExitTree) → ◌≡◌ {A = Option Site} None (option_map (site (place_of P n).function) ((flow_of P).succ (place_of P n).function (place_of P n).point x)) → LeadsNowhere P n x
 leads_nowhere P n x e = no_way (place_of P n).function ((flow_of P).succ (place_of P n).function (place_of P n).point x) e
 
-pub leads_to : (P : ProgramTree) (n to edge : ℕ) (x : ExitTree) → to < length (point_list P) → edge < length (edge_list P)
-    → site_at P to ≡ option_map (site (place_of P n).function) ((flow_of P).succ (place_of P n).function (place_of P n).point x)
-    → edge_at P edge ≡ option_map (λ q. record { function = (place_of P n).function; from = (place_of P n).point; exit = x }) ((flow_of P).succ (place_of P n).function (place_of P n).point x)
-    → LeadsTo P n x (record { to = to; edge = edge })
-leads_to P n to edge x h l e g = step ((flow_of P).succ (place_of P n).function (place_of P n).point x) refl e g
+pub leads_to : (P : ProgramTree) (n : ℕ) (way : WayOut) (x : ExitTree) → way.to < length (point_list P) → way.edge < length (edge_list P)
+    → site_at P way.to ≡ option_map (site (place_of P n).function) ((flow_of P).succ (place_of P n).function (place_of P n).point x)
+    → edge_at P way.edge ≡ option_map (λ q. record { function = (place_of P n).function; from = (place_of P n).point; exit = x }) ((flow_of P).succ (place_of P n).function (place_of P n).point x)
+    → LeadsTo P n x way
+leads_to P n way x h l e g = step ((flow_of P).succ (place_of P n).function (place_of P n).point x) refl e g
   where
     step : (o : Option PointTree) → (flow_of P).succ (place_of P n).function (place_of P n).point x ≡ o
-        → site_at P to ≡ option_map (site (place_of P n).function) o
-        → edge_at P edge ≡ option_map (λ q. record { function = (place_of P n).function; from = (place_of P n).point; exit = x }) o
-        → LeadsTo P n x (record { to = to; edge = edge })
-    step None s e g = absurd (let k = sym (place_is P to h) ∙ e in let f : ⊥ = cc in f)
+        → site_at P way.to ≡ option_map (site (place_of P n).function) o
+        → edge_at P way.edge ≡ option_map (λ q. record { function = (place_of P n).function; from = (place_of P n).point; exit = x }) o
+        → LeadsTo P n x way
+    step None s e g = absurd (let k = sym (place_is P way.to h) ∙ e in let f : ⊥ = cc in f)
     step (Some q) s e g =
-        let k = sym (place_is P to h) ∙ e in
-        let here : place_of P to ≡ site (place_of P n).function q = cc in
+        let k = sym (place_is P way.to h) ∙ e in
+        let here : place_of P way.to ≡ site (place_of P n).function q = cc in
         record {
           point = h;
           edge = l;
@@ -44,20 +46,29 @@ leads_to P n to edge x h l e g = step ((flow_of P).succ (place_of P n).function 
           crosses = g;
         }
 
--- what holds anyway holds where there is nothing
-pub if_none : {A : Type 0} {X : Type 0} (o : Option A) → X → IfNone o X
-if_none None x = x
-if_none (Some a) x = tt
+-- the answer of a graph on the way out along x, in these words
+pub way_is : (g : Tables) (P : ProgramTree) → IsGraphOf g P → (n : ℕ) (x : ExitTree) (o : Option WayOut)
+    → option_and_then (site_at P) (option_map (λ (way : WayOut). way.to) o) ≡ option_map (site (place_of P n).function) ((flow_of P).succ (place_of P n).function (place_of P n).point x)
+    → option_and_then (edge_at P) (option_map (λ (way : WayOut). way.edge) o) ≡ option_map (λ q. record { function = (place_of P n).function; from = (place_of P n).point; exit = x }) ((flow_of P).succ (place_of P n).function (place_of P n).point x)
+    → IfSome o (λ way. way.to < point_count g) → IfSome o (λ way. way.edge < edge_count g) → IfSome o (LeadsTo P n x)
+way_is g P graph n x None leads number to edge = tt
+way_is g P graph n x (Some way) leads number to edge = leads_to P n way x (subst (λ k. way.to < k) (points_counted g P graph) to) (subst (λ k. way.edge < k) (edges_counted g P graph) edge) leads number
+
+pub way_is_not : (P : ProgramTree) (n : ℕ) (x : ExitTree) (o : Option WayOut)
+    → option_and_then (site_at P) (option_map (λ (way : WayOut). way.to) o) ≡ option_map (site (place_of P n).function) ((flow_of P).succ (place_of P n).function (place_of P n).point x)
+    → IfNone o (LeadsNowhere P n x)
+way_is_not P n x None leads = leads_nowhere P n x leads
+way_is_not P n x (Some way) leads = tt
 
 -- a frame that goes on where a way out leads has crossed its edge
-pub crossed_along : (P : ProgramTree) (top : Frame) (x : ExitTree) (step : Step) (r : Option ℤ) (below : List the.Frame) (s : Store) → LeadsTo P top.point x step
+pub crossed_along : (P : ProgramTree) (top : Frame) (x : ExitTree) (way : WayOut) (r : Option ℤ) (below : List the.Frame) (s : Store) → LeadsTo P top.point x way
     → let here = place_of P top.point in
-    let onward : Frame = record { point = step.to; result = r; base = top.base } in
-    the.cross (frame_of P top) below x r s ((flow_of P).succ here.function here.point x) ≡ the.goes (edge_at P step.edge) (record { frames = frame_of P onward ∷ below; store = s })
-crossed_along P top x step r below s l =
-    let Ahead : Name → Option Edge → the.Turn = λ a e. the.goes e (record { frames = record { function = a; point = (place_of P step.to).point; result = r } ∷ below; store = s }) in
+    let onward : Frame = record { point = way.to; result = r; base = top.base } in
+    the.cross (frame_of P top) below x r s ((flow_of P).succ here.function here.point x) ≡ the.goes (edge_at P way.edge) (record { frames = frame_of P onward ∷ below; store = s })
+crossed_along P top x way r below s l =
+    let Ahead : Name → Option Edge → the.Turn = λ a e. the.goes e (record { frames = record { function = a; point = (place_of P way.to).point; result = r } ∷ below; store = s }) in
     ap (the.cross (frame_of P top) below x r s) l.leads ∙ ap (λ a. Ahead a (Some (edge_along P top.point x))) (sym l.function)
-    ∙ ap (Ahead (place_of P step.to).function) (sym l.crosses)
+    ∙ ap (Ahead (place_of P way.to).function) (sym l.crosses)
 
 pub lost_along : (P : ProgramTree) (top : Frame) (x : ExitTree) (r : Option ℤ) (below : List the.Frame) (s : Store) → LeadsNowhere P top.point x
     → let here = place_of P top.point in the.cross (frame_of P top) below x r s ((flow_of P).succ here.function here.point x) ≡ the.lost

@@ -1,4 +1,5 @@
 pub mod Moments
 pub mod Crossed
 pub mod Flat
+pub mod Ways
 pub mod Standings

@@ -12,7 +12,7 @@
 //! - [`Machine::output`], [`Machine::turns`], [`Machine::crossed`]: what the machine shows is that of its moment.
 //!
 //! `specs/Moments` has the words of these contracts. Of the modules, [`turn`] does the act of a point by `csub_slots` and
-//! moves the [`frames`], over [`ways`], or at a switch by its value; [`run`] adds the crossed edges and the count.
+//! moves the [`frames`] over the [`ways`]; [`run`] adds the crossed edges and the count.
 #![tactic(auto)]
 
 mod flat;

@@ -6,7 +6,6 @@ ghost use Rattle.csub_semantics.specs.Runs.{Frame as StandingFrame, turn, exit_a
 ghost use Rattle.csub_semantics.specs.Acts.{Store as Held};
 ghost use Rattle.flow_graph.specs.Graph.{IsGraphOf};
 ghost use Rattle.csub_semantics.specs.Syntax.{program_tree, FunctionTree};
-ghost use Rattle.csub_validity.specs.Valid.{IsValid};
 ghost use Rattle.csub_flat.specs.Sites.{place_of};
 ghost use Rattle.csub_slots.specs.Layout.{live_size};
 ghost use Rattle.csub_flat.specs.Frames.{globals_of};
@@ -17,7 +16,7 @@ ghost use Rattle.csub_flat.specs.Copies.{IsFlatOf};
 ghost use Rattle.csub_machine.specs.Standings.{frame_of, live_function, live_of, standing_of, AreFrames, Moves, Resumes, Crosses, CrossesOfProgram};
 
 use crate::frames::{Frame, Frames};
-use crate::ways::step_along;
+use crate::ways::{way_along, way_at};
 use csub_core::Program;
 use csub_flat::{FlatLabel, FlatProgram};
 use csub_semantics::{ExitLabel, Status};
@@ -53,20 +52,19 @@ fn leave_by(
     ensures function { (place_of (program_tree program.now) top.new.point).function ≡ (place_of (program_tree program.now) top.old.point).function }
     ensures base { top.new.base ≡ top.old.base }
 {
-    match step_along(program, graph, top.point, exit) {
+    match way_along(program, graph, top.point, exit) {
         None => Turn::Lost,
-        Some(step) => {
-            top.point = step.to;
+        Some(way) => {
+            top.point = way.to;
             top.result = given;
-            Turn::Goes(Some(step.edge))
+            Turn::Goes(Some(way.edge))
         }
     }
 }
 
 /// The top frame, which stands at a switch, goes on by a value; its result is kept.
-fn choose_by(program: &Program, flat: &FlatProgram, top: &mut Frame, value: i64) -> Turn
-    requires valid { IsValid (program_tree program.now) }
-    requires copies { IsFlatOf (program_tree program.now) flat.now }
+fn choose_by(program: &Program, graph: &Graph, top: &mut Frame, value: i64) -> Turn
+    requires graph { IsGraphOf graph.now (program_tree program.now) }
     requires point { top.old.point < length (point_list (program_tree program.now)) }
     ensures moves { (below : List StandingFrame) (s : Held) → let P = program_tree program.now in let here = place_of P top.old.point in let x = exit_at ((flow_of P).cases here.function here.point) value in Crosses P (cross (frame_of P top.old) below x top.old.result s ((flow_of P).succ here.function here.point x)) result (record { frames = frame_of P top.new ∷ below; store = s }) }
     ensures point { top.new.point < length (point_list (program_tree program.now)) }
@@ -74,11 +72,11 @@ fn choose_by(program: &Program, flat: &FlatProgram, top: &mut Frame, value: i64)
     ensures function { (place_of (program_tree program.now) top.new.point).function ≡ (place_of (program_tree program.now) top.old.point).function }
     ensures base { top.new.base ≡ top.old.base }
 {
-    match flat.choices.choose(top.point, value) {
+    match way_at(program, graph, top.point, value) {
         None => Turn::Lost,
-        Some(step) => {
-            top.point = step.to;
-            Turn::Goes(Some(step.edge))
+        Some(way) => {
+            top.point = way.to;
+            Turn::Goes(Some(way.edge))
         }
     }
 }
@@ -152,7 +150,7 @@ pub fn take_turn(
         Err(trap) => Turn::Stops(Status::Trap(trap)),
         Ok(Outcome::Ends(status)) => Turn::Stops(status),
         Ok(Outcome::Leaves(exit, given)) => leave_by(program, graph, &mut frames.top, &exit, given),
-        Ok(Outcome::Gives(value)) => choose_by(program, flat, &mut frames.top, value),
+        Ok(Outcome::Gives(value)) => choose_by(program, graph, &mut frames.top, value),
         Ok(Outcome::Pushes(entry, begin)) => {
             push_frame(frames, entry, begin);
             Turn::Goes(None)

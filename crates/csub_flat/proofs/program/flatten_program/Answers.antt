@@ -42,7 +42,6 @@ returns c =
     record {
       count = let points = c.points-point-end.ensures.listed P c.requires.graph in let at = c.loop-point.invariant.count in omega arith;
       copies = c.loop-point.invariant.copies;
-      steps = c.in_ok-choices.ensures;
       globals = c.globals_size.ensures ∙ same;
       most = c.greatest_frame.ensures.most;
       few = rw c.globals_size.ensures few;
