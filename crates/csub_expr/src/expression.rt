@@ -14,8 +14,8 @@ use crate::look::{
     prefix_at, skip, tail_at,
 };
 use crate::node::{
-    assign_node, call_node, cast_node, choice_node, index_node, is_unary, joined_node, member_node,
-    paren_node, prefix_node, step_node,
+    assign_node, boxed, call_node, cast_node, choice_node, index_node, is_unary, joined_node,
+    member_node, paren_node, prefix_node, step_node,
 };
 use crate::operator::Tail;
 use crate::stop::Stop;
@@ -148,21 +148,23 @@ fn longer(
     ensures deeper { IfOk result (λ x. first_depth < x.1) }
     ensures fits { IfOk result (λ x. x.1 ≤ budget) }
 {
+    let first = boxed(alloc, first)?;
     let after = skip(tokens);
     match tail {
         Tail::Index => {
             let (index, depth, after) = assign(alloc, after, budget - 1)?;
+            let index = boxed(alloc, index)?;
             let (close, after) = expect(after, Mark::CloseBracket)?;
-            let node = index_node(alloc, first, index, close.end)?;
+            let node = index_node(first, index, close.end);
             Ok((node, first_depth.max(depth) + 1, after))
         }
         Tail::Member => {
             let (name, after) = expect_name(after)?;
-            Ok((member_node(alloc, first, name)?, first_depth + 1, after))
+            Ok((member_node(first, name), first_depth + 1, after))
         }
         Tail::Step(op) => {
             let end = head_span(tokens).end;
-            Ok((step_node(alloc, op, first, end)?, first_depth + 1, after))
+            Ok((step_node(op, first, end), first_depth + 1, after))
         }
     }
 }
@@ -221,8 +223,9 @@ fn opened(
         return Ok((cast_node(alloc, start, base, inner)?, depth + 1, rest));
     }
     let (inner, depth, rest) = assign(alloc, tokens, budget - 1)?;
+    let inner = boxed(alloc, inner)?;
     let (close, rest) = expect(rest, Mark::CloseParen)?;
-    let node = paren_node(alloc, start, inner, close.end)?;
+    let node = paren_node(start, inner, close.end);
     tails(alloc, node, depth + 1, rest, budget)
 }
 
@@ -338,11 +341,14 @@ fn choice(
     if first_depth >= budget {
         return Ok((first, first_depth, tokens));
     }
+    let first = boxed(alloc, first)?;
     let (left, left_depth, rest) = assign(alloc, skip(tokens), budget - 1)?;
+    let left = boxed(alloc, left)?;
     let (_, rest) = expect(rest, Mark::Colon)?;
     let (right, right_depth, rest) = conditional(alloc, rest, budget - 1)?;
+    let right = boxed(alloc, right)?;
     let depth = first_depth.max(left_depth.max(right_depth)) + 1;
-    Ok((choice_node(alloc, first, left, right)?, depth, rest))
+    Ok((choice_node(first, left, right), depth, rest))
 }
 
 /// A conditional expression (C11 6.5.15) of at most the depth `budget`, its depth and the tokens behind it.

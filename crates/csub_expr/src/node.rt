@@ -38,22 +38,21 @@ pub fn is_unary(e: &Expr) -> bool
 }
 
 /// The expression in a box. All are boxed here, since a call of a generic function at a type of many forms takes long to
-/// prove.
-fn boxed(alloc: Global, e: Expr) -> Result<Box<Expr>, Stop>
+/// prove; and what waits for later operands waits in a box, since it takes long to prove that an expression may be dropped.
+pub fn boxed(alloc: Global, e: Expr) -> Result<Box<Expr>, Stop>
     ensures ok { IfOk result (λ made. made.value ≡ e) }
     ensures err { IfErr result (λ stop. stop ≡ Memory) }
 {
     Ok(Box::new(alloc, e)?)
 }
 
-/// The node of an expression in parentheses, from the opening one to the closing one (C11 6.5.1). An `Err` is want of memory.
-pub fn paren_node(alloc: Global, start: u32, inner: Expr, end: u32) -> Result<Expr, Stop>
-    ensures ok { IfOk result (λ e. expr_tree e ≡ joins (tree.Paren (expr_tree inner)) start end) }
-    ensures err { IfErr result (λ e. e ≡ Memory) }
+/// The node of an expression in parentheses, from the opening one to the closing one (C11 6.5.1).
+pub fn paren_node(start: u32, inner: Box<Expr>, end: u32) -> Expr
+    ensures { expr_tree result ≡ joins (tree.Paren (expr_tree inner.value)) start end }
 {
     let span = Span { start, end };
-    let kind = ExprKind::Paren(boxed(alloc, inner)?);
-    Ok(Expr { kind, span })
+    let kind = ExprKind::Paren(inner);
+    Expr { kind, span }
 }
 
 /// The node of a cast, from the opening parenthesis on (C11 6.5.4). An `Err` is want of memory.
@@ -131,60 +130,52 @@ pub fn assign_node(alloc: Global, op: Option<BinOp>, left: Expr, right: Expr) ->
     Ok(Expr { kind, span })
 }
 
-/// The node of a choice (C11 6.5.15). An `Err` is want of memory.
-pub fn choice_node(alloc: Global, test: Expr, left: Expr, right: Expr) -> Result<Expr, Stop>
-    ensures ok { IfOk result (λ e. expr_tree e ≡ joins (tree.Choose (expr_tree test) (expr_tree left) (expr_tree right)) (span_of (expr_tree test)).start (span_of (expr_tree right)).end) }
-    ensures err { IfErr result (λ e. e ≡ Memory) }
+/// The node of a choice (C11 6.5.15).
+pub fn choice_node(test: Box<Expr>, left: Box<Expr>, right: Box<Expr>) -> Expr
+    ensures { expr_tree result ≡ joins (tree.Choose (expr_tree test.value) (expr_tree left.value) (expr_tree right.value)) (span_of (expr_tree test.value)).start (span_of (expr_tree right.value)).end }
 {
     let span = Span {
         start: test.span.start,
         end: right.span.end,
     };
-    let kind = ExprKind::Choose(
-        boxed(alloc, test)?,
-        boxed(alloc, left)?,
-        boxed(alloc, right)?,
-    );
-    Ok(Expr { kind, span })
+    let kind = ExprKind::Choose(test, left, right);
+    Expr { kind, span }
 }
 
-/// The node of an index, up to the closing bracket (C11 6.5.2.1). An `Err` is want of memory.
-pub fn index_node(alloc: Global, array: Expr, index: Expr, end: u32) -> Result<Expr, Stop>
-    ensures ok { IfOk result (λ e. expr_tree e ≡ joins (tree.Index (expr_tree array) (expr_tree index)) (span_of (expr_tree array)).start end) }
-    ensures err { IfErr result (λ e. e ≡ Memory) }
+/// The node of an index, up to the closing bracket (C11 6.5.2.1).
+pub fn index_node(array: Box<Expr>, index: Box<Expr>, end: u32) -> Expr
+    ensures { expr_tree result ≡ joins (tree.Index (expr_tree array.value) (expr_tree index.value)) (span_of (expr_tree array.value)).start end }
 {
     let span = Span {
         start: array.span.start,
         end,
     };
-    let kind = ExprKind::Index(boxed(alloc, array)?, boxed(alloc, index)?);
-    Ok(Expr { kind, span })
+    let kind = ExprKind::Index(array, index);
+    Expr { kind, span }
 }
 
-/// The node of a member (C11 6.5.2.3). An `Err` is want of memory.
-pub fn member_node(alloc: Global, object: Expr, name: Name) -> Result<Expr, Stop>
-    ensures ok { IfOk result (λ e. expr_tree e ≡ joins (tree.Member (expr_tree object) name) (span_of (expr_tree object)).start name.span.end) }
-    ensures err { IfErr result (λ e. e ≡ Memory) }
+/// The node of a member (C11 6.5.2.3).
+pub fn member_node(object: Box<Expr>, name: Name) -> Expr
+    ensures { expr_tree result ≡ joins (tree.Member (expr_tree object.value) name) (span_of (expr_tree object.value)).start name.span.end }
 {
     let span = Span {
         start: object.span.start,
         end: name.span.end,
     };
-    let kind = ExprKind::Member(boxed(alloc, object)?, name);
-    Ok(Expr { kind, span })
+    let kind = ExprKind::Member(object, name);
+    Expr { kind, span }
 }
 
-/// The node of a step behind its operand, up to the mark (C11 6.5.2.4). An `Err` is want of memory.
-pub fn step_node(alloc: Global, op: StepOp, operand: Expr, end: u32) -> Result<Expr, Stop>
-    ensures ok { IfOk result (λ e. expr_tree e ≡ joins (tree.Step op (expr_tree operand)) (span_of (expr_tree operand)).start end) }
-    ensures err { IfErr result (λ e. e ≡ Memory) }
+/// The node of a step behind its operand, up to the mark (C11 6.5.2.4).
+pub fn step_node(op: StepOp, operand: Box<Expr>, end: u32) -> Expr
+    ensures { expr_tree result ≡ joins (tree.Step op (expr_tree operand.value)) (span_of (expr_tree operand.value)).start end }
 {
     let span = Span {
         start: operand.span.start,
         end,
     };
-    let kind = ExprKind::Step(op, boxed(alloc, operand)?);
-    Ok(Expr { kind, span })
+    let kind = ExprKind::Step(op, operand);
+    Expr { kind, span }
 }
 
 /// The node of a call, up to the closing parenthesis (C11 6.5.2.2).
