@@ -1,3 +1,4 @@
 mod Called
 mod Fits
 mod Places
+mod Each

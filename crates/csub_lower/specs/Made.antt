@@ -1,14 +1,15 @@
 -- What the code makes of an expression.
-use Rattle.std.specs.Prelude.{◌≡◌, ℕ}
+use Rattle.std.specs.Prelude.{◌≡◌, ℕ, Some}
 use Rattle.csub_tree.specs.Expressions.{Expr}
 use Rattle.csub_objects.specs.Types.{TypeTree, number_type, array_type, struct_type, loose_type}
 use Rattle.csub_objects.specs.Meaning.{type_tree}
 use Rattle.csub_scopes.specs.Scopes.{Scope}
 use Rattle.csub_semantics.specs.Trees.{NamedPlace, NamedExpr, NamedArg, reading, value_argument, array_argument, place_tree, expr_tree}
-use Rattle.csub_rules.specs.Sorts.{Sort, a_place, a_value, a_void}
+use Rattle.csub_rules.specs.Sorts.{Sort, a_place, a_value, a_void, kind_of}
 use Rattle.csub_rules.specs.ExprSorts.{sort_of}
 use Rattle.csub_resolution.specs.Values.{place, value, no_place, zero}
 use Rattle.csub_lower.specs.declared.made.Made.{Made}
+use Rattle.csub_lower.specs.declared.made.Number.{Number}
 use Rattle.csub_lower.specs.declared.made.Made.TheVariants.{Place, Value, Void}
 
 abbrev pub made_sort : Made → Sort
@@ -38,3 +39,8 @@ pub record IsMade (scope : Scope) (k : ℕ) (e : Expr) (m : Made) : Type 0 where
   pub sort : sort_of scope e ≡ made_sort m
   pub place : place scope k e ≡ made_place m
   pub value : value scope k e ≡ made_value m
+
+-- what was made is the number that the expression, before which its part makes k calls, stands for
+pub record IsNumber (scope : Scope) (k : ℕ) (e : Expr) (n : Number) : Type 0 where
+  pub kind : kind_of (sort_of scope e) ≡ Some n.kind
+  pub value : value scope k e ≡ expr_tree n.value.value

@@ -1,17 +1,17 @@
 //! The second pass over an expression.
-ghost use Rattle.std.specs.Prelude.{◌≡◌, ◌+◌, ◌++◌, Some, false, IfOk, OnOk, IsTrue, length, map};
+ghost use Rattle.std.specs.Prelude.{◌≡◌, ◌+◌, ◌++◌, false, IfOk, OnOk, IsTrue, length, map};
 ghost use Rattle.csub_tree.specs.Expressions.{Call, Node, expr_tree, exprs_of};
 ghost use Rattle.csub_objects.specs.Meaning.{type_tree};
 ghost use Rattle.csub_scopes.specs.Meanings.{scope_of};
 ghost use Rattle.csub_semantics.specs.Trees.{arg_tree, expr_tree as value_tree};
 ghost use Rattle.csub_semantics.specs.Syntax.{call_stage};
-ghost use Rattle.csub_rules.specs.Sorts.{is_number, kind_of};
+ghost use Rattle.csub_rules.specs.Sorts.{is_number};
 ghost use Rattle.csub_rules.specs.Callees.{take_all};
 ghost use Rattle.csub_rules.specs.ExprSorts.{sort_of, sorts_of};
 ghost use Rattle.csub_rules.specs.Fine.{Fine, FineKind, FineNumbers};
 ghost use Rattle.csub_resolution.specs.Values.{arguments, calls_in, calls_in_all, calls_in_kind, count, count_all, count_kind, value};
 ghost use Rattle.csub_lower.specs.Calls.{FineEach, value_list};
-ghost use Rattle.csub_lower.specs.Made.{IsMade};
+ghost use Rattle.csub_lower.specs.Made.{IsMade, IsNumber};
 
 use crate::argument::{call_args, fitting_args, next_type, output_arg, printed_args};
 use crate::call::make_call;
@@ -56,35 +56,29 @@ pub fn lower<'t>(
         ExprKind::Cast(to, a) => cast_node(alloc, to, number_of(alloc, known, a, made)?),
         ExprKind::Step(op, a) => step_node(alloc, *op, lower(alloc, known, a, made)?),
         ExprKind::Binary(op, a, b) => {
-            let a = number_of(alloc, known, a, made)?;
-            let b = number_of(alloc, known, b, made)?;
+            let (a, b) = two_numbers(alloc, known, a, b, made)?;
             binary_node(alloc, *op, a, b)
         }
         ExprKind::And(a, b) => {
-            let a = number_of(alloc, known, a, made)?;
-            let b = number_of(alloc, known, b, made)?;
+            let (a, b) = two_numbers(alloc, known, a, b, made)?;
             and_node(alloc, a, b)
         }
         ExprKind::Or(a, b) => {
-            let a = number_of(alloc, known, a, made)?;
-            let b = number_of(alloc, known, b, made)?;
+            let (a, b) = two_numbers(alloc, known, a, b, made)?;
             or_node(alloc, a, b)
         }
         ExprKind::Choose(c, a, b) => {
             let c = number_of(alloc, known, c, made)?;
-            let a = number_of(alloc, known, a, made)?;
-            let b = number_of(alloc, known, b, made)?;
+            let (a, b) = two_numbers(alloc, known, a, b, made)?;
             choice_node(alloc, c, a, b)
         }
         ExprKind::Assign(op, a, b) => {
-            let a = lower(alloc, known, a, made)?;
-            let b = number_of(alloc, known, b, made)?;
+            let (a, b) = made_and_number(alloc, known, a, b, made)?;
             assign_node(alloc, *op, a, b)
         }
         ExprKind::Call(f, args) => call(alloc, known, f, call_args(known.scope, f, args), made),
         ExprKind::Index(a, i) => {
-            let a = lower(alloc, known, a, made)?;
-            let i = number_of(alloc, known, i, made)?;
+            let (a, i) = made_and_number(alloc, known, a, i, made)?;
             index_node(alloc, a, i)
         }
         ExprKind::Member(a, m) => member_node(alloc, lower(alloc, known, a, made)?, m),
@@ -101,12 +95,59 @@ fn number_of(
 ) -> Result<Number, AllocError>
     requires fine { Fine (scope_of known.scope.now) false (expr_tree e.now) }
     requires number { IsTrue (is_number (sort_of (scope_of known.scope.now) (expr_tree e.now))) }
-    ensures kind { IfOk result (λ n. kind_of (sort_of (scope_of known.entry.scope.now) (expr_tree e.now)) ≡ Some n.kind) }
-    ensures value { IfOk result (λ n. value (scope_of known.entry.scope.now) (length made.old.items) (expr_tree e.now) ≡ value_tree n.value.value) }
+    ensures number { IfOk result (λ n. IsNumber (scope_of known.entry.scope.now) (length made.old.items) (expr_tree e.now) n) }
     ensures calls { OnOk result (map call_stage made.new.items ≡ map call_stage made.old.items ++ calls_in known.entry.definitions.now (scope_of known.entry.scope.now) (length made.old.items) (expr_tree e.now)) }
     ensures count { OnOk result (length made.new.items ≡ length made.old.items + count (scope_of known.entry.scope.now) (expr_tree e.now)) }
 {
     to_number(alloc, lower(alloc, known, e, made)?)
+}
+
+/// The numbers that two expressions stand for, with the calls of the first before those of the second; see `lower`.
+#[cycle(lower)]
+fn two_numbers(
+    alloc: Global,
+    known: Known,
+    a: &Expr,
+    b: &Expr,
+    made: &mut Vec<RCall>,
+) -> Result<(Number, Number), AllocError>
+    requires first { Fine (scope_of known.scope.now) false (expr_tree a.now) }
+    requires second { Fine (scope_of known.scope.now) false (expr_tree b.now) }
+    requires first_number { IsTrue (is_number (sort_of (scope_of known.scope.now) (expr_tree a.now))) }
+    requires second_number { IsTrue (is_number (sort_of (scope_of known.scope.now) (expr_tree b.now))) }
+    ensures first { IfOk result (λ p. IsNumber (scope_of known.entry.scope.now) (length made.old.items) (expr_tree a.now) p.0) }
+    ensures second { IfOk result (λ p. IsNumber (scope_of known.entry.scope.now) (length made.old.items + count (scope_of known.entry.scope.now) (expr_tree a.now)) (expr_tree b.now) p.1) }
+    ensures calls { OnOk result (map call_stage made.new.items ≡ map call_stage made.old.items ++ (calls_in known.entry.definitions.now (scope_of known.entry.scope.now) (length made.old.items) (expr_tree a.now)
+        ++ calls_in known.entry.definitions.now (scope_of known.entry.scope.now) (length made.old.items + count (scope_of known.entry.scope.now) (expr_tree a.now)) (expr_tree b.now))) }
+    ensures count { OnOk result (length made.new.items ≡ length made.old.items + (count (scope_of known.entry.scope.now) (expr_tree a.now) + count (scope_of known.entry.scope.now) (expr_tree b.now))) }
+{
+    let a = number_of(alloc, known, a, made)?;
+    let b = number_of(alloc, known, b, made)?;
+    Ok((a, b))
+}
+
+/// What an expression and a number behind it stand for, with the calls of the first before those of the second; see
+/// `lower`.
+#[cycle(lower)]
+fn made_and_number<'t>(
+    alloc: Global,
+    known: Known<'t>,
+    a: &Expr,
+    b: &Expr,
+    made: &mut Vec<RCall>,
+) -> Result<(Made<'t>, Number), AllocError>
+    requires first { Fine (scope_of known.scope.now) false (expr_tree a.now) }
+    requires second { Fine (scope_of known.scope.now) false (expr_tree b.now) }
+    requires second_number { IsTrue (is_number (sort_of (scope_of known.scope.now) (expr_tree b.now))) }
+    ensures first { IfOk result (λ p. IsMade (scope_of known.entry.scope.now) (length made.old.items) (expr_tree a.now) p.0) }
+    ensures second { IfOk result (λ p. IsNumber (scope_of known.entry.scope.now) (length made.old.items + count (scope_of known.entry.scope.now) (expr_tree a.now)) (expr_tree b.now) p.1) }
+    ensures calls { OnOk result (map call_stage made.new.items ≡ map call_stage made.old.items ++ (calls_in known.entry.definitions.now (scope_of known.entry.scope.now) (length made.old.items) (expr_tree a.now)
+        ++ calls_in known.entry.definitions.now (scope_of known.entry.scope.now) (length made.old.items + count (scope_of known.entry.scope.now) (expr_tree a.now)) (expr_tree b.now))) }
+    ensures count { OnOk result (length made.new.items ≡ length made.old.items + (count (scope_of known.entry.scope.now) (expr_tree a.now) + count (scope_of known.entry.scope.now) (expr_tree b.now))) }
+{
+    let a = lower(alloc, known, a, made)?;
+    let b = number_of(alloc, known, b, made)?;
+    Ok((a, b))
 }
 
 /// What a call that breaks no rule stands for; see `lower`.

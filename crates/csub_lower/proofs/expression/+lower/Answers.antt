@@ -1,4 +1,4 @@
-use Rattle.std.proofs.Common.{◌∙◌, ◌+◌, ◌++◌, ap, map, length}
+use Rattle.std.proofs.Common.{◌∙◌, ◌+◌, ◌++◌, ap, arith, map, length}
 use Rattle.csub_types.specs.declared.kind.IntKind.TheVariants.{Int}
 use Rattle.csub_tree.specs.Expressions.{expr_tree, exprs_of}
 use Rattle.csub_scopes.specs.Meanings.{scope_of}
@@ -11,7 +11,18 @@ use Rattle.csub_rules.specs.Callees.{callee_of}
 use Rattle.csub_resolution.specs.Values.{first_value, no_place, calls_in_all, count_all}
 use Rattle.csub_lower.specs.Calls.{value_list}
 use Rattle.csub_lower.proofs.Called.{ok_made, on_ok, one_value, input_made, input_calls, input_count, output_made, printed_made, printed_calls, printed_count}
+use Rattle.csub_lower.proofs.Each.{small, fine, number}
 use Rattle.csub_lower.proofs.expression.+lower.Goals as goal
+
+pub arguments-lower-requires : goal.arguments-lower-requires
+arguments-lower-requires t c =
+    let least = small c.args.args.now c.loop-arg.arg-index c.arg-item.result c.loop-arg-test.true c.arg-item.is in
+    (omega arith, fine c.args.args.now c.loop-arg.arg-index c.arg-item.result c.loop-arg-test.true c.arg-item.is (scope_of c.args.known.scope.now) c.loop-arg.invariant.fine)
+
+pub numbers-number_of-requires : goal.numbers-number_of-requires
+numbers-number_of-requires t c =
+    let least = small c.args.args.now c.loop-arg.arg-index c.arg-item.result c.loop-arg-test.true c.arg-item.is in
+    (omega arith, number c.args.args.now c.loop-arg.arg-index c.arg-item.result c.loop-arg-test.true c.arg-item.is (scope_of c.args.known.scope.now) c.loop-arg.invariant.fine)
 
 pub call-output_node-requires : goal.call-output_node-requires
 call-output_node-requires t c =

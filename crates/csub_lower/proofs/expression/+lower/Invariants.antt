@@ -1,4 +1,4 @@
-use Rattle.std.proofs.Common.{◌≡◌, ◌+◌, ◌++◌, IsTrue, map, drop, length}
+use Rattle.std.proofs.Common.{◌≡◌, ◌+◌, ◌*◌, ◌++◌, IsTrue, map, drop, length}
 use Rattle.csub_tree.specs.Expressions.{expr_tree, exprs_of}
 use Rattle.csub_objects.specs.Meaning.{type_tree}
 use Rattle.csub_scopes.specs.Meanings.{scope_of}
@@ -10,7 +10,29 @@ use Rattle.csub_rules.specs.ExprSorts.{sorts_of}
 use Rattle.csub_rules.specs.Fine.{FineNumbers}
 use Rattle.csub_resolution.specs.Values.{arguments, calls_in_all, count_all}
 use Rattle.csub_lower.specs.Calls.{FineEach, value_list}
+use Rattle.csub_lower.specs.Sizes.{size, all_size}
 use Rattle.csub_lower.proofs.expression.+lower.Given as goal
+
+abbrev pub decreases-lower : goal.decreases-lower
+decreases-lower l = 4 * size (expr_tree l.e.now)
+
+abbrev pub decreases-number_of : goal.decreases-number_of
+decreases-number_of l = 4 * size (expr_tree l.e.now) + 1
+
+abbrev pub decreases-two_numbers : goal.decreases-two_numbers
+decreases-two_numbers l = 4 * (size (expr_tree l.a.now) + size (expr_tree l.b.now)) + 2
+
+abbrev pub decreases-made_and_number : goal.decreases-made_and_number
+decreases-made_and_number l = 4 * (size (expr_tree l.a.now) + size (expr_tree l.b.now)) + 2
+
+abbrev pub decreases-call : goal.decreases-call
+decreases-call l = 4 * all_size (exprs_of (map expr_tree l.args.now)) + 3
+
+abbrev pub decreases-arguments : goal.decreases-arguments
+decreases-arguments l = 4 * all_size (exprs_of (map expr_tree l.args.now)) + 2
+
+abbrev pub decreases-numbers : goal.decreases-numbers
+decreases-numbers l = 4 * all_size (exprs_of (map expr_tree l.args.now)) + 2
 
 abbrev pub invariant-arguments-loop-arg : goal.invariant-arguments-loop-arg
 invariant-arguments-loop-arg l = record {
