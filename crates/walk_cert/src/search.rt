@@ -10,18 +10,9 @@ pub fn has_pair(pairs: &[Pair], old: u32, new: u32) -> bool
     requires { Rise pairs.now }
     ensures { IsTrue result ↔ HasPair pairs.now old new }
 {
-    let wanted = Pair { old, new };
-    let mut low = 0;
-    let mut high = pairs.len();
-    while low < high {
-        let middle = low + (high - low) / 2;
-        if is_before(pairs[middle], wanted) {
-            low = middle + 1;
-        } else {
-            high = middle;
-        }
-    }
-    low < pairs.len() && is_pair(pairs[low], old, new)
+    pairs
+        .binary_search_by_key(&(old, new), |pair| (pair.old, pair.new))
+        .is_ok()
 }
 
 // Whether a pair stands before another: by its old point, and then by its new one.
@@ -29,13 +20,6 @@ fn is_before(a: Pair, b: Pair) -> bool
     ensures { IsTrue result ↔ IsBefore a b }
 {
     a.old < b.old || (a.old == b.old && a.new < b.new)
-}
-
-// Whether a pair has these numbers.
-fn is_pair(pair: Pair, old: u32, new: u32) -> bool
-    ensures { IsTrue result ↔ ((pair.old ≡ old) × (pair.new ≡ new)) }
-{
-    pair.old == old && pair.new == new
 }
 
 /// Whether a pair comes after the last one, if there is any.
