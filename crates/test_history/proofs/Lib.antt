@@ -9,5 +9,6 @@ mod PlainLemmas
 mod ReadLemmas
 mod SameLemmas
 mod StatusLemmas
+mod TrapLemmas
 mod Threads
 mod WholeLemmas

@@ -1,5 +1,5 @@
 //! The lines of a word and a value, read off the front of a text.
-ghost use Rattle.std.specs.Prelude.{◌≡◌, ◌<◌, ◌++◌, ◌∷◌, ℕ, List, codes, MatchOption};
+ghost use Rattle.std.specs.Prelude.{◌≡◌, ◌<◌, ◌++◌, ◌∷◌, ℕ, List, MatchOption, bytes_eq, codes, find, option_map};
 ghost use Rattle.csub_semantics.specs.declared.status.Status.{Status};
 ghost use Rattle.line_text.specs.Words.{line_of_words};
 ghost use Rattle.test_suite.specs.Tests.{IsTestName};
@@ -9,6 +9,7 @@ ghost use Rattle.test_history.specs.HistoryTexts.{status_words, trap_name};
 ghost use Rattle.line_text.specs.Lines.{HasLine};
 ghost use Rattle.test_history.specs.Rules.{HasName};
 
+use crate::lines::name_of_trap;
 use csub_semantics::{Status, Trap};
 use line_text::{Value, cut_value, read_decimal};
 use test_suite::is_test_name;
@@ -56,21 +57,30 @@ fn status_of(words: &[u8]) -> Option<Status>
     Some(Status::Trap(trap))
 }
 
+/// Every trap.
+const TRAPS: [Trap; 8] = [
+    Trap::Overflow,
+    Trap::Divide,
+    Trap::Shift,
+    Trap::Bounds,
+    Trap::Unset,
+    Trap::Flood,
+    Trap::Depth,
+    Trap::Missing,
+];
+
+// The first of these traps that has this name.
+fn find_trap<'t>(traps: &'t [Trap], name: &[u8]) -> Option<&'t Trap>
+    ensures { option_map (λ trap. trap.now) result ≡ find (λ trap. bytes_eq (trap_name trap) name.now) traps.now }
+{
+    traps.iter().find(|trap| name_of_trap(**trap) == name)
+}
+
 // The trap of this name.
 fn trap_of(name: &[u8]) -> Option<Trap>
     ensures { MatchOption result
         ((trap : Trap) → ¬ (name.now ≡ trap_name trap))
         (λ trap. name.now ≡ trap_name trap) }
 {
-    match name {
-        b"overflow" => Some(Trap::Overflow),
-        b"divide" => Some(Trap::Divide),
-        b"shift" => Some(Trap::Shift),
-        b"bounds" => Some(Trap::Bounds),
-        b"unset" => Some(Trap::Unset),
-        b"flood" => Some(Trap::Flood),
-        b"depth" => Some(Trap::Depth),
-        b"missing" => Some(Trap::Missing),
-        _ => None,
-    }
+    find_trap(&TRAPS, name).copied()
 }
