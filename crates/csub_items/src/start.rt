@@ -6,6 +6,7 @@ ghost use Rattle.csub_validity.specs.Valid.{start_call};
 ghost use Rattle.csub_resolution.specs.Programs.{span_of_main, start};
 
 use csub_semantics::{CallLabel, Function, RCall, RPart, RStmt};
+use csub_statements::{parts_node, push_line};
 use csub_text::{Span, Text};
 use csub_types::IntKind;
 use std::alloc::{AllocError, Global};
@@ -71,8 +72,7 @@ fn start_row(alloc: Global, at: Span) -> Result<Vec<RPart>, AllocError>
 fn start_line(alloc: Global, at: Span) -> Result<Box<RStmt>, AllocError>
     ensures { IfOk result (λ made. stmt_tree made.value ≡ parts ((record { label = start_call; span = at } ∷ []) ∷ [])) }
 {
-    let row = start_row(alloc, at)?;
-    Ok(Box::new(alloc, RStmt::Parts(row))?)
+    parts_node(alloc, start_row(alloc, at)?)
 }
 
 /// The body of `#start`.
@@ -81,7 +81,7 @@ fn start_body(alloc: Global, at: Span) -> Result<Vec<RStmt>, AllocError>
 {
     let line = start_line(alloc, at)?;
     let mut body = Vec::new(alloc);
-    body.push(Box::into_inner(line))?;
+    push_line(&mut body, line)?;
     Ok(body)
 }
 

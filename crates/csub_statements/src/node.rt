@@ -36,8 +36,16 @@ fn boxed(alloc: Global, made: RStmt) -> Result<Box<RStmt>, AllocError>
     Ok(Box::new(alloc, made)?)
 }
 
-/// A statement of these parts.
-pub(crate) fn parts_node(alloc: Global, row: Vec<RPart>) -> Result<Box<RStmt>, AllocError>
+/// Adds a statement to lines. An `Err` is want of memory. All are added here, for the same reason.
+pub fn push_line(lines: &mut Vec<RStmt>, line: Box<RStmt>) -> Result<(), AllocError>
+    ensures { OnOk result (lines.new.items ≡ lines.old.items ++ line.value ∷ []) }
+{
+    lines.push(Box::into_inner(line))?;
+    Ok(())
+}
+
+/// The statement of these parts. An `Err` is want of memory.
+pub fn parts_node(alloc: Global, row: Vec<RPart>) -> Result<Box<RStmt>, AllocError>
     ensures { IfOk result (λ made. made_tree made.value ≡ parts (map part_tree row.items)) }
 {
     boxed(alloc, RStmt::Parts(row))

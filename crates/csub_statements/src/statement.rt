@@ -19,7 +19,7 @@ ghost use Rattle.csub_statements.specs.Resolvable.{Resolvable, ResolvableLines, 
 use crate::block::{block_lines, switch_lines};
 use crate::node::{
     block_node, break_node, case_node, continue_node, declared_node, default_node, do_node,
-    eval_node, for_head, for_node, goto_node, if_node, mark_node, own_parts, parts_node,
+    eval_node, for_head, for_node, goto_node, if_node, mark_node, own_parts, parts_node, push_line,
     return_node, switch_node, while_node,
 };
 use csub_bodies::{Here, enter, leave, switch_kind};
@@ -260,7 +260,7 @@ pub(crate) fn lower_lines(
     let mut made = Vec::new(alloc);
     for line in lines {
         let one = lower_statement(alloc, line, here, locals, within, kind)?;
-        made.push(Box::into_inner(one))?;
+        push_line(&mut made, one)?;
     }
     Ok(made)
 }
