@@ -1,5 +1,5 @@
 -- Callees that are entered: why their entries are facts, and that then every reached pair is held.
-use Rattle.std.proofs.Common.{◌≡◌, ◌+◌, ◌<◌, ◌≤◌, ℕ, List, [], length, Some, refl, subst, ◌⊎◌, inl, inr, arith}
+use Rattle.std.proofs.Common.{◌≡◌, ◌+◌, ◌<◌, ◌≤◌, ℕ, List, length, Some, refl, subst, ◌⊎◌, inl, inr, arith}
 use Rattle.std.specs.Prelude.{slice_get}
 use Rattle.std.proofs.lemmas.Bool.{cases_lt}
 use Rattle.std.proofs.lemmas.Option.{slice_get_within}
@@ -7,11 +7,10 @@ use Rattle.csub_objects.specs.Types.{Name}
 use Rattle.csub_semantics.specs.Points.{PointTree, entry}
 use Rattle.csub_semantics.specs.Syntax.{ProgramTree}
 use Rattle.csub_semantics.specs.Flows.{flow_of, start_name}
-use Rattle.csub_semantics.specs.Numbers.{site, site_at, name_at}
-use Rattle.csub_semantics.specs.Books.{CallsAt, Reached, start, enter_callee}
+use Rattle.csub_semantics.specs.Books.{CallsAt, Reached, enter_callee}
 use Rattle.dual_walk.specs.declared.fact.Fact.{Fact}
-use Rattle.dual_walk.specs.declared.fact.Why.TheVariants.{Start, Call}
-use Rattle.dual_walk.specs.declared.ask.Callee.{Callee}
+use Rattle.dual_walk.specs.declared.fact.Why.TheVariants.{Call}
+use Rattle.dual_walk.specs.declared.callees.Callee.{Callee}
 use Rattle.dual_walk.specs.Books.{IsNamed, named_facts, IsExplained}
 use Rattle.dual_walk.specs.Held.{AreAt, HasPair, IsHeld, Extends, IsClosedUnder}
 use Rattle.dual_walk.specs.Callees.{IsCallee}
@@ -30,13 +29,6 @@ module _ (P P' : ProgramTree) where
         justified = by_names P P' (named_facts P P' facts) c named (enter_callee at) (n.name, n.point, n.other, get_named P P' facts at from n.name n.point n.other stands n (at_named P P' from n), called.calls, refl);
         along = tt;
       }
-
-  -- at the start
-  pub start_explained : (facts : List Fact) (k : ℕ) → facts ≡ [] → name_at P k ≡ Some start_name → site_at P 0 ≡ Some (site start_name entry) → site_at P' 0 ≡ Some (site start_name entry) → IsExplained P P' facts (record { function = k; old = 0; new = 0; why = Start })
-  start_explained facts k none name old new =
-      let c : Fact = record { function = k; old = 0; new = 0; why = Start } in
-      let named : IsNamed P P' (record { function = k; old = 0; new = 0; why = Start }) = record { name = start_name; point = entry; other = entry; function = name; old = old; new = new } in
-      record { named = named; justified = by_names P P' (named_facts P P' facts) c named start refl; along = tt }
 
   -- the entries of a callee are held where the pair of their numbers is
   pub entries_held : (facts : List Fact) (f g : Name) (p : PointTree) (k : Callee) → IsCallee P P' f p k → HasPair facts k.entry.old k.entry.new → CallsAt (flow_of P) f p g → IsHeld P P' facts g entry entry

@@ -14,7 +14,7 @@ use Rattle.csub_semantics.proofs.LawsLabels.{call_or_none}
 use Rattle.csub_validity.specs.Valid.{IsValid}
 use Rattle.edge_trace.specs.Rows.{has}
 use Rattle.dual_walk.specs.declared.fact.Fact.{Fact}
-use Rattle.dual_walk.specs.declared.ask.Callee.{Callee}
+use Rattle.dual_walk.specs.declared.callees.Callee.{Callee}
 use Rattle.dual_walk.specs.Books.{IsNamed, LeavesFrom, AreReasoned}
 use Rattle.dual_walk.specs.Held.{AreAt, HasPair, IsHeld}
 use Rattle.dual_walk.specs.Callees.{IsCallee}

@@ -11,24 +11,26 @@ ghost use Rattle.edge_trace.specs.Rows.{has};
 ghost use Rattle.flow_graph.specs.Graph.{IsGraphOf, point_count, edge_count};
 ghost use Rattle.dual_walk.specs.Books.{LeavesFrom};
 ghost use Rattle.dual_walk.specs.Held.{AreAt};
+ghost use Rattle.dual_walk.specs.Prepared.{IsPrepared};
 ghost use Rattle.dual_walk.specs.Rest.{facts_of, IsAtRest};
 ghost use Rattle.call_walk.specs.Danger.{ComesBack, GoesOn, Stops, IsStopped, IsStoppedBefore, Marks};
 
 use csub_semantics::ExitLabel;
-use dual_walk::{Fact, Walk, callee_at};
+use dual_walk::{Both, Fact, Walk, callee_at};
 use edge_trace::EdgeRow;
 use flow_graph::{EdgeEnds, Graph};
 use std::alloc::{AllocError, Global};
 
 /// Whether a fact is at no call, or the pair of its callee's exits is held.
-fn comes_back(old: &Graph, new: &Graph, walk: &Walk, from: Fact) -> bool
-    requires rests { IsAtRest old.now new.now walk.now }
+fn comes_back(both: &Both<'_>, walk: &Walk, from: Fact) -> bool
+    requires prepared { IsPrepared both.now }
+    requires rests { IsAtRest both.now.old.now both.now.new.now walk.now }
     requires among { Contains (facts_of walk.now) from }
-    ensures { (P P' : ProgramTree) (f : Name) (p p' : PointTree) → IsGraphOf old.now P → IsGraphOf new.now P' →
+    ensures { (P P' : ProgramTree) (f : Name) (p p' : PointTree) → IsGraphOf both.now.old.now P → IsGraphOf both.now.new.now P' →
         AreAt P P' from.old from.new f p p' → SameLabel (flow_of P) (flow_of P') f p p' →
         IsTrue result ↔ ComesBack P P' (facts_of walk.now) f p }
 {
-    match callee_at(old, new, from.old) {
+    match callee_at(both, from.old) {
         Some(callee) => walk.has(callee.exit.old, callee.exit.new),
         None => true,
     }
@@ -78,32 +80,30 @@ fn mark_edges(old: &Graph, new: &Graph, walk: &Walk, from: Fact, danger: &mut Ed
 }
 
 /// Marks the edges at which a fact stops; none at a call whose callee doesn't come back.
-fn mark(old: &Graph, new: &Graph, walk: &Walk, from: Fact, danger: &mut EdgeRow)
-    requires rests { IsAtRest old.now new.now walk.now }
+fn mark(both: &Both<'_>, walk: &Walk, from: Fact, danger: &mut EdgeRow)
+    requires prepared { IsPrepared both.now }
+    requires rests { IsAtRest both.now.old.now both.now.new.now walk.now }
     requires among { Contains (facts_of walk.now) from }
-    requires edges { length danger.old ≡ edge_count old.now }
-    ensures edges { length danger.new ≡ edge_count old.now }
-    ensures marks { (P P' : ProgramTree) → IsGraphOf old.now P → IsGraphOf new.now P' → Marks danger.old danger.new (IsStopped P P' (facts_of walk.now) from) }
+    requires edges { length danger.old ≡ edge_count both.now.old.now }
+    ensures edges { length danger.new ≡ edge_count both.now.old.now }
+    ensures marks { (P P' : ProgramTree) → IsGraphOf both.now.old.now P → IsGraphOf both.now.new.now P' → Marks danger.old danger.new (IsStopped P P' (facts_of walk.now) from) }
 {
-    if comes_back(old, new, walk, from) {
-        mark_edges(old, new, walk, from, danger);
+    if comes_back(both, walk, from) {
+        mark_edges(both.old, both.new, walk, from, danger);
     }
 }
 
 /// The edges at which facts stop. An `Err` is want of memory.
-pub fn dangerous(
-    alloc: Global,
-    old: &Graph,
-    new: &Graph,
-    walk: &Walk,
-) -> Result<EdgeRow, AllocError>
-    requires rests { IsAtRest old.now new.now walk.now }
-    ensures edges { IfOk result (λ row. (P : ProgramTree) → IsGraphOf old.now P → length row ≡ length (edge_list P)) }
-    ensures marked { IfOk result (λ row. (P P' : ProgramTree) → IsGraphOf old.now P → IsGraphOf new.now P' → (e : ℕ) → IsTrue (has row e) ↔ IsStoppedBefore P P' (facts_of walk.now) (length (facts_of walk.now)) e) }
+pub fn dangerous(alloc: Global, both: &Both<'_>, walk: &Walk) -> Result<EdgeRow, AllocError>
+    requires prepared { IsPrepared both.now }
+    requires rests { IsAtRest both.now.old.now both.now.new.now walk.now }
+    ensures edges { IfOk result (λ row. (P : ProgramTree) → IsGraphOf both.now.old.now P → length row ≡ length (edge_list P)) }
+    ensures marked { IfOk result (λ row. (P P' : ProgramTree) → IsGraphOf both.now.old.now P → IsGraphOf both.now.new.now P' → (e : ℕ) →
+        IsTrue (has row e) ↔ IsStoppedBefore P P' (facts_of walk.now) (length (facts_of walk.now)) e) }
 {
-    let mut danger = EdgeRow::new(alloc, old.edges())?;
+    let mut danger = EdgeRow::new(alloc, both.old.edges())?;
     for from in walk.pairs() {
-        mark(old, new, walk, *from, &mut danger);
+        mark(both, walk, *from, &mut danger);
     }
     Ok(danger)
 }

@@ -8,14 +8,14 @@ ghost use Rattle.csub_semantics.specs.Books.{CallsAt};
 ghost use Rattle.flow_graph.specs.Graph.{IsGraphOf, edge_count, point_count};
 ghost use Rattle.dual_walk.specs.declared.fact.Fact.{Fact};
 ghost use Rattle.dual_walk.specs.Held.{AreAt, IsHeld, Extends};
-ghost use Rattle.dual_walk.specs.LabelRows.{AreLabelled};
+ghost use Rattle.dual_walk.specs.Prepared.{IsPrepared};
 ghost use Rattle.dual_walk.specs.Rest.{facts_of, asked_of, IsAtRest};
 ghost use Rattle.call_walk.specs.Walks.{IsWalk};
 ghost use Rattle.call_walk.specs.Danger.{HoldsAll};
 
 use crate::answer::WalkResult;
 use crate::danger::dangerous;
-use dual_walk::{Both, Fact, Walk, Why, callee_at, number_labels};
+use dual_walk::{Both, Fact, Walk, Why, callee_at, list_callees, number_labels};
 use edge_label::{LabelBook, Steps};
 use flow_graph::Graph;
 use std::alloc::{AllocError, Global};
@@ -28,7 +28,7 @@ fn start<L: Ledger>(
     walk: &mut Walk,
     steps: &mut Steps<L>,
 ) -> Result<(), AllocError>
-    requires labels { AreLabelled both.now }
+    requires prepared { IsPrepared both.now }
     requires rests { IsAtRest both.now.old.now both.now.new.now walk.old }
     requires none { facts_of walk.old ≡ [] }
     ensures rests { OnOk result (IsAtRest both.now.old.now both.now.new.now walk.new) }
@@ -45,15 +45,7 @@ fn start<L: Ledger>(
         new: 0,
         why: Why::Start,
     };
-    walk.add(
-        both.old,
-        both.new,
-        both.old_labels,
-        both.new_labels,
-        both.book,
-        fact,
-        steps,
-    )
+    walk.add(both, fact, steps)
 }
 
 /// Adds the entries of what is called at the fact with a place, and what follows from them.
@@ -63,7 +55,7 @@ fn enter<L: Ledger>(
     at: u32,
     steps: &mut Steps<L>,
 ) -> Result<(), AllocError>
-    requires labels { AreLabelled both.now }
+    requires prepared { IsPrepared both.now }
     requires rests { IsAtRest both.now.old.now both.now.new.now walk.old }
     requires at { at < length (facts_of walk.old) }
     ensures rests { OnOk result (IsAtRest both.now.old.now both.now.new.now walk.new) }
@@ -74,7 +66,7 @@ fn enter<L: Ledger>(
     ensures few { asked_of walk.new ≤ edge_count both.now.old.now * point_count both.now.new.now }
 {
     let from = walk.pairs()[at as usize];
-    let Some(callee) = callee_at(both.old, both.new, from.old) else {
+    let Some(callee) = callee_at(both, from.old) else {
         return Ok(());
     };
     let fact = Fact {
@@ -83,15 +75,7 @@ fn enter<L: Ledger>(
         new: callee.entry.new,
         why: Why::Call(at),
     };
-    walk.add(
-        both.old,
-        both.new,
-        both.old_labels,
-        both.new_labels,
-        both.book,
-        fact,
-        steps,
-    )
+    walk.add(both, fact, steps)
 }
 
 /// Adds every reached pair: the start, and the callee of each pair at a call.
@@ -100,7 +84,7 @@ fn reach<L: Ledger>(
     walk: &mut Walk,
     steps: &mut Steps<L>,
 ) -> Result<(), AllocError>
-    requires labels { AreLabelled both.now }
+    requires prepared { IsPrepared both.now }
     requires rests { IsAtRest both.now.old.now both.now.new.now walk.old }
     requires none { facts_of walk.old ≡ [] }
     ensures rests { OnOk result (IsAtRest both.now.old.now both.now.new.now walk.new) }
@@ -117,19 +101,19 @@ fn reach<L: Ledger>(
     Ok(())
 }
 
-/// The walk of two graphs whose labels have their numbers; see [`walk`].
+/// The walk of two graphs whose labels have their numbers, and whose callees are found; see [`walk`].
 fn walk_both<L: Ledger>(
     alloc: Global,
     both: &Both<'_>,
     steps: &mut Steps<L>,
 ) -> Result<WalkResult, AllocError>
-    requires labels { AreLabelled both.now }
+    requires prepared { IsPrepared both.now }
     ensures is_walk { (P P' : ProgramTree) → IsGraphOf both.now.old.now P → IsGraphOf both.now.new.now P' → IfOk result (IsWalk P P') }
     ensures counted { steps.new ≤ steps.old + edge_count both.now.old.now * point_count both.now.new.now }
 {
     let mut pairs = Walk::new(alloc, both.old, both.new)?;
     reach(both, &mut pairs, steps)?;
-    let danger = dangerous(alloc, both.old, both.new, &pairs)?;
+    let danger = dangerous(alloc, both, &pairs)?;
     let facts = pairs.into_facts();
     Ok(WalkResult { facts, danger })
 }
@@ -147,12 +131,14 @@ fn walk_by<L: Ledger>(
 {
     let old_labels = number_labels(alloc, old, book)?;
     let new_labels = number_labels(alloc, new, book)?;
+    let callees = list_callees(alloc, old, new)?;
     let both = Both {
         old,
         new,
         book: &*book,
         old_labels: &old_labels,
         new_labels: &new_labels,
+        callees: &callees,
     };
     walk_both(alloc, &both, steps)
 }
@@ -160,10 +146,10 @@ fn walk_by<L: Ledger>(
 /// The walk of an old program and a new one, by their graphs: the reached pairs, each once and with its reason, and the
 /// dangerous edges (Rothermel and Harrold, ACM TOSEM 6(2), 1997). An `Err` is want of memory.
 ///
-/// Each point's label gets a number at the beginning. Beside one comparison of two numbers at most for each edge of a
-/// reached pair, which `steps` counts, also before an `Err`, the edge's exit label is looked for at the new point, a case
-/// of a `switch` by a logarithm, and at a call the callee by a logarithm of the functions. Whether a pair is held says a bit:
-/// there is one for each old point and new point.
+/// Each point's label gets a number at the beginning, and each call its callee, which is looked for by a logarithm of the
+/// functions. Beside one comparison of two numbers at most for each edge of a reached pair, which `steps` counts, also
+/// before an `Err`, the edge's exit label is looked for at the new point, a case of a `switch` by a logarithm. Whether a
+/// pair is held says a bit: there is one for each old point and new point.
 pub fn walk<L: Ledger>(
     alloc: Global,
     old: &Graph,

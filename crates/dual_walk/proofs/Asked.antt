@@ -13,7 +13,7 @@ use Rattle.csub_semantics.specs.Books.{SameLabel, CallsAt, IsNoCallAt}
 use Rattle.program_laws.proofs.LawsFlows.{is_flow}
 use Rattle.flow_graph.specs.Graph.{Tables, IsGraphOf}
 use Rattle.dual_walk.specs.Books.{LeavesFrom}
-use Rattle.dual_walk.specs.declared.ask.Callee.{Callee}
+use Rattle.dual_walk.specs.declared.callees.Callee.{Callee}
 use Rattle.dual_walk.specs.Callees.{Defines, IsFunction, IsCallee}
 use Rattle.dual_walk.proofs.LawsNumbers.{callee_defined}
 

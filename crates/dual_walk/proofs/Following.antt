@@ -14,7 +14,7 @@ use Rattle.csub_validity.specs.Valid.{IsValid}
 use Rattle.flow_graph.specs.Graph.{Tables, IsGraphOf, point_count}
 use Rattle.flow_graph.proofs.LawsPlaces.{site_one}
 use Rattle.dual_walk.specs.declared.fact.Fact.{Fact}
-use Rattle.dual_walk.specs.declared.ask.Callee.{Callee}
+use Rattle.dual_walk.specs.declared.callees.Callee.{Callee}
 use Rattle.dual_walk.specs.declared.pairs.Pairs.{Pairs}
 use Rattle.dual_walk.specs.Held.{AreAt, HasPair, IsHeld, Extends, IsClosedUnder}
 use Rattle.dual_walk.specs.Books.{IsNamed, LeavesFrom}

@@ -4,10 +4,10 @@ use Rattle.std.specs.Prelude.{slice_get, Contains}
 use Rattle.std.proofs.lemmas.List.{take-map}
 use Rattle.std.proofs.lemmas.Option.{slice_get-map, slice_get_within, same_Some, get_or_from_slice_get}
 use Rattle.csub_objects.specs.Types.{Name}
-use Rattle.csub_semantics.specs.Points.{PointTree}
+use Rattle.csub_semantics.specs.Points.{PointTree, entry}
 use Rattle.csub_semantics.specs.Syntax.{ProgramTree}
-use Rattle.csub_semantics.specs.Flows.{flow_of}
-use Rattle.csub_semantics.specs.Numbers.{Site, site, site_at}
+use Rattle.csub_semantics.specs.Flows.{flow_of, start_name}
+use Rattle.csub_semantics.specs.Numbers.{Site, site, site_at, name_at}
 use Rattle.csub_semantics.specs.Books as books
 use Rattle.csub_semantics.specs.Books.{SameLabel, Justified, IsBook, Reached}
 use Rattle.csub_validity.specs.Valid.{IsValid}
@@ -15,7 +15,8 @@ use Rattle.program_laws.proofs.LawsFlows.{is_flow}
 use Rattle.flow_graph.proofs.LawsLists.{Made, made_of}
 use Rattle.flow_graph.proofs.LawsPlaces.{site_one}
 use Rattle.dual_walk.specs.declared.fact.Fact.{Fact}
-use Rattle.dual_walk.specs.Books.{IsNamed, name_in, point_in, named_fact, named_facts, named_reason, AreReasoned}
+use Rattle.dual_walk.specs.declared.fact.Why.TheVariants.{Start}
+use Rattle.dual_walk.specs.Books.{IsNamed, name_in, point_in, named_fact, named_facts, named_reason, AreReasoned, IsExplained}
 use Rattle.dual_walk.specs.Held.{AreAt, HasPair, IsHeld, Extends}
 use Rattle.dual_walk.proofs.LawsReaching.{reached_same}
 use Rattle.dual_walk.proofs.LawsLists.{get_left, get_start, append_nil}
@@ -78,6 +79,14 @@ module _ (P P' : ProgramTree) where
   -- the reason of a fact that is known by names
   pub by_names : (earlier : List books.Fact) (c : Fact) (n : IsNamed P P' c) (why : books.Reason) → Justified (flow_of P) (flow_of P') earlier (books.fact n.name n.point n.other) why → Justified (flow_of P) (flow_of P') earlier (named_fact P P' c) why
   by_names earlier c n why h = subst (λ f. Justified (flow_of P) (flow_of P') earlier f why) (sym (named_as c n)) h
+
+  -- the entries of `#start` need no other fact
+  pub start_explained : (facts : List Fact) (k : ℕ) → facts ≡ [] → name_at P k ≡ Some start_name → site_at P 0 ≡ Some (site start_name entry) → site_at P' 0 ≡ Some (site start_name entry)
+      → IsExplained P P' facts (record { function = k; old = 0; new = 0; why = Start })
+  start_explained facts k none name old new =
+      let c : Fact = record { function = k; old = 0; new = 0; why = Start } in
+      let named : IsNamed P P' (record { function = k; old = 0; new = 0; why = Start }) = record { name = start_name; point = entry; other = entry; function = name; old = old; new = new } in
+      record { named = named; justified = by_names (named_facts P P' facts) c named books.start refl; along = tt }
 
   -- facts whose reasons justify them
   module _ (facts : List Fact) (are : AreReasoned P P' facts) where

@@ -7,7 +7,6 @@ use Rattle.csub_semantics.specs.Numbers.{Site, site_at, name_at}
 use Rattle.edge_label.specs.Numbers.{HasNumber, whole}
 use Rattle.edge_label.specs.declared.standing.Standing.{Standing}
 use Rattle.flow_graph.specs.Graph.{Tables, IsGraphOf, point_count}
-use Rattle.dual_walk.specs.declared.both.Both.{Both}
 
 -- the label of a program's point, with the number of the function in which it stands
 pub record StandsAt (P : ProgramTree) (place : Site) (standing : Standing) : Type 0 where
@@ -30,8 +29,3 @@ pub record IsNumbered (book : List PointLabel) (g : Tables) (n number : ℕ) : T
 pub record AreNumbered (book : List PointLabel) (row : List ℕ) (g : Tables) : Type 0 where
   pub points : length row ≡ point_count g
   pub each : (n number : ℕ) → slice_get row n ≡ Some number → IsNumbered book g n number
-
--- both graphs by numbers of one book
-pub record AreLabelled (both : Both) : Type 0 where
-  pub old : AreNumbered both.book.now both.old_labels.now both.old.now
-  pub new : AreNumbered both.book.now both.new_labels.now both.new.now

@@ -3,6 +3,7 @@ pub mod Held
 pub mod LabelRows
 pub mod Rows
 pub mod Callees
+pub mod Prepared
 pub mod Bits
 pub mod Moments
 pub mod Rest

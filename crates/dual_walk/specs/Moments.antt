@@ -15,7 +15,7 @@ use Rattle.dual_walk.specs.Callees.{IsCallee, AreTogether}
 use Rattle.dual_walk.specs.declared.fact.Fact.{Fact}
 use Rattle.dual_walk.specs.declared.fact.Why.{Why}
 use Rattle.dual_walk.specs.declared.ask.Pair.{Pair}
-use Rattle.dual_walk.specs.declared.ask.Callee.{Callee}
+use Rattle.dual_walk.specs.declared.callees.Callee.{Callee}
 use Rattle.dual_walk.specs.declared.pairs.Pairs.{Pairs}
 
 -- the facts of a walk of two graphs

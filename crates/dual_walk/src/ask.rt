@@ -1,18 +1,17 @@
 //! What a walk asks of both graphs.
-ghost use Rattle.std.specs.Prelude.{◌≡◌, ◌<◌, ◌≤◌, ◌+◌, ◌^◌, ◌↔◌, Some, IfSome, IsTrue, MatchOption};
+ghost use Rattle.std.specs.Prelude.{◌≡◌, ◌<◌, ◌≤◌, ◌+◌, ◌^◌, ◌↔◌, IfSome, IsTrue, MatchOption};
 ghost use Rattle.csub_objects.specs.Types.{Name};
 ghost use Rattle.csub_semantics.specs.Points.{PointTree, exit, exit_tree, point_tree};
 ghost use Rattle.csub_semantics.specs.Syntax.{ProgramTree};
 ghost use Rattle.csub_semantics.specs.Flows.{flow_of};
-ghost use Rattle.csub_semantics.specs.Numbers.{site, site_at};
-ghost use Rattle.csub_semantics.specs.Books.{SameLabel, Together, IsNoCallAt};
-ghost use Rattle.flow_graph.specs.Graph.{IsGraphOf, point_count, function_count};
+ghost use Rattle.csub_semantics.specs.Books.{Together};
+ghost use Rattle.flow_graph.specs.Graph.{IsGraphOf, point_count};
 ghost use Rattle.dual_walk.specs.Held.{AreAt};
-ghost use Rattle.dual_walk.specs.LabelRows.{AreLabelled};
-ghost use Rattle.dual_walk.specs.Callees.{LeadsAlong, AreTogether, IsFunction, IsCallee, Defines};
+ghost use Rattle.dual_walk.specs.Callees.{LeadsAlong, AreTogether};
+ghost use Rattle.dual_walk.specs.Prepared.{IsPrepared};
 
 use crate::both::{Both, same_label};
-use csub_semantics::{ExitLabel, Label, Point, Text};
+use csub_semantics::{ExitLabel, Point};
 use edge_label::Steps;
 use flow_graph::Graph;
 use std::sync::ledger::Ledger;
@@ -26,17 +25,6 @@ pub struct Pair {
     pub new: u32,
 }
 
-/// A function that is called.
-#[derive(Clone, Copy)]
-pub struct Callee {
-    /// Its number in the old graph.
-    pub function: u32,
-    /// Its entries.
-    pub entry: Pair,
-    /// Its exits.
-    pub exit: Pair,
-}
-
 /// The successors of two points along a way out, by which the old one leads to the point `to`, where the new one leads on
 /// too and the labels there are equal. It asks one question at most.
 pub fn successors<L: Ledger>(
@@ -47,7 +35,7 @@ pub fn successors<L: Ledger>(
     asked: &mut u64,
     steps: &mut Steps<L>,
 ) -> Option<Pair>
-    requires labels { AreLabelled both.now }
+    requires prepared { IsPrepared both.now }
     requires new { from.new < point_count both.now.new.now }
     requires to { to < point_count both.now.old.now }
     requires leads { LeadsAlong both.now.old.now from.old (exit_tree exit.now) to }
@@ -72,54 +60,6 @@ pub fn successors<L: Ledger>(
     } else {
         None
     }
-}
-
-/// The function that is called at a point of the old graph; `None` where nothing is called. It is looked for by its name
-/// in both graphs, by a logarithm of their functions.
-pub fn callee_at(old: &Graph, new: &Graph, point: u32) -> Option<Callee>
-    requires { point < point_count old.now }
-    ensures callee { (P P' : ProgramTree) (f : Name) (p p' : PointTree) → IsGraphOf old.now P → IsGraphOf new.now P' →
-        SameLabel (flow_of P) (flow_of P') f p p' → site_at P point ≡ Some (site f p) →
-        MatchOption result (IsNoCallAt (flow_of P) f p) (IsCallee P P' f p) }
-    ensures function { IfSome result (λ k. k.function < function_count old.now) }
-    ensures old_entry { IfSome result (λ k. k.entry.old < point_count old.now) }
-    ensures new_entry { IfSome result (λ k. k.entry.new < point_count new.now) }
-    ensures old_exit { IfSome result (λ k. k.exit.old < point_count old.now) }
-    ensures new_exit { IfSome result (λ k. k.exit.new < point_count new.now) }
-{
-    match old.label_at(point) {
-        Label::Call(call) => callee_named(old, new, &call.callee),
-        _ => None,
-    }
-}
-
-/// The numbers of the function with a name; `None` only where one program has none.
-fn callee_named(old: &Graph, new: &Graph, name: &Text) -> Option<Callee>
-    ensures numbers { (P P' : ProgramTree) → IsGraphOf old.now P → IsGraphOf new.now P' → Defines P name.now → Defines P' name.now →
-        MatchOption result ⊥ (IsFunction P P' name.now) }
-    ensures function { IfSome result (λ k. k.function < function_count old.now) }
-    ensures old_entry { IfSome result (λ k. k.entry.old < point_count old.now) }
-    ensures new_entry { IfSome result (λ k. k.entry.new < point_count new.now) }
-    ensures old_exit { IfSome result (λ k. k.exit.old < point_count old.now) }
-    ensures new_exit { IfSome result (λ k. k.exit.new < point_count new.now) }
-{
-    let Some(function) = old.find(name) else {
-        return None;
-    };
-    let Some(other) = new.find(name) else {
-        return None;
-    };
-    Some(Callee {
-        function,
-        entry: Pair {
-            old: old.start_of(function),
-            new: new.start_of(other),
-        },
-        exit: Pair {
-            old: old.exit_of(function),
-            new: new.exit_of(other),
-        },
-    })
 }
 
 /// Whether both points are exits.

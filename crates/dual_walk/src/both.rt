@@ -10,15 +10,17 @@ ghost use Rattle.edge_label.specs.Numbers.{KeepsNumbers};
 ghost use Rattle.edge_label.specs.Uses.{AreDeclared, standing_tree};
 ghost use Rattle.flow_graph.specs.Graph.{IsGraphOf, point_count};
 ghost use Rattle.dual_walk.specs.Held.{AreAt};
-ghost use Rattle.dual_walk.specs.LabelRows.{AreNumbered, AreLabelled, AreLabelsOf};
+ghost use Rattle.dual_walk.specs.LabelRows.{AreNumbered, AreLabelsOf};
+ghost use Rattle.dual_walk.specs.Prepared.{IsPrepared};
 
+use crate::callees::Callee;
 use edge_label::{LabelBook, Standing, Steps};
 use flow_graph::Graph;
 use std::alloc::{AllocError, Global};
 use std::sync::ledger::Ledger;
 
-/// The graphs of two programs, and by each point of them the number of its label. Both rows are of one book, so that
-/// points have equal labels exactly where their numbers are the same.
+/// The graphs of two programs, by each point of them the number of its label, and by each old point what is called there.
+/// The numbers are of one book, so that points have equal labels exactly where their numbers are the same.
 #[derive(Clone, Copy)]
 pub struct Both<'a> {
     /// The old program's graph.
@@ -31,6 +33,8 @@ pub struct Both<'a> {
     pub old_labels: &'a [u32],
     /// By each new point its label's number.
     pub new_labels: &'a [u32],
+    /// By each old point the function that is called there.
+    pub callees: &'a [Option<Callee>],
 }
 
 /// By each point of a graph the number of its label, which the book gives where it hasn't yet. An `Err` is want of
@@ -72,7 +76,7 @@ pub fn same_label<L: Ledger>(
     asked: &mut u64,
     steps: &mut Steps<L>,
 ) -> bool
-    requires labels { AreLabelled both.now }
+    requires prepared { IsPrepared both.now }
     requires old { old < point_count both.now.old.now }
     requires new { new < point_count both.now.new.now }
     requires room { asked.old + 1 < 2 ^ 64 }

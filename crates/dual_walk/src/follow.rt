@@ -7,14 +7,15 @@ ghost use Rattle.csub_semantics.specs.Flows.{flow_of};
 ghost use Rattle.csub_semantics.specs.Books.{IsNoCallAt};
 ghost use Rattle.flow_graph.specs.Graph.{IsGraphOf, point_count, way_count_at};
 ghost use Rattle.dual_walk.specs.Held.{AreAt, Extends};
-ghost use Rattle.dual_walk.specs.LabelRows.{AreLabelled};
 ghost use Rattle.dual_walk.specs.Rows.{Lists, count_all};
 ghost use Rattle.dual_walk.specs.Callees.{LeadsAlong};
+ghost use Rattle.dual_walk.specs.Prepared.{IsPrepared};
 ghost use Rattle.dual_walk.specs.Moments.{IsMoment, AreWaiting, IsCalledAt, IsPassed, Explains, HoldsNext, PassesOver, AreDone, IsFollowed, AreResumed};
 ghost use Rattle.dual_walk.specs.declared.fact.Fact.{Fact};
 
-use crate::ask::{Callee, Pair, are_exits, callee_at, successors};
+use crate::ask::{Pair, are_exits, successors};
 use crate::both::Both;
+use crate::callees::{Callee, callee_at};
 use crate::fact::{Fact, Why};
 use crate::pairs::{Pairs, add, place_of};
 use crate::rows::Rows;
@@ -36,7 +37,7 @@ fn advance<L: Ledger>(
     asked: &mut u64,
     steps: &mut Steps<L>,
 ) -> Result<(), AllocError>
-    requires labels { AreLabelled both.now }
+    requires prepared { IsPrepared both.now }
     requires moment { IsMoment both.now.old.now both.now.new.now pairs.old }
     requires among { Contains pairs.old.facts.items from }
     requires to { to < point_count both.now.old.now }
@@ -76,7 +77,7 @@ fn take_steps<L: Ledger>(
     asked: &mut u64,
     steps: &mut Steps<L>,
 ) -> Result<(), AllocError>
-    requires labels { AreLabelled both.now }
+    requires prepared { IsPrepared both.now }
     requires moment { IsMoment both.now.old.now both.now.new.now pairs.old }
     requires stands { slice_get pairs.old.facts.items at ≡ Some from }
     requires plain { (P P' : ProgramTree) (f : Name) (p p' : PointTree) → IsGraphOf both.now.old.now P → IsGraphOf both.now.new.now P' → AreAt P P' from.old from.new f p p' → IsNoCallAt (flow_of P) f p }
@@ -104,7 +105,7 @@ fn pass_over<L: Ledger>(
     asked: &mut u64,
     steps: &mut Steps<L>,
 ) -> Result<(), AllocError>
-    requires labels { AreLabelled both.now }
+    requires prepared { IsPrepared both.now }
     requires moment { IsMoment both.now.old.now both.now.new.now pairs.old }
     requires at { at < length pairs.old.facts.items }
     requires over { (P P' : ProgramTree) → IsGraphOf both.now.old.now P → IsGraphOf both.now.new.now P' → PassesOver P P' pairs.old.facts.items at back }
@@ -142,7 +143,7 @@ fn pass_or_wait<L: Ledger>(
     asked: &mut u64,
     steps: &mut Steps<L>,
 ) -> Result<(), AllocError>
-    requires labels { AreLabelled both.now }
+    requires prepared { IsPrepared both.now }
     requires moment { IsMoment both.now.old.now both.now.new.now pairs.old }
     requires waiting { AreWaiting both.now.old.now both.now.new.now pairs.old.facts.items waiting.old }
     requires at { at < length pairs.old.facts.items }
@@ -176,7 +177,7 @@ fn follow_call<L: Ledger>(
     asked: &mut u64,
     steps: &mut Steps<L>,
 ) -> Result<(), AllocError>
-    requires labels { AreLabelled both.now }
+    requires prepared { IsPrepared both.now }
     requires moment { IsMoment both.now.old.now both.now.new.now pairs.old }
     requires waiting { AreWaiting both.now.old.now both.now.new.now pairs.old.facts.items waiting.old }
     requires stands { slice_get pairs.old.facts.items at ≡ Some from }
@@ -208,7 +209,7 @@ fn follow_own<L: Ledger>(
     asked: &mut u64,
     steps: &mut Steps<L>,
 ) -> Result<(), AllocError>
-    requires labels { AreLabelled both.now }
+    requires prepared { IsPrepared both.now }
     requires moment { IsMoment both.now.old.now both.now.new.now pairs.old }
     requires waiting { AreWaiting both.now.old.now both.now.new.now pairs.old.facts.items waiting.old }
     requires stands { slice_get pairs.old.facts.items at ≡ Some from }
@@ -221,7 +222,7 @@ fn follow_own<L: Ledger>(
     ensures counted { steps.new + asked.old ≡ steps.old + asked.new }
     ensures cost { asked.new + count_all waiting.new ≤ asked.old + count_all waiting.old + way_count_at both.now.old.now from.old }
 {
-    match callee_at(both.old, both.new, from.old) {
+    match callee_at(both, from.old) {
         Some(callee) => follow_call(both, pairs, waiting, at, from, callee, asked, steps),
         None => take_steps(both, pairs, at, from, asked, steps),
     }
@@ -237,7 +238,7 @@ fn resume<L: Ledger>(
     asked: &mut u64,
     steps: &mut Steps<L>,
 ) -> Result<(), AllocError>
-    requires labels { AreLabelled both.now }
+    requires prepared { IsPrepared both.now }
     requires moment { IsMoment both.now.old.now both.now.new.now pairs.old }
     requires waiting { AreWaiting both.now.old.now both.now.new.now pairs.old.facts.items waiting.old }
     requires stands { slice_get pairs.old.facts.items at ≡ Some from }
@@ -273,7 +274,7 @@ pub fn follow<L: Ledger>(
     asked: &mut u64,
     steps: &mut Steps<L>,
 ) -> Result<(), AllocError>
-    requires labels { AreLabelled both.now }
+    requires prepared { IsPrepared both.now }
     requires moment { IsMoment both.now.old.now both.now.new.now pairs.old }
     requires waiting { AreWaiting both.now.old.now both.now.new.now pairs.old.facts.items waiting.old }
     requires at { at < length pairs.old.facts.items }

@@ -8,11 +8,11 @@
 //! leaves them out.
 //!
 //! Which edges leave a point, the walk asks of the old graph (`flow_graph::Graph::edges_of`); it keeps no list of them.
-//! Labels are compared by their numbers in one `edge_label::LabelBook` ([`number_labels`]). [`callee_at`] says what is
-//! called at a point.
+//! Labels are compared by their numbers in one `edge_label::LabelBook` ([`number_labels`]), and what is called at a point is
+//! found before the walk ([`list_callees`]): so neither is looked for again at each pair.
 //!
 //! `specs/Books` says what numbers and reasons of facts stand for, `Held` what facts hold and when they are closed, and
-//! `Rest` when a walk is at rest; `LabelRows` and `Callees` say what is asked of the graphs, and `Rows`, `Moments` and
+//! `Rest` when a walk is at rest; `LabelRows`, `Callees` and `Prepared` say what is asked of the graphs, and `Rows`, `Moments` and
 //! `Bits` are for the functions inside. Proofs above cite `proofs/LawsReaching`, the rules by which pairs are reached;
 //! `LawsFacts`, what held facts stand for; `LawsNumbers`, what the numbers of a graph stand for; `LawsLists`, what stands
 //! in lists; and `LawsRest`, what is held by a walk at rest.
@@ -20,6 +20,7 @@
 
 mod ask;
 mod both;
+mod callees;
 pub mod fact;
 mod follow;
 mod pair_set;
@@ -27,7 +28,8 @@ mod pairs;
 mod rows;
 mod walking;
 
-pub use ask::{Callee, Pair, callee_at};
+pub use ask::Pair;
 pub use both::{Both, number_labels};
+pub use callees::{Callee, callee_at, list_callees};
 pub use fact::{Fact, Why};
 pub use walking::Walk;

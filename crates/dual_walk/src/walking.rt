@@ -4,7 +4,7 @@ ghost use Rattle.csub_semantics.specs.Syntax.{ProgramTree};
 ghost use Rattle.flow_graph.specs.Graph.{IsGraphOf, edge_count, point_count};
 ghost use Rattle.dual_walk.specs.Books.{IsExplained};
 ghost use Rattle.dual_walk.specs.Held.{HasPair, Extends, IsWithin, IsBookOf, IsClosedUnder};
-ghost use Rattle.dual_walk.specs.LabelRows.{AreNumbered, AreLabelled};
+ghost use Rattle.dual_walk.specs.Prepared.{IsPrepared};
 ghost use Rattle.dual_walk.specs.Rest.{facts_of, asked_of, IsUnderWay, IsAtRest};
 ghost use Rattle.dual_walk.specs.declared.fact.Fact.{Fact};
 
@@ -13,7 +13,7 @@ use crate::fact::{Fact, Why};
 use crate::follow::follow;
 use crate::pairs::{Pairs, add, holds, no_pairs};
 use crate::rows::Rows;
-use edge_label::{LabelBook, Steps};
+use edge_label::Steps;
 use flow_graph::Graph;
 use std::alloc::{AllocError, Global};
 use std::sync::ledger::Ledger;
@@ -63,36 +63,24 @@ impl Walk {
     /// `steps` counts its questions, also before an `Err`.
     pub fn add<L: Ledger>(
         &mut self,
-        old: &Graph,
-        new: &Graph,
-        old_labels: &[u32],
-        new_labels: &[u32],
-        book: &LabelBook,
+        both: &Both<'_>,
         fact: Fact,
         steps: &mut Steps<L>,
     ) -> Result<(), AllocError>
-        requires rests { IsAtRest old.now new.now self.old }
-        requires old_labels { AreNumbered book.now old_labels.now old.now }
-        requires new_labels { AreNumbered book.now new_labels.now new.now }
-        requires within { IsWithin old.now new.now fact }
-        requires explained { (P P' : ProgramTree) → IsGraphOf old.now P → IsGraphOf new.now P' → IsExplained P P' (facts_of self.old) fact }
-        ensures rests { OnOk result (IsAtRest old.now new.now self.new) }
+        requires prepared { IsPrepared both.now }
+        requires rests { IsAtRest both.now.old.now both.now.new.now self.old }
+        requires within { IsWithin both.now.old.now both.now.new.now fact }
+        requires explained { (P P' : ProgramTree) → IsGraphOf both.now.old.now P → IsGraphOf both.now.new.now P' → IsExplained P P' (facts_of self.old) fact }
+        ensures rests { OnOk result (IsAtRest both.now.old.now both.now.new.now self.new) }
         ensures held { OnOk result (HasPair (facts_of self.new) fact.old fact.new) }
-        ensures closed { OnOk result ((P P' : ProgramTree) → IsGraphOf old.now P → IsGraphOf new.now P' → IsClosedUnder P P' (facts_of self.new)) }
+        ensures closed { OnOk result ((P P' : ProgramTree) → IsGraphOf both.now.old.now P → IsGraphOf both.now.new.now P' → IsClosedUnder P P' (facts_of self.new)) }
         ensures grows { Extends (facts_of self.old) (facts_of self.new) }
-        ensures book { IsBookOf old.now new.now (facts_of self.new) }
+        ensures book { IsBookOf both.now.old.now both.now.new.now (facts_of self.new) }
         ensures counted { steps.new + asked_of self.old ≡ steps.old + asked_of self.new }
-        ensures few { asked_of self.new ≤ edge_count old.now * point_count new.now }
+        ensures few { asked_of self.new ≤ edge_count both.now.old.now * point_count both.now.new.now }
     {
-        let both = Both {
-            old,
-            new,
-            book,
-            old_labels,
-            new_labels,
-        };
         add(&mut self.pairs, fact)?;
-        self.follow_all(&both, steps)
+        self.follow_all(both, steps)
     }
 
     /// Adds what follows from the facts that haven't been followed.
@@ -101,7 +89,7 @@ impl Walk {
         both: &Both<'_>,
         steps: &mut Steps<L>,
     ) -> Result<(), AllocError>
-        requires labels { AreLabelled both.now }
+        requires prepared { IsPrepared both.now }
         requires under_way { IsUnderWay both.now.old.now both.now.new.now self.old }
         ensures rests { OnOk result (IsAtRest both.now.old.now both.now.new.now self.new) }
         ensures grows { Extends (facts_of self.old) (facts_of self.new) }

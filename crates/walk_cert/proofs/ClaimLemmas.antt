@@ -11,7 +11,7 @@ use Rattle.csub_validity.specs.Valid.{IsValid}
 use Rattle.flow_graph.proofs.LawsPlaces.{site_one}
 use Rattle.dual_walk.specs.Books.{LeavesFrom}
 use Rattle.dual_walk.specs.Held.{AreAt}
-use Rattle.dual_walk.specs.declared.ask.Callee.{Callee}
+use Rattle.dual_walk.specs.declared.callees.Callee.{Callee}
 use Rattle.dual_walk.specs.Callees.{IsCallee}
 use Rattle.dual_walk.proofs.LawsFacts.{one_at}
 use Rattle.dual_walk.proofs.LawsReaching.{one_callee, calls_or_not}

@@ -1,4 +1,5 @@
 mod ClaimLemmas
+mod EntryLemmas
 mod ExactLemmas
 mod LawLemmas
 mod MadeLemmas

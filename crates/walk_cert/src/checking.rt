@@ -3,17 +3,18 @@ ghost use Rattle.std.specs.Prelude.{◌≡◌, ◌<◌, length, Some, IfOk, Matc
 ghost use Rattle.csub_semantics.specs.Points.{entry};
 ghost use Rattle.csub_semantics.specs.Syntax.{ProgramTree};
 ghost use Rattle.flow_graph.specs.Graph.{IsGraphOf, point_count, edge_count};
-ghost use Rattle.dual_walk.specs.LabelRows.{AreLabelled};
+ghost use Rattle.dual_walk.specs.Prepared.{IsPrepared};
 ghost use Rattle.cert_text.specs.Certificates.{Rise};
 ghost use Rattle.walk_cert.specs.Claims.{IsClosedClaim};
+ghost use Rattle.walk_cert.specs.Entries.{AreEntries};
 ghost use Rattle.walk_cert.specs.Verdicts.{AreBelow, IsKept, IsBreakAt, IsVerdict};
 
-use crate::alike::are_alike;
+use crate::alike::{are_alike, list_entries};
 use crate::answer::Verdict;
 use crate::exits::first_way_out;
 use crate::search::has_pair;
 use cert_text::{Certificate, Pair};
-use dual_walk::{Both, callee_at, number_labels};
+use dual_walk::{Both, callee_at, list_callees, number_labels};
 use edge_label::{LabelBook, Steps};
 use edge_trace::EdgeRow;
 use flow_graph::Graph;
@@ -24,9 +25,9 @@ use std::sync::ledger::{Blank, Ledger};
 /// Whether the claim of a certificate of two graphs is closed, and else its first break: the start, and then for each pair in
 /// order its label, its callee and its edges in order. An `Err` is want of memory.
 ///
-/// Each label of both programs is numbered once. For each pair it compares two numbers and two names, looks functions up by
-/// their name at a call, and for each edge of the old point looks its exit label up at the new point; a pair is looked for by
-/// a logarithm of their number.
+/// Each label of both programs is numbered once, and for each old point the function of its name and its callee are looked
+/// for once. For each pair it compares numbers, and for each edge of the old point looks its exit label up at the new point;
+/// a pair is looked for by a logarithm of their number.
 pub fn check(
     alloc: Global,
     old: &Graph,
@@ -83,24 +84,35 @@ fn check_by<L: Ledger>(
 {
     let old_labels = number_labels(alloc, old, book)?;
     let new_labels = number_labels(alloc, new, book)?;
+    let callees = list_callees(alloc, old, new)?;
+    let entries = list_entries(alloc, old, new)?;
     let both = Both {
         old,
         new,
         book: &*book,
         old_labels: &old_labels,
         new_labels: &new_labels,
+        callees: &callees,
     };
-    Ok(verdict_of(&both, certificate.danger(), certificate.pairs(), steps))
+    Ok(verdict_of(
+        &both,
+        &entries,
+        certificate.danger(),
+        certificate.pairs(),
+        steps,
+    ))
 }
 
 // What is found of a claim.
 fn verdict_of<L: Ledger>(
     both: &Both<'_>,
+    entries: &[Option<u32>],
     danger: &EdgeRow,
     pairs: &[Pair],
     steps: &mut Steps<L>,
 ) -> Verdict
-    requires labels { AreLabelled both.now }
+    requires prepared { IsPrepared both.now }
+    requires entries { AreEntries both.now.old.now both.now.new.now entries.now }
     requires row { length danger.now ≡ edge_count both.now.old.now }
     requires below { AreBelow both.now.old.now both.now.new.now pairs.now }
     requires rise { Rise pairs.now }
@@ -111,7 +123,7 @@ fn verdict_of<L: Ledger>(
         return Verdict::NoStart;
     }
     for pair in pairs {
-        if let Some(found) = break_at(both, danger, pairs, *pair, steps) {
+        if let Some(found) = break_at(both, entries, danger, pairs, *pair, steps) {
             return found;
         }
     }
@@ -121,12 +133,14 @@ fn verdict_of<L: Ledger>(
 // The first break at a pair.
 fn break_at<L: Ledger>(
     both: &Both<'_>,
+    entries: &[Option<u32>],
     danger: &EdgeRow,
     pairs: &[Pair],
     pair: Pair,
     steps: &mut Steps<L>,
 ) -> Option<Verdict>
-    requires labels { AreLabelled both.now }
+    requires prepared { IsPrepared both.now }
+    requires entries { AreEntries both.now.old.now both.now.new.now entries.now }
     requires row { length danger.now ≡ edge_count both.now.old.now }
     requires old { pair.old < point_count both.now.old.now }
     requires new { pair.new < point_count both.now.new.now }
@@ -134,10 +148,10 @@ fn break_at<L: Ledger>(
     ensures { (P P' : ProgramTree) → IsGraphOf both.now.old.now P → IsGraphOf both.now.new.now P' →
         MatchOption result (IsKept P P' danger.now pairs.now pair) (IsBreakAt P P' danger.now pairs.now pair) }
 {
-    if !are_alike(both, pair, steps) {
+    if !are_alike(both, entries, pair, steps) {
         return Some(Verdict::Label(pair));
     }
-    let Some(callee) = callee_at(both.old, both.new, pair.old) else {
+    let Some(callee) = callee_at(both, pair.old) else {
         let edge = first_way_out(both.old, both.new, danger, pairs, pair)?;
         return Some(Verdict::Exit(pair, edge));
     };

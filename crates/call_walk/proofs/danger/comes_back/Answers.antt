@@ -7,10 +7,10 @@ use Rattle.dual_walk.proofs.LawsReaching.{calls_or_not}
 use Rattle.call_walk.proofs.Marking.{back_at}
 use Rattle.call_walk.proofs.danger.comes_back.Goals as goal
 
-pub callee_at-requires : goal.callee_at-requires
-callee_at-requires c =
+pub callee_at-requires-clause-point : goal.callee_at-requires-clause-point
+callee_at-requires-clause-point c =
     let i = contained (facts_of c.args.walk.now) c.args.from c.requires.among in
-    ((rest_book c.args.old.now c.args.new.now c.args.walk.now c.requires.rests).within i.0 c.args.from i.1).old
+    ((rest_book c.args.both.now.old.now c.args.both.now.new.now c.args.walk.now c.requires.rests).within i.0 c.args.from i.1).old
 
 pub returns-in-Some : goal.returns-in-Some
 returns-in-Some c P P' f p p' ok ok' at same =

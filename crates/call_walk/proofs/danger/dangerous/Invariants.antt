@@ -8,6 +8,6 @@ use Rattle.call_walk.proofs.danger.dangerous.Given as goal
 
 abbrev pub invariant-loop-from : goal.invariant-loop-from
 invariant-loop-from l = record {
-  edges : length l.danger ≡ edge_count l.old;
-  marked : (P P' : ProgramTree) → IsGraphOf l.old P → IsGraphOf l.new P' → (e : ℕ) → IsTrue (has l.danger e) ↔ IsStoppedBefore P P' (facts_of l.walk) l.from-index e;
+  edges : length l.danger ≡ edge_count l.both.old.now;
+  marked : (P P' : ProgramTree) → IsGraphOf l.both.old.now P → IsGraphOf l.both.new.now P' → (e : ℕ) → IsTrue (has l.danger e) ↔ IsStoppedBefore P P' (facts_of l.walk) l.from-index e;
 }

@@ -13,7 +13,7 @@ returns-then-comes_back-clause-marks c P P' ok ok' = marks_as c.args.danger.now 
     back : (e : ℕ) (s : Stops P P' (facts_of c.args.walk.now) c.args.from e) → ComesBack P P' (facts_of c.args.walk.now) s.edge.function s.edge.from
     back e s =
         let i = contained (facts_of c.args.walk.now) c.args.from c.requires.among in
-        (c.comes_back.ensures P P' s.edge.function s.edge.from s.other ok ok' s.at (rest_same c.args.old.now c.args.new.now c.args.walk.now c.requires.rests P P' ok ok' i.0 c.args.from i.1 s.edge.function s.edge.from s.other s.at)).0 c.if-comes_back.true
+        (c.comes_back.ensures P P' s.edge.function s.edge.from s.other ok ok' s.at (rest_same c.args.both.now.old.now c.args.both.now.new.now c.args.walk.now c.requires.rests P P' ok ok' i.0 c.args.from i.1 s.edge.function s.edge.from s.other s.at)).0 c.if-comes_back.true
 
 pub returns-else-comes_back-clause-marks : goal.returns-else-comes_back-clause-marks
 returns-else-comes_back-clause-marks c P P' ok ok' = marks_none c.args.danger.now (IsStopped P P' (facts_of c.args.walk.now) c.args.from) (λ e s. none e s)
@@ -21,5 +21,5 @@ returns-else-comes_back-clause-marks c P P' ok ok' = marks_none c.args.danger.no
     none : (e : ℕ) → IsStopped P P' (facts_of c.args.walk.now) c.args.from e → ⊥
     none e h =
         let i = contained (facts_of c.args.walk.now) c.args.from c.requires.among in
-        let same = rest_same c.args.old.now c.args.new.now c.args.walk.now c.requires.rests P P' ok ok' i.0 c.args.from i.1 h.stops.edge.function h.stops.edge.from h.stops.other h.stops.at in
+        let same = rest_same c.args.both.now.old.now c.args.both.now.new.now c.args.walk.now c.requires.rests P P' ok ok' i.0 c.args.from i.1 h.stops.edge.function h.stops.edge.from h.stops.other h.stops.at in
         true≢false (sym ((c.comes_back.ensures P P' h.stops.edge.function h.stops.edge.from h.stops.other ok ok' h.stops.at same).1 h.back) ∙ c.if-comes_back.false)

@@ -4,8 +4,7 @@ use Rattle.csub_semantics.specs.Flows.{start_name}
 use Rattle.csub_semantics.specs.Numbers.{site}
 use Rattle.dual_walk.specs.Rest.{facts_of}
 use Rattle.dual_walk.proofs.LawsNumbers.{first_site}
-use Rattle.dual_walk.proofs.LawsFacts.{pair_held}
-use Rattle.call_walk.proofs.Entering.{start_explained}
+use Rattle.dual_walk.proofs.LawsFacts.{pair_held, start_explained}
 use Rattle.call_walk.proofs.walking.start.Goals as goal
 
 pub add-requires-clause-explained : goal.add-requires-clause-explained

@@ -1,11 +1,17 @@
 use Rattle.std.proofs.Common.{sym, subst}
 use Rattle.dual_walk.specs.LabelRows.{AreNumbered}
+use Rattle.dual_walk.specs.Callees.{AreCallees}
 use Rattle.dual_walk.proofs.LawsNumbers.{row_kept}
+use Rattle.walk_cert.specs.Entries.{AreEntries}
 use Rattle.walk_cert.proofs.checking.check_by.Goals as goal
 
-pub verdict_of-requires-clause-labels : goal.verdict_of-requires-clause-labels
-verdict_of-requires-clause-labels g c = record {
+pub verdict_of-requires-clause-prepared : goal.verdict_of-requires-clause-prepared
+verdict_of-requires-clause-prepared g c = record {
   old = subst (λ row. AreNumbered c.number_labels-2.new.book row c.args.old.now) (sym c.deref.ensures.value)
       (row_kept c.number_labels.new.book c.number_labels-2.new.book c.in_ok-old_labels.old_labels.items c.args.old.now c.in_ok-new_labels.ensures.keeps c.in_ok-old_labels.ensures.row);
   new = subst (λ row. AreNumbered c.number_labels-2.new.book row c.args.new.now) (sym c.deref-2.ensures.value) c.in_ok-new_labels.ensures.row;
+  callees = subst (AreCallees c.args.old.now c.args.new.now) (sym c.deref-3.ensures.value) c.in_ok-callees.ensures;
 }
+
+pub verdict_of-requires-clause-entries : goal.verdict_of-requires-clause-entries
+verdict_of-requires-clause-entries g c = subst (AreEntries c.args.old.now c.args.new.now) (sym c.deref-4.ensures.value) c.in_ok-entries.ensures
