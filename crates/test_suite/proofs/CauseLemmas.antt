@@ -10,10 +10,10 @@ use Rattle.hex.specs.Hex.{IsBytes}
 use Rattle.line_text.specs.Lines.{TextLine, lines_of, line_with}
 use Rattle.test_suite.specs.declared.error.SuiteError.{SuiteError}
 use Rattle.test_suite.specs.declared.error.SuiteError.TheVariants.{TooLong, Line, TooMany, Twice, Memory}
-use Rattle.test_suite.specs.Causes.{IsFirstRepeat, HasCause}
+use Rattle.test_suite.specs.Causes.{IsFirstRepeat, HasCause, IsOnlyCause}
 use Rattle.test_suite.specs.Faults.{IsFaultOf}
 use Rattle.test_suite.specs.Tests.{TestParts, IsWithin}
-use Rattle.test_suite.specs.Suites.{first_line, test_line, suite_text, names_of, SaysTests}
+use Rattle.test_suite.specs.Suites.{first_line, test_line, suite_text, names_of, most_bytes, most_tests, SaysTests}
 use Rattle.test_suite.specs.Rules.{IsFirstFault}
 use Rattle.test_suite.proofs.LineLemmas.{test_line-injective}
 use Rattle.test_suite.proofs.SuiteLemmas.{keeps_line, lines_of-suite_text}
@@ -131,7 +131,7 @@ one_repeat names a b one other = elim (cases_lt a b) [
         later.apart at x first.name low (omega arith) (there ∙ sym here)
 
 -- two causes other than memory are one
-pub one_cause : (text : List ℕ) (a b : SuiteError) → HasCause text a → HasCause text b → a ≢ Memory → b ≢ Memory → a ≡ b
+one_cause : (text : List ℕ) (a b : SuiteError) → HasCause text a → HasCause text b → a ≢ Memory → b ≢ Memory → a ≡ b
 one_cause text Memory b one other some some' = absurd (some refl)
 one_cause text (TooLong n) Memory one other some some' = absurd (some' refl)
 one_cause text (TooLong n) (TooLong m) one other some some' = ap TooLong (one.0 ∙ sym other.0)
@@ -156,3 +156,30 @@ one_cause text (Twice n) (Twice m) one other some some' =
     let same = says_same text one.1 other.1 one.2 other.2 in
     let place : one.4 ≡ other.4 = one_repeat (names_of other.1) one.4 other.4 (subst (λ ts. IsFirstRepeat (names_of ts) one.4) same one.5) other.5 in
     ap Twice (one.6 ∙ ap (λ p. p + 2) place ∙ sym other.6)
+
+-- the told cause is the only one
+pub only_cause : (text : List ℕ) (error : SuiteError) → HasCause text error → IsOnlyCause text error
+only_cause text error cause = λ other has some some'. one_cause text other error has cause some some'
+
+-- the fault of a text's lines is a cause
+pub fault_cause : (text : List ℕ) (error : SuiteError) → length text ≤ most_bytes → IsFaultOf text error → HasCause text error
+fault_cause text (TooLong n) short fault = absurd fault
+fault_cause text (Line n r) short fault = (short, fault)
+fault_cause text (TooMany n) short fault = absurd fault
+fault_cause text (Twice n) short fault = absurd fault
+fault_cause text Memory short fault = tt
+
+-- what holds of an error holds of the answer that it was passed on to
+pub passed_only : {V : Type 0} (r : Result V SuiteError) (found : V → Type 0) (only : SuiteError → Type 0) (error : SuiteError) → IsErrAnd r (λ e. e ≡ error) → only error → MatchResult r found only
+passed_only (Ok v) found only error err holds = absurd err
+passed_only (Err e) found only error err holds = subst only (sym err) holds
+
+-- a cause other than memory excludes that the text is a suite's
+pub cause_excludes : (text : List ℕ) (tests : List TestParts) (error : SuiteError) → HasCause text error → SaysTests text tests → length text ≤ most_bytes → length tests ≤ most_tests → AllPairs (λ name other. name ≢ other) (names_of tests) → error ≡ Memory
+cause_excludes text tests (TooLong n) cause says short few apart = absurd (omega (arith, cause.0, cause.1, short))
+cause_excludes text tests (Line n r) cause says short few apart = absurd (says_no_fault text tests n r says cause.1)
+cause_excludes text tests (TooMany n) cause says short few apart = absurd (omega (arith, cause.3, cause.4, ap length (says_same text cause.1 tests cause.2 says), few))
+cause_excludes text tests (Twice n) cause says short few apart =
+    let same = says_same text cause.1 tests cause.2 says in
+    absurd (apart_no_repeat (names_of tests) cause.4 apart (subst (λ ts. IsFirstRepeat (names_of ts) cause.4) same cause.5))
+cause_excludes text tests Memory cause says short few apart = refl

@@ -27,3 +27,11 @@ HasCause text (Twice n) = (length text ≤ most_bytes)
     × (tests : List TestParts) × SaysTests text tests × (length tests ≤ most_tests)
     × (place : ℕ) × IsFirstRepeat (names_of tests) place × (n ≡ place + 2)
 HasCause text Memory = ⊤
+
+-- no refusal but this has a cause, and want of memory
+abbrev pub IsOnlyCause : List ℕ → SuiteError → Type 0
+IsOnlyCause text error = (other : SuiteError) → HasCause text other → other ≢ Memory → error ≢ Memory → other ≡ error
+
+-- no refusal has a cause but want of memory
+abbrev pub HasNoCause : List ℕ → Type 0
+HasNoCause text = (error : SuiteError) → HasCause text error → error ≡ Memory

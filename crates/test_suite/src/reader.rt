@@ -1,6 +1,6 @@
 //! Reading a suite.
 ghost use Rattle.std.specs.Prelude.{◌≡◌, ◌≤◌, ◌++◌, ◌∷◌, List, length, IfOk, IfErr, MatchResult};
-ghost use Rattle.test_suite.specs.Causes.{HasCause};
+ghost use Rattle.test_suite.specs.Causes.{HasCause, HasNoCause, IsOnlyCause};
 ghost use Rattle.test_suite.specs.Faults.{IsFaultOf, refusal_at as refusal_at_lem};
 ghost use Rattle.test_suite.specs.Rules.{IsFirstFault};
 ghost use Rattle.test_suite.specs.Suites.{IsSuite, SaysTests, first_line, most_bytes};
@@ -24,6 +24,8 @@ pub fn read_suite(alloc: Global, bytes: &[u8]) -> Result<Vec<Test>, SuiteError>
     ensures suite { IfOk result (λ tests. IsSuite tests.items) }
     ensures text { IfOk result (λ tests. SaysTests bytes.now tests.items) }
     ensures cause { IfErr result (HasCause bytes.now) }
+    // each refusal comes exactly where it has a cause
+    ensures exact { MatchResult result (λ tests. HasNoCause bytes.now) (IsOnlyCause bytes.now) }
     // what a suite can hold is read back
     ensures back { (tests : List TestParts) → IsSuite tests → SaysTests bytes.now tests
         → MatchResult result (λ found. found.items ≡ tests) (λ error. error ≡ SuiteError.Memory) }
