@@ -1,3 +1,4 @@
+pub mod LawsTrims
 mod EdgeLemmas
 mod WalkLemmas
 mod Places

@@ -10,7 +10,7 @@ use Rattle.explain_report.specs.declared.book.Book.{Book}
 use Rattle.explain_report.specs.Trims.{RestOnEarlier}
 use Rattle.dual_walk.specs.Books.{AreReasoned}
 use Rattle.explain_report.specs.Dangers.{IsShown, Argues}
-use Rattle.explain_report.proofs.TrimLemmas.{reasoned_rest}
+use Rattle.explain_report.proofs.LawsTrims.{reasoned_rest}
 use Rattle.explain_report.proofs.FollowLemmas.{edge_there}
 use Rattle.explain_report.proofs.ShownLemmas.{walk_reasoned, reasoned_within, reasoned_points, reasoned_tellable}
 use Rattle.explain_report.proofs.explain.explain.Goals as goal
