@@ -1,14 +1,22 @@
 -- From entries to histories.
-use Rattle.std.proofs.Common.{◌≡◌, ℕ, suc, ◌≤◌, List, [], ◌∷◌, length, refl, sym, ap, ◌∙◌, subst, arith, All}
+use Rattle.std.proofs.Common.{◌≡◌, ℕ, zero, suc, ◌≤◌, ◌<◌, List, [], ◌∷◌, length, refl, sym, ap, ap₂, ◌∙◌, subst, arith, All}
+use Rattle.std.specs.Prelude.{◌≢◌, AllPairs}
 use Rattle.std.specs.List.{AllZip}
 use Rattle.std.proofs.lemmas.List.Elements.{All-cons, All-head, All-tail, All-nil}
+use Rattle.hex.specs.Hex.{IsBytes}
+use Rattle.line_text.specs.Values.{IsDigest}
+use Rattle.line_text.proofs.LawsOfDigests.{IsDigest-sha256}
+use Rattle.csub_semantics.specs.declared.status.Status.{Status}
+use Rattle.csub_semantics.specs.declared.status.Status.TheVariants.{Exit, Trap, Turns}
 use Rattle.csub_semantics.specs.Syntax.{ProgramTree}
 use Rattle.csub_semantics.specs.Flows.{flow_of, edge_list}
 use Rattle.csub_core.specs.Valid.{IsValid}
-use Rattle.program_laws.specs.Bounds.{RunsAreBounded, IsBounded}
+use Rattle.program_laws.specs.Bounds.{RunsAreBounded, IsBounded, IsExitStatus}
 use Rattle.test_suite.specs.Tests.{TestParts, IsWithin}
-use Rattle.test_history.specs.Histories.{EntryParts, HistoryParts, HaveRows, IsEntryWithin, IsHistoryWithin}
+use Rattle.test_suite.specs.Suites.{names_of as test_names}
+use Rattle.test_history.specs.Histories.{EntryParts, HistoryParts, HaveRows, IsEntryWithin, IsHistoryWithin, IsByteStatus, IsEntryOfBytes, IsReadable, names_of}
 use Rattle.suite_run.specs.Entries.{IsEntry}
+use Rattle.command_files.specs.Record.{IsHistory, IsSuiteFile}
 
 -- the rows of entries have the program's number of edges
 pub have_rows : (P : ProgramTree) (edges : ℕ) (tests : List TestParts) (entries : List EntryParts) → edges ≡ length (edge_list P) → AllZip (IsEntry P) tests entries → HaveRows edges entries
@@ -51,3 +59,52 @@ history_within P digest edges tests entries history valid bounded is within few 
       entries = entries_within P tests entries bounded within each;
       rows = have_rows P edges tests entries is each;
     })
+
+-- ---- histories that can be read back
+
+-- a list of numbers below 256 is one of bytes
+small_bytes : (bytes : List ℕ) → All (λ b. b < 256) bytes → IsBytes bytes
+small_bytes [] small i = omega arith
+small_bytes (b ∷ bytes) small zero = All-head (λ n. n < 256) b bytes small
+small_bytes (b ∷ bytes) small (suc i) = small_bytes bytes (All-tail (λ n. n < 256) b bytes small) i
+
+byte_status : (status : Status) → IsExitStatus status → IsByteStatus status
+byte_status (Exit n) small = small
+byte_status (Trap trap) small = tt
+byte_status Turns small = tt
+
+module _ (P : ProgramTree) (bounded : RunsAreBounded (flow_of P)) where
+  -- what a run gives for a test whose input is of bytes is of bytes
+  pub entry_of_bytes : (t : TestParts) (e : EntryParts) → IsBytes t.input → IsEntry P t e → IsEntryOfBytes e
+  entry_of_bytes t e input is =
+      let b : IsBounded t.budget is.results = bounded t.input t.budget is.results is.run in
+      record {
+        input = subst (λ (q : TestParts). IsBytes q.input) (sym is.test) input;
+        status = byte_status e.status (subst IsExitStatus (sym is.status) b.status);
+        output = subst IsBytes (sym is.output) (small_bytes is.results.output b.bytes);
+      }
+
+  entries_of_bytes : (tests : List TestParts) (entries : List EntryParts) → All (λ test. IsBytes test.input) tests → AllZip (IsEntry P) tests entries → All IsEntryOfBytes entries
+  entries_of_bytes [] [] bytes each = All-nil IsEntryOfBytes
+  entries_of_bytes [] (e ∷ entries) bytes each = absurd each
+  entries_of_bytes (t ∷ tests) [] bytes each = absurd each
+  entries_of_bytes (t ∷ tests) (e ∷ entries) bytes each =
+      All-cons IsEntryOfBytes e entries (entry_of_bytes t e (All-head (λ (test : TestParts). IsBytes test.input) t tests bytes) each.0)
+      (entries_of_bytes tests entries (All-tail (λ (test : TestParts). IsBytes test.input) t tests bytes) each.1)
+
+-- the entries have the names of the tests
+same_names : (P : ProgramTree) (tests : List TestParts) (entries : List EntryParts) → AllZip (IsEntry P) tests entries → names_of entries ≡ test_names tests
+same_names P [] [] each = refl
+same_names P [] (e ∷ entries) each = absurd each
+same_names P (t ∷ tests) [] each = absurd each
+same_names P (t ∷ tests) (e ∷ entries) each = ap₂ (λ (name : List ℕ) names. name ∷ names) (ap (λ (q : TestParts). q.name) each.0.test) (same_names P tests entries each.1)
+
+-- the history of a suite's tests can be read back
+pub history_readable : (P : ProgramTree) (source suite : List ℕ) (tests : List TestParts) (history : HistoryParts) → RunsAreBounded (flow_of P) → IsSuiteFile suite tests
+    → IsHistory source P tests history → IsHistoryWithin history → IsReadable history
+history_readable P source suite tests history bounded file is within = record {
+  within = within;
+  apart = subst (AllPairs (λ name other. name ≢ other)) (sym (same_names P tests history.entries is.entries)) file.suite.apart;
+  digest = subst IsDigest (sym is.digest) (IsDigest-sha256 source);
+  bytes = entries_of_bytes P bounded tests history.entries file.says.bytes is.entries;
+}

@@ -7,7 +7,7 @@ use Rattle.csub_core.specs.Valid.{IsValid}
 use Rattle.program_laws.specs.Bounds.{RunsAreBounded}
 use Rattle.csub_accept.specs.Accepted.{Accepted}
 use Rattle.test_history.specs.Causes.{HasTextCause}
-use Rattle.test_history.specs.Histories.{HistoryParts, IsHistoryWithin}
+use Rattle.test_history.specs.Histories.{HistoryParts, IsReadable}
 use Rattle.test_history.specs.HistoryTexts.{history_text}
 use Rattle.test_history.specs.declared.error.HistoryTextError.TheVariants.{TooLong}
 use Rattle.test_select.specs.declared.choice.Choice.{Choice}
@@ -22,7 +22,7 @@ use Rattle.command_files.specs.Steps.{IsSelectionOf}
 use Rattle.command_histories.specs.Carried.{IsCarriedText, IsCarriedCause}
 use Rattle.command_histories.specs.Steps.{HasCarried}
 use Rattle.command_histories.proofs.Recorded.{recorded_anew}
-use Rattle.command_histories.proofs.Within.{carried_within}
+use Rattle.command_histories.proofs.Within.{carried_readable}
 
 -- ---- the history
 
@@ -31,16 +31,16 @@ module _ (P P' : ProgramTree) (new : List ℕ) (images : List Image) (choices : 
   has_carried are (Ok after) carried = record { images = images; are = are; carried = carried }
   has_carried are (Err e) carried = tt
 
-  pub is_within : IsValid P' → RunsAreBounded (flow_of P') → length choices ≡ length history.entries → IsHistoryWithin history
-      → (r : Result HistoryParts AllocError) → IfOk r (IsCarried P' new images choices history) → IfOk r IsHistoryWithin
-  is_within valid bounded many within (Ok after) carried = carried_within P' images new choices history after valid bounded many within carried
-  is_within valid bounded many within (Err e) carried = tt
+  pub is_readable : IsValid P' → RunsAreBounded (flow_of P') → length choices ≡ length history.entries → IsReadable history
+      → (r : Result HistoryParts AllocError) → IfOk r (IsCarried P' new images choices history) → IfOk r IsReadable
+  is_readable valid bounded many readable (Ok after) carried = carried_readable P' images new choices history after valid bounded many readable carried
+  is_readable valid bounded many readable (Err e) carried = tt
 
 -- ---- its text
 
 module _ (old new bytes : List ℕ) (P P' : ProgramTree) where
   module _ (selection : Selection) (after : HistoryParts) (selected : IsSelectionOf old bytes P P' selection) (accepted : Accepted new P') (carries : CarriesRecords P P')
-      (has : HasCarried P P' new selection.chosen.choices.items selection.history after) where
+      (has : HasCarried P P' new selection.chosen.choices.items selection.history after) (readable : IsReadable after) where
     is_carried : IsCarriedText old new bytes P P' (history_text after)
     is_carried = record {
       history = selection.history;
@@ -52,6 +52,7 @@ module _ (old new bytes : List ℕ) (P P' : ProgramTree) where
       carried = has.carried;
       is = refl;
       anew = recorded_anew old new bytes P P' selection after selected accepted carries has;
+      readable = readable;
     }
 
     pub carried_text : (text : List ℕ) → text ≡ history_text after → IsCarriedText old new bytes P P' text

@@ -2,7 +2,7 @@
 use Rattle.std.specs.Prelude.{ℕ, ◌≡◌, List}
 use Rattle.csub_semantics.specs.Syntax.{ProgramTree}
 use Rattle.test_suite.specs.Tests.{TestParts}
-use Rattle.test_history.specs.Histories.{HistoryParts}
+use Rattle.test_history.specs.Histories.{HistoryParts, IsReadable}
 use Rattle.test_history.specs.HistoryTexts.{history_text}
 use Rattle.test_history.specs.declared.version.Version.TheVariants.{Third}
 use Rattle.test_select.specs.declared.choice.Choice.{Choice}
@@ -26,7 +26,8 @@ IsRecordedAnew old new bytes text =
     (fresh : HistoryParts) × IsHistoryOf new tests fresh × (text ≡ history_text fresh)
 
 -- the text of `carry` for both sources with their programs and the bytes of a history file: an entry is kept, with the images
--- as its edges, where its test is left and each of its edges has one image; the test of each other one ran on the new program
+-- as its edges, where its test is left and each of its edges has one image; the test of each other one ran on the new program;
+-- the text can be read back
 pub record IsCarriedText (old new bytes : List ℕ) (P P' : ProgramTree) (text : List ℕ) : Type 0 where
   pub history : HistoryParts
   pub choices : List Choice
@@ -37,6 +38,7 @@ pub record IsCarriedText (old new bytes : List ℕ) (P P' : ProgramTree) (text :
   pub carried : IsCarried P' new images choices history after
   pub is : text ≡ history_text after
   pub anew : IsRecordedAnew old new bytes text
+  pub readable : IsReadable after
 
 -- it isn't made for want of memory, where the bytes are no history of the old source, or where it would have too many bytes
 abbrev pub IsCarriedCause : (old new bytes : List ℕ) → ProgramTree → ProgramTree → Refusal → Type 0

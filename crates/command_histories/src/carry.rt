@@ -2,7 +2,7 @@
 ghost use Rattle.std.specs.Prelude.{◌≡◌, ◌<◌, ◌≤◌, ℕ, List, IfOk, MatchResult};
 ghost use Rattle.csub_semantics.specs.Syntax.{ProgramTree, program_tree};
 ghost use Rattle.csub_accept.specs.Accepted.{Accepted};
-ghost use Rattle.test_history.specs.Histories.{IsHistoryWithin};
+ghost use Rattle.test_history.specs.Histories.{IsReadable};
 ghost use Rattle.command_files.specs.Steps.{IsMade, IsSelectionOf};
 ghost use Rattle.command_histories.specs.Carried.{IsCarriedText, IsCarriedCause};
 ghost use Rattle.command_histories.specs.Steps.{HasCarried};
@@ -57,7 +57,7 @@ fn carried_history<R: Threads + Sync, G: Gate>(
     requires selection { (bytes : List ℕ) × IsSelectionOf versions.now.source.items bytes (program_tree versions.now.old) (program_tree versions.now.new) selection.now }
     ensures carried { IfOk result
         (HasCarried (program_tree versions.now.old) (program_tree versions.now.new) versions.now.new_source.items selection.now.chosen.choices.items selection.now.history) }
-    ensures within { IfOk result IsHistoryWithin }
+    ensures readable { IfOk result IsReadable }
 {
     // The limits of the entries that runs give: the law of bounded runs.
     bounds();

@@ -20,11 +20,11 @@ use Rattle.command_files.specs.Record.{IsSuiteFile, IsHistoryFile}
 use Rattle.command_files.specs.Files.{HasSource, HasNoSource, HasBadOfTwo}
 use Rattle.command_claims.specs.Checked.{IsCertificateFile}
 use Rattle.dejavu_cli.specs.Reads.{Reads, suite_of, earlier_of, versions_of, history_of, certificate_of, made_of, reads, HasSecond, HasThree}
-use Rattle.dejavu_cli.specs.Texts.{IsSaid, IsTextOf, HasTextOf, product_of}
+use Rattle.dejavu_cli.specs.Texts.{IsSaid, HasTextOf, product_of}
 use Rattle.dejavu_cli.specs.Causes.{HasBadSourceOf, HasBadSuite, HasBadHistory, HasBadCertificate, HasBadTest, HasReadFault, HasCause, HasCauseOf}
 use Rattle.dejavu_cli.specs.Statuses.{done_as, status_of}
 use Rattle.dejavu_cli.specs.Answers.{Decides, Says, Refuses}
-use Rattle.dejavu_cli.specs.Complete.{HaveVersions, AreThere, AreReady, other_end, IsDone, IsComplete}
+use Rattle.dejavu_cli.specs.Complete.{HaveVersions, AreAccepted, AreThere, AreReadyIn, AreReady, other_end, IsDone, IsComplete}
 use Rattle.dejavu_cli.specs.declared.answer.End.{End}
 use Rattle.dejavu_cli.specs.declared.status.Status8.{Status8}
 use Rattle.dejavu_cli.specs.declared.status.Status8.TheVariants as status
@@ -65,6 +65,14 @@ good_source : (files : Files) (name : List ℕ) (P : ProgramTree) (cause : Sourc
 good_source files name P cause good bad =
     bad.is.none P (subst (λ (bytes : List ℕ). Accepted bytes P) (one_file files name good.bytes bad.bytes good.found bad.found) good.accepted)
 
+good_made : (seed size : ℕ) (told : Option Files) → AreAccepted seed size → (which : Role) (why : SourceCause) → HasBadSourceOf (made_of seed size) which why told → ⊥
+good_made seed size told there role.Source why bad = bad
+good_made seed size told there role.Old why bad = bad.none there.0.0 there.0.1
+good_made seed size told there role.New why bad = bad.1.none there.1.0 there.1.1
+
+none_is : (which : Product) → None ≡ Some which → ⊥
+none_is which is = cc
+
 module _ (told : Option Files) (before now : List ℕ → ℕ) (files : Files) (at : told ≡ Some files) where
   good_versions : (o n : List ℕ) → HaveVersions files o n → (which : Role) (why : SourceCause) → HasBadOfTwo o n which why told → ⊥
   good_versions o n have role.Source why bad = bad
@@ -77,9 +85,7 @@ module _ (told : Option Files) (before now : List ℕ → ℕ) (files : Files) (
   good_sources (versions_of o n) there which why bad = good_versions o n there which why bad
   good_sources (history_of o n h) there which why bad = good_versions o n there.two which why bad
   good_sources (certificate_of o n h) there which why bad = good_versions o n there.two which why bad
-  good_sources (made_of seed size) there role.Source why bad = bad
-  good_sources (made_of seed size) there role.Old why bad = bad.none there.0.0 there.0.1
-  good_sources (made_of seed size) there role.New why bad = bad.1.none there.1.0 there.1.1
+  good_sources (made_of seed size) there which why bad = good_made seed size told there which why bad
 
   good_suite : (k : Reads) → AreThere k files → (why : SuiteCause) → HasBadSuite k why told → ⊥
   good_suite (suite_of s t) there why bad =
@@ -106,7 +112,7 @@ module _ (told : Option Files) (before now : List ℕ → ℕ) (files : Files) (
       (of_three files o n h there.two there.bytes there.found told_bad.0 (λ source source' bytes P P'. IsCertificateFile source source' bytes P P' there.certificate) there.is)
   good_certificate k there why bad = bad
 
-  good_test : (c : Command) → AreReady c files → (name : List ℕ) → HasBadTest c name told → ⊥
+  good_test : (c : Command) → AreReadyIn c files → (name : List ℕ) → HasBadTest c name told → ⊥
   good_test (explain_files o n h t) ready name bad =
       let told_bad = bad.1 files at in
       let have = ready.0 in
@@ -114,12 +120,9 @@ module _ (told : Option Files) (before now : List ℕ → ℕ) (files : Files) (
       (of_three files o n h have.two have.bytes have.found told_bad.0 (λ source source' bytes P P'. IsHistoryFile Third source bytes P have.history) have.is) ready.1
   good_test c ready name bad = bad
 
-  are_there : (c : Command) → AreReady c files → AreThere (reads c) files
+  are_there : (c : Command) → AreReadyIn c files → AreThere (reads c) files
   are_there (explain_files o n h t) ready = ready.0
   are_there c ready = ready
-
-  none_is : (which : Product) → None ≡ Some which → ⊥
-  none_is which is = cc
 
   too_much : (c : Command) (which : Product) → product_of c ≡ Some which → other_end c ≡ Some status.TooMuch
   too_much (rerun_files o n h w) which is = absurd (none_is which is)
@@ -127,7 +130,7 @@ module _ (told : Option Files) (before now : List ℕ → ℕ) (files : Files) (
   too_much c which is = ap (option_map (λ (w : Product). status.TooMuch)) is
 
   -- the statuses that are left for a refusal
-  left_over : (c : Command) → AreReady c files → ¬ HasReadFault (reads c) told before now → (r : Refusal) → HasCauseOf c told before now r
+  left_over : (c : Command) → AreReadyIn c files → ¬ HasReadFault (reads c) told before now → (r : Refusal) → HasCauseOf c told before now r
       → (other_end c ≡ Some (status_of r)) ⊎ (status_of r ≡ status.Memory)
   left_over c ready read refusal.Usage cause = absurd cause
   left_over c ready read (refusal.Source which why) cause = absurd (good_sources (reads c) (are_there c ready) which why cause)
@@ -139,12 +142,26 @@ module _ (told : Option Files) (before now : List ℕ → ℕ) (files : Files) (
   left_over c ready read refusal.Memory cause = inr refl
   left_over c ready read (refusal.TooMuch which count) cause = inl (too_much c which cause.0)
 
--- ---- the answer
+-- the statuses that are left for a refusal of `gen`, whatever is told
+left_made : (seed size : ℕ) (told : Option Files) (before now : List ℕ → ℕ) → AreAccepted seed size → (r : Refusal) → HasCauseOf (gen_numbers seed size) told before now r
+    → (other_end (gen_numbers seed size) ≡ Some (status_of r)) ⊎ (status_of r ≡ status.Memory)
+left_made seed size told before now ready refusal.Usage cause = absurd cause
+left_made seed size told before now ready (refusal.Source which why) cause = absurd (good_made seed size told ready which why cause)
+left_made seed size told before now ready (refusal.Suite why) cause = absurd cause
+left_made seed size told before now ready (refusal.History why) cause = absurd cause
+left_made seed size told before now ready (refusal.Certificate why) cause = absurd cause
+left_made seed size told before now ready (refusal.NoTest name) cause = absurd cause
+left_made seed size told before now ready refusal.ReadFault cause = absurd cause
+left_made seed size told before now ready refusal.Memory cause = inr refl
+left_made seed size told before now ready (refusal.TooMuch which count) cause = absurd (none_is which cause.0)
 
--- the text of a command, where its files are told
-told_text : (c : Command) (told : Option Files) (end : End) (text : List ℕ) → HasTextOf (Some c) told end text → (files : Files) → told ≡ Some files → IsTextOf c files end text
-told_text (gen_numbers seed count) told end text has files at = record { said = has; fits = tt }
-told_text c told end text has files at = has files at
+-- and for one of any command that is ready
+left_ready : (c : Command) (told : Option Files) (before now : List ℕ → ℕ) → AreReady c told → ¬ HasReadFault (reads c) told before now → (r : Refusal) → HasCauseOf c told before now r
+    → (other_end c ≡ Some (status_of r)) ⊎ (status_of r ≡ status.Memory)
+left_ready (gen_numbers seed size) told before now ready read r cause = left_made seed size told before now ready r cause
+left_ready c told before now ready read r cause = left_over told before now ready.0 ready.1 c ready.2 read r cause
+
+-- ---- the answer
 
 -- a command that is done is done whole, or ends otherwise as it may
 ended : (c : Command) (files : Files) (end : End) (text : List ℕ) → IsSaid c files end text → (done_as end ≡ status.Done) ⊎ (other_end c ≡ Some (done_as end))
@@ -153,6 +170,10 @@ ended (rerun_files o n h w) files end text (false, is, are, said) = inl (ap done
 ended (check_files o n h) files end text (true, is, are, said) = inl (ap done_as is)
 ended (check_files o n h) files end text (false, is, are, said) = inr (ap (λ e. Some (done_as e)) (sym is))
 ended c files end text said = inl (ap done_as said.0)
+
+ended_ready : (c : Command) (told : Option Files) (end : End) (text : List ℕ) → AreReady c told → HasTextOf (Some c) told end text → (done_as end ≡ status.Done) ⊎ (other_end c ≡ Some (done_as end))
+ended_ready (gen_numbers seed size) told end text ready has = inl (ap done_as has.0)
+ended_ready c told end text ready has = ended c ready.0 end text (has ready.0 ready.1).said
 
 module _ (words : List (List ℕ)) (told : Option Files) (before now : List ℕ → ℕ) (b n : Option (List ℕ)) (fb fn : ℕ) (answer : Status8) where
   is_done : (c : Command) (s : Status8) → (s ≡ status.Done) ⊎ (other_end c ≡ Some s) → answer ≡ s → IsDone c answer
@@ -178,10 +199,10 @@ module _ (words : List (List ℕ)) (told : Option Files) (before now : List ℕ 
 
   pub complete_done : (end : End) (text : List ℕ) → HasTextOf (command_of words) told end text → Says b n fb fn (done_as end) text answer
       → IsComplete words told before now fb fn answer
-  complete_done end text has (inl h) files at c is ready read written =
+  complete_done end text has (inl h) c is ready read written =
       let here = subst (λ (d : Option Command). HasTextOf d told end text) is has in
-      is_done c (done_as end) (ended c files end text (told_text c told end text here files at).said) h.0
-  complete_done end text has (inr h) files at c is ready read written = absurd (written h.1)
+      is_done c (done_as end) (ended_ready c told end text ready here) h.0
+  complete_done end text has (inr h) c is ready read written = absurd (written h.1)
 
   said : (c : Command) (r : Refusal) → (other_end c ≡ Some (status_of r)) ⊎ (status_of r ≡ status.Memory) → ¬ Rose fb fn → Refuses b n fb fn r answer → IsDone c answer
   said c r left written (inl (inl h)) = is_left c (status_of r) left h.0
@@ -190,6 +211,6 @@ module _ (words : List (List ℕ)) (told : Option Files) (before now : List ℕ 
   said c r left written (inr (inr h)) = absurd (written h.1)
 
   pub complete_refused : (r : Refusal) → HasCause (command_of words) told before now r → Refuses b n fb fn r answer → IsComplete words told before now fb fn answer
-  complete_refused r cause refuses files at c is ready read written =
+  complete_refused r cause refuses c is ready read written =
       let here = subst (λ (c : Option Command). HasCause c told before now r) is cause in
-      said c r (left_over told before now files at c ready read r here) written refuses
+      said c r (left_ready c told before now ready read r here) written refuses

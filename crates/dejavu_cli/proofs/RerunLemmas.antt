@@ -1,5 +1,5 @@
 -- Which tests ran again, and that none differs exactly where all tests of a recorded suite behave the same.
-use Rattle.std.proofs.Common.{◌≡◌, ◌+◌, ℕ, List, [], ◌∷◌, length, Bool, false, nat_lt, Option, Some, Result, Ok, Err, IfOk, All, refl, sym, ap, ap₂, ◌∙◌, subst, arith, cond}
+use Rattle.std.proofs.Common.{◌≡◌, ◌↔◌, ◌+◌, ℕ, List, [], ◌∷◌, length, Bool, true, false, not, nat_lt, Option, Some, Result, Ok, Err, IfOk, All, refl, sym, ap, ap₂, ◌∙◌, subst, arith, cond}
 use Rattle.std.specs.Prelude.{count_by}
 use Rattle.std.specs.List.{AllZip}
 use Rattle.std.specs.declared.alloc.AllocError.{AllocError}
@@ -14,14 +14,14 @@ use Rattle.test_history.specs.Histories.{EntryParts, HistoryParts, IsEntryWithin
 use Rattle.test_select.specs.declared.choice.Choice.{Choice}
 use Rattle.test_select.specs.declared.choice.Choice.TheVariants.{Selected, Left}
 use Rattle.test_select.specs.Selection.{is_selected}
-use Rattle.rerun_report.specs.Reruns.{BehavesAs, IsSame, AllSame, outcomes, was_left, ran_again, differ_count}
+use Rattle.rerun_report.specs.Reruns.{BehavesAs, behaves_as, IsSame, AllSame, outcomes, was_left, ran_again, differs as is_told_to_differ, differ_count}
 use Rattle.rerun_report.specs.RerunTexts.{rerun_text}
 use Rattle.rerun_report.specs.declared.text.RerunText.{RerunText}
-use Rattle.rerun_report.proofs.LawsReruns.{differ_none}
+use Rattle.rerun_report.proofs.LawsReruns.{behaves, behaves_test, differ_none}
 use Rattle.suite_run.specs.Entries.{IsEntry}
 use Rattle.command_files.specs.Choices.{BehavesTheSame}
 use Rattle.command_files.specs.Steps.{HasChosen}
-use Rattle.dejavu_cli.specs.Rerun.{IsRerun, IsFaithful, selected_tests}
+use Rattle.dejavu_cli.specs.Rerun.{IsRerun, IsFaithful, IsFaithfulToEach, selected_tests}
 use Rattle.dejavu_cli.specs.Steps.{HasReran}
 
 -- ---- the selected tests
@@ -104,6 +104,35 @@ module _ (P P' : ProgramTree) where
   all_as_told (t ∷ tests) (e ∷ entries) (Left ∷ choices) results each ran behave =
       All-cons IsSame (was_left e) (outcomes entries choices results) tt (all_as_told tests entries choices results each.1 ran (All-tail (BehavesTheSame P P') t tests behave))
 
+  -- ---- which tests differ
+
+  not_false : (b : Bool) → not b ≡ false → b ≡ true
+  not_false true is = refl
+  not_false false is = cc
+
+  -- a test that ran again is told to differ exactly where it behaves otherwise
+  told_again : (t : TestParts) (e r : EntryParts) → IsEntry P t e → IsEntry P' e.test r → (is_told_to_differ (ran_again e r) ≡ false) ↔ BehavesTheSame P P' t
+  told_again t e r is again = (
+    λ told. same_as t e r is again (behaves e r (not_false (behaves_as e r) told)),
+    λ same. ap not (behaves_test e r (as_told t e r is again same)),
+  )
+
+  each_told : (tests : List TestParts) (entries : List EntryParts) (choices : List Choice) (results : List EntryParts) → AllZip (IsEntry P) tests entries
+      → AllZip (λ test choice. choice ≡ Left → BehavesTheSame P P' test) tests choices → AllZip (IsEntry P') (selected_tests entries choices) results
+      → AllZip (λ test outcome. (is_told_to_differ outcome ≡ false) ↔ BehavesTheSame P P' test) tests (outcomes entries choices results)
+  each_told [] [] choices results each left ran = tt
+  each_told [] (e ∷ entries) choices results each left ran = absurd each
+  each_told (t ∷ tests) [] choices results each left ran = absurd each
+  each_told (t ∷ tests) (e ∷ entries) [] results each left ran = absurd left
+  each_told (t ∷ tests) (e ∷ entries) (Selected n ∷ choices) [] each left ran = absurd ran
+  each_told (t ∷ tests) (e ∷ entries) (Selected n ∷ choices) (r ∷ results) each left ran = (told_again t e r each.0 ran.0, each_told tests entries choices results each.1 left.1 ran.1)
+  each_told (t ∷ tests) (e ∷ entries) (Left ∷ choices) results each left ran = ((λ told. left.0 refl, λ same. refl), each_told tests entries choices results each.1 left.1 ran)
+
+  faithful_to_each : (old bytes : List ℕ) (history : HistoryParts) (choices : List Choice) (results : List EntryParts) → HasChosen old bytes P P' history choices
+      → AllZip (IsEntry P') (selected_tests history.entries choices) results → IsFaithfulToEach old bytes P P' (outcomes history.entries choices results)
+  faithful_to_each old bytes history choices results has ran suite tests recorded reads is text =
+      each_told tests history.entries choices results (has.recorded suite tests recorded reads is text) (has.chosen.safe suite tests recorded reads is text) ran
+
   -- ---- whether one differs
 
   none : (n : ℕ) → nat_lt 0 n ≡ false → n ≡ 0
@@ -135,6 +164,7 @@ module _ (P P' : ProgramTree) where
         is = same ∙ reran.text;
         told = counted;
         faithful = subst (IsFaithful old bytes P P') (sym counted) (faithful old bytes history choices reran.results has reran.ran);
+        each = faithful_to_each old bytes history choices reran.results has reran.ran;
       }
 
   pub has_reran : (entries : List EntryParts) (choices : List Choice) (results : List EntryParts) (chosen : List Choice) (given : List EntryParts) (r : Result RerunText AllocError)

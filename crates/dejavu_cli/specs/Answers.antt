@@ -27,8 +27,8 @@ Says before now faults_before faults_now s text answer =
 -- The headline: where the written bytes are told, the words are a command and its text was added to what was written
 -- before. The files decide that text where they are told; for `gen` the words alone do. For `select` it names exactly the
 -- tests whose recorded run crosses a dangerous edge, and each test that it leaves behaves the same on the new program
--- (`IsChosen` of `command_files`). For `rerun` whether a test differs is whether any test of a recorded suite does, the left
--- ones too (`IsFaithful`). What `carry` writes for a recorded history is the history that `record` writes on the new source
+-- (`IsChosen` of `command_files`). For `rerun` the tests that are told to differ are those of a recorded suite that do, and
+-- no left one does (`IsFaithful`, `IsFaithfulToEach`). What `carry` writes for a recorded history is the history that `record` writes on the new source
 -- (`IsRecordedAnew` of `command_histories`). A run that crosses no edge of a claim that `check` finds closed behaves the same
 -- on the new program (`IsChecked` of `command_claims`).
 abbrev pub IsHeadline : List (List ℕ) → Option Files → Option (List ℕ) → Option (List ℕ) → End → Type 0

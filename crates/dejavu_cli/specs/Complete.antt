@@ -9,7 +9,7 @@ use Rattle.test_history.specs.Histories.{HistoryParts}
 use Rattle.test_history.specs.declared.version.Version.TheVariants.{Second, Third}
 use Rattle.cert_text.specs.Certificates.{CertificateParts}
 use Rattle.dv_gen.specs.Pairs.{old_source, new_source}
-use Rattle.command_words.specs.Words.{Command, rerun_files, explain_files, check_files, command_of}
+use Rattle.command_words.specs.Words.{Command, rerun_files, explain_files, check_files, gen_numbers, command_of}
 use Rattle.command_files.specs.Record.{IsSuiteFile, IsHistoryFile}
 use Rattle.command_files.specs.Files.{HasSource}
 use Rattle.command_claims.specs.Checked.{IsCertificateFile}
@@ -61,20 +61,29 @@ pub record HaveCertificate (files : Files) (old_name new_name certificate_name :
   pub certificate : CertificateParts
   pub is : IsCertificateFile two.source.bytes two.new_source.bytes bytes two.old two.new certificate
 
--- the files that a command reads are there and are what it asks for; the sources that `gen` makes are accepted
+-- the sources that `gen` makes are accepted
+abbrev pub AreAccepted : ℕ → ℕ → Type 0
+AreAccepted seed size =
+    ((P : ProgramTree) × Accepted (old_source seed size) P) × ((P : ProgramTree) × Accepted (new_source seed size) P)
+
+-- the files that a command reads are there and are what it asks for
 abbrev pub AreThere : Reads → Files → Type 0
 AreThere (suite_of source suite) files = HaveSuite files source suite
 AreThere (earlier_of old history) files = HaveEarlier files old history
 AreThere (versions_of old new) files = HaveVersions files old new
 AreThere (history_of old new history) files = HaveHistory files old new history
 AreThere (certificate_of old new certificate) files = HaveCertificate files old new certificate
-AreThere (made_of seed size) files =
-    ((P : ProgramTree) × Accepted (old_source seed size) P) × ((P : ProgramTree) × Accepted (new_source seed size) P)
+AreThere (made_of seed size) files = AreAccepted seed size
 
 -- and the history of `explain` has its test
-abbrev pub AreReady : Command → Files → Type 0
-AreReady (explain_files old new history test) files = (have : HaveHistory files old new history) × HasTest have.history.entries test
-AreReady c files = AreThere (reads c) files
+abbrev pub AreReadyIn : Command → Files → Type 0
+AreReadyIn (explain_files old new history test) files = (have : HaveHistory files old new history) × HasTest have.history.entries test
+AreReadyIn c files = AreThere (reads c) files
+
+-- the files are told and ready; `gen` asks for none
+abbrev pub AreReady : Command → Option Files → Type 0
+AreReady (gen_numbers seed size) told = AreAccepted seed size
+AreReady c told = (files : Files) × (told ≡ Some files) × AreReadyIn c files
 
 -- how a command can end but done: a test differs, a claim is open, or what it makes would have too many bytes
 abbrev pub other_end : Command → Option Status8
@@ -86,9 +95,8 @@ other_end c = option_map (λ which. status.TooMuch) (product_of c)
 abbrev pub IsDone : Command → Status8 → Type 0
 IsDone c answer = (answer ≡ status.Done) ⊎ ((other_end c ≡ Some answer) ⊎ (answer ≡ status.Memory))
 
--- Completeness: where the words are a command whose files are told and ready, and none had a fault, nor the output, it is
--- done
+-- Completeness: where the words are a command that is ready, and none of its files had a fault, nor the output, it is done
 abbrev pub IsComplete : List (List ℕ) → Option Files → (List ℕ → ℕ) → (List ℕ → ℕ) → ℕ → ℕ → Status8 → Type 0
 IsComplete words told before now faults_before faults_now answer =
-    (files : Files) → told ≡ Some files → (c : Command) → command_of words ≡ Some c → AreReady c files →
+    (c : Command) → command_of words ≡ Some c → AreReady c told →
     ¬ HasReadFault (reads c) told before now → ¬ Rose faults_before faults_now → IsDone c answer

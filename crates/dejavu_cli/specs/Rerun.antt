@@ -7,7 +7,7 @@ use Rattle.test_history.specs.Histories.{EntryParts, HistoryParts}
 use Rattle.test_history.specs.HistoryTexts.{history_text}
 use Rattle.test_select.specs.declared.choice.Choice.{Choice}
 use Rattle.test_select.specs.declared.choice.Choice.TheVariants.{Selected, Left}
-use Rattle.rerun_report.specs.Reruns.{differ_count}
+use Rattle.rerun_report.specs.Reruns.{Outcome, outcomes, differs as is_told_to_differ, differ_count}
 use Rattle.rerun_report.specs.RerunTexts.{rerun_text}
 use Rattle.suite_run.specs.Entries.{IsEntry}
 use Rattle.command_files.specs.Record.{IsHistoryOf, IsSuiteFile}
@@ -27,6 +27,13 @@ IsFaithful old bytes P P' differs =
     IsSuiteFile suite tests → IsHistoryOf old tests recorded → bytes ≡ history_text recorded →
     (differs ≡ false) ↔ All (BehavesTheSame P P') tests
 
+-- and a test is told to differ exactly where it behaves otherwise, the left ones too
+abbrev pub IsFaithfulToEach : List ℕ → List ℕ → ProgramTree → ProgramTree → List Outcome → Type 0
+IsFaithfulToEach old bytes P P' told =
+    (suite : List ℕ) (tests : List TestParts) (recorded : HistoryParts) →
+    IsSuiteFile suite tests → IsHistoryOf old tests recorded → bytes ≡ history_text recorded →
+    AllZip (λ test outcome. (is_told_to_differ outcome ≡ false) ↔ BehavesTheSame P P' test) tests told
+
 -- the text of `rerun` for the old source's program, the new program and the bytes of a history file, and whether a test
 -- differs: the selected tests ran on the new program
 pub record IsRerun (old bytes : List ℕ) (P P' : ProgramTree) (differs : Bool) (text : List ℕ) : Type 0 where
@@ -38,3 +45,4 @@ pub record IsRerun (old bytes : List ℕ) (P P' : ProgramTree) (differs : Bool) 
   pub is : text ≡ rerun_text history.entries choices results
   pub told : differs ≡ nat_lt 0 (differ_count history.entries choices results)
   pub faithful : IsFaithful old bytes P P' differs
+  pub each : IsFaithfulToEach old bytes P P' (outcomes history.entries choices results)

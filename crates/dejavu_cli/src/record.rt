@@ -1,11 +1,11 @@
 //! The history of a source and a suite.
-ghost use Rattle.std.specs.Prelude.{◌<◌, ◌≤◌, IfOk, MatchResult, All, length};
+ghost use Rattle.std.specs.Prelude.{ℕ, ◌<◌, ◌≤◌, IfOk, List, MatchResult, All, length};
 ghost use Rattle.csub_semantics.specs.Syntax.{program_tree};
 ghost use Rattle.flow_graph.specs.Graph.{IsGraphOf};
 ghost use Rattle.test_suite.specs.Suites.{most_tests};
 ghost use Rattle.test_suite.specs.Tests.{IsWithin};
-ghost use Rattle.test_history.specs.Histories.{IsHistoryWithin};
-ghost use Rattle.command_files.specs.Record.{IsHistory};
+ghost use Rattle.test_history.specs.Histories.{IsHistoryWithin, IsReadable};
+ghost use Rattle.command_files.specs.Record.{IsHistory, IsSuiteFile};
 ghost use Rattle.command_files.specs.Steps.{IsMade};
 ghost use Rattle.dejavu_cli.specs.Recorded.{IsRecorded};
 ghost use Rattle.dejavu_cli.specs.Steps.{IsRecordCause};
@@ -38,6 +38,7 @@ pub(crate) fn make_history<R: Threads + Sync, G: Gate>(
     requires few { runner.workers ≤ 64 }
     ensures history { IfOk result (λ history. IsHistory source.now (program_tree program.now) tests.now history) }
     ensures within { IfOk result (λ history. IsHistoryWithin history) }
+    ensures readable { (suite : List ℕ) → IsSuiteFile suite tests.now → IfOk result IsReadable }
 {
     bounds();
     let entries = run_all(

@@ -1,6 +1,7 @@
 //! Commands on two versions and a history of the old one.
 ghost use Rattle.std.specs.Prelude.{◌≡◌, ◌<◌, ◌≤◌, MatchResult, Some};
 ghost use Rattle.dv_outside.specs.Outside.{NeverFalls};
+ghost use Rattle.command_files.specs.Files.{AreOpened, AreOpenCause};
 ghost use Rattle.command_words.specs.Words.{select_files, rerun_files, explain_files, carry_files, order_files};
 ghost use Rattle.dejavu_cli.specs.Texts.{HasTextOf};
 ghost use Rattle.dejavu_cli.specs.Causes.{HasCauseOf};
@@ -10,13 +11,35 @@ use crate::answer::Answer;
 use crate::explain::explanation;
 use crate::rerun::rerun_answer;
 use crate::select::selection_text;
-use command_files::{FILE_AND_ONE, Runner, open_versions};
+use command_files::{FILE_AND_ONE, OpenedVersions, Runner, open_versions};
 use command_histories::{carried_text, ordered_text};
 use command_refusals::Refusal;
 use command_words::Files;
 use dv_outside::{Gate, Shelf};
 use std::alloc::Global;
 use std::thread::Threads;
+
+/// Both versions, and the bytes of the history.
+fn open_files<S: Shelf>(
+    alloc: Global,
+    files: Files<'_>,
+    shelf: &mut S,
+) -> Result<OpenedVersions, Refusal>
+    ensures opened { MatchResult result
+        (AreOpened (S.files shelf.old) files.entry.old.now files.entry.new.now files.entry.history.now 134217729)
+        (AreOpenCause files.entry.old.now files.entry.new.now files.entry.history.now (S.files shelf.old) (S.faults shelf.old) (S.faults shelf.new)) }
+    ensures counts { NeverFalls (S.faults shelf.old) (S.faults shelf.new) }
+    ensures same { S.files shelf.new ≡ S.files shelf.old }
+{
+    open_versions(
+        alloc,
+        files.old,
+        files.new,
+        files.history,
+        FILE_AND_ONE,
+        shelf,
+    )
+}
 
 /// The text of `select`.
 pub(crate) fn select<S: Shelf>(
@@ -30,14 +53,7 @@ pub(crate) fn select<S: Shelf>(
     ensures counts { NeverFalls (S.faults shelf.old) (S.faults shelf.new) }
     ensures same { S.files shelf.new ≡ S.files shelf.old }
 {
-    let opened = open_versions(
-        alloc,
-        files.old,
-        files.new,
-        files.history,
-        FILE_AND_ONE,
-        shelf,
-    )?;
+    let opened = open_files(alloc, files, shelf)?;
     selection_text(alloc, &opened.versions, &opened.bytes)
 }
 
@@ -56,14 +72,7 @@ pub(crate) fn rerun<R: Threads + Sync, S: Shelf, G: Gate>(
     ensures counts { NeverFalls (S.faults shelf.old) (S.faults shelf.new) }
     ensures same { S.files shelf.new ≡ S.files shelf.old }
 {
-    let opened = open_versions(
-        alloc,
-        files.old,
-        files.new,
-        files.history,
-        FILE_AND_ONE,
-        shelf,
-    )?;
+    let opened = open_files(alloc, files, shelf)?;
     rerun_answer(alloc, &opened.versions, &opened.bytes, runner)
 }
 
@@ -80,14 +89,7 @@ pub(crate) fn explain<S: Shelf>(
     ensures counts { NeverFalls (S.faults shelf.old) (S.faults shelf.new) }
     ensures same { S.files shelf.new ≡ S.files shelf.old }
 {
-    let opened = open_versions(
-        alloc,
-        files.old,
-        files.new,
-        files.history,
-        FILE_AND_ONE,
-        shelf,
-    )?;
+    let opened = open_files(alloc, files, shelf)?;
     explanation(alloc, &opened.versions, &opened.bytes, test)
 }
 
@@ -106,14 +108,7 @@ pub(crate) fn carry<R: Threads + Sync, S: Shelf, G: Gate>(
     ensures counts { NeverFalls (S.faults shelf.old) (S.faults shelf.new) }
     ensures same { S.files shelf.new ≡ S.files shelf.old }
 {
-    let opened = open_versions(
-        alloc,
-        files.old,
-        files.new,
-        files.history,
-        FILE_AND_ONE,
-        shelf,
-    )?;
+    let opened = open_files(alloc, files, shelf)?;
     carried_text(alloc, &opened.versions, &opened.bytes, runner)
 }
 
@@ -132,13 +127,6 @@ pub(crate) fn order<R: Threads + Sync, S: Shelf, G: Gate>(
     ensures counts { NeverFalls (S.faults shelf.old) (S.faults shelf.new) }
     ensures same { S.files shelf.new ≡ S.files shelf.old }
 {
-    let opened = open_versions(
-        alloc,
-        files.old,
-        files.new,
-        files.history,
-        FILE_AND_ONE,
-        shelf,
-    )?;
+    let opened = open_files(alloc, files, shelf)?;
     ordered_text(alloc, &opened.versions, &opened.bytes, runner)
 }
