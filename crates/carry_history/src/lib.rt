@@ -5,7 +5,8 @@
 //! the new program. Its contract is the whole promise (`specs/Carried.antt`). That the outcome is what recording on the new
 //! program gives, where the old history was recorded, says [`laws::carried_is_recorded`] (`specs/Recorded.antt`).
 //!
-//! `specs/Laid.antt` is for the functions inside.
+//! Which edges are images of which say [`Image`] and [`images`], which the crate gives on; `specs/Laid.antt` is for the
+//! functions inside.
 #![tactic(auto)]
 
 mod carrying;
@@ -15,3 +16,4 @@ mod moving;
 mod staying;
 
 pub use carrying::carry;
+pub use edge_images::{Image, images};

@@ -3,8 +3,8 @@
 use Rattle.std.specs.Prelude.{ℕ, ◌==◌, if◌then◌else◌, List, ◌++◌, Option, Some, None, codes}
 use Rattle.std.specs.Fmt.{decimal}
 use Rattle.hex.specs.Hex.{encode_lower}
-use Rattle.csub_lex.specs.declared.error.FaultKind.{FaultKind}
-use Rattle.csub_lex.specs.declared.error.FaultKind.TheVariants as kinds
+use Rattle.csub_lex.specs.declared.error.LexKind.{LexKind}
+use Rattle.csub_lex.specs.declared.error.LexKind.TheVariants as kinds
 use Rattle.csub_accept.specs.declared.error.SourceError.{SourceError}
 use Rattle.csub_accept.specs.declared.error.SourceError.TheVariants as sources
 use Rattle.test_suite.specs.declared.error.SuiteError.{SuiteError}
@@ -45,7 +45,7 @@ source_cause bytes (sources.Meaning rule at) = Some (source.Rule rule (place_of 
 source_cause bytes (sources.Limit number count) = Some (source.Limit number count)
 source_cause bytes sources.Memory = None
 
-abbrev pub kind_word : FaultKind → List ℕ
+abbrev pub kind_word : LexKind → List ℕ
 kind_word kinds.Byte = codes "byte"
 kind_word kinds.Number = codes "number"
 kind_word kinds.Directive = codes "directive"

@@ -3,7 +3,7 @@ ghost use Rattle.std.specs.Prelude.{◌≡◌, ◌++◌, OnOk};
 ghost use Rattle.csub_accept.specs.Accepted.{HasCause};
 ghost use Rattle.command_refusals.specs.Causes.{at_place, kind_word, limit_word, source_cause, source_text};
 
-use csub_accept::{FaultKind, SourceError};
+use csub_accept::{LexKind, SourceError};
 use line_text::push_decimal;
 use source_place::{Place, place_of, push_place};
 use std::alloc::AllocError;
@@ -14,7 +14,7 @@ pub enum SourceCause {
     /// It has more than 1,048,576 bytes.
     TooLong,
     /// No token begins at a place, where this is missing.
-    Lex(FaultKind, Place),
+    Lex(LexKind, Place),
     /// No unit goes on at a place.
     Syntax(Place),
     /// A rule is broken at a place.
@@ -38,13 +38,13 @@ pub fn source_cause(source: &[u8], error: SourceError) -> Option<SourceCause>
     }
 }
 
-fn kind_word(kind: FaultKind) -> &'static [u8]
+fn kind_word(kind: LexKind) -> &'static [u8]
     ensures { result.now ≡ kind_word kind }
 {
     match kind {
-        FaultKind::Byte => b"byte",
-        FaultKind::Number => b"number",
-        FaultKind::Directive => b"directive",
+        LexKind::Byte => b"byte",
+        LexKind::Number => b"number",
+        LexKind::Directive => b"directive",
     }
 }
 

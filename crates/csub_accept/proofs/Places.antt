@@ -2,7 +2,7 @@
 use Rattle.std.proofs.Common.{ℕ, zero, suc, ◌+◌, ◌<◌, ◌≤◌, List, [], ◌∷◌, ◌++◌, length, drop, arith, length-append, sym, subst, Result, Ok, Err}
 use Rattle.std.specs.Prelude.{IfErr}
 use Rattle.csub_text.specs.declared.span.Span.{Span}
-use Rattle.csub_lex.specs.declared.error.FaultKind.{FaultKind}
+use Rattle.csub_lex.specs.declared.error.LexKind.{LexKind}
 use Rattle.csub_lex.specs.declared.token.Token.{Token}
 use Rattle.csub_lex.specs.Pieces.{Stuck, no_number, no_directive, no_byte}
 use Rattle.csub_lex.specs.Tokens.{Fault, here, later}
@@ -16,12 +16,12 @@ use Rattle.csub_accept.specs.Accepted.{first_place, HasCause, TellsWithin}
 -- ---- faults of the cut
 
 -- where no piece begins some bytes, there is a byte
-stuck_some : (before bytes : List ℕ) (kind : FaultKind) → Stuck before bytes kind → 1 ≤ length bytes
+stuck_some : (before bytes : List ℕ) (kind : LexKind) → Stuck before bytes kind → 1 ≤ length bytes
 stuck_some before bytes kind (no_number b bs d none) = omega arith
 stuck_some before bytes kind (no_directive bs none) = omega arith
 stuck_some before bytes kind (no_byte b bs d h none) = omega arith
 
-fault_before : (before bytes : List ℕ) (kind : FaultKind) (at : ℕ) → Fault before bytes kind at → at < length before + length bytes
+fault_before : (before bytes : List ℕ) (kind : LexKind) (at : ℕ) → Fault before bytes kind at → at < length before + length bytes
 fault_before before bytes kind at (here stuck) = omega (arith, stuck_some before bytes kind stuck)
 fault_before before bytes kind at (later text after piece p more) =
     omega (arith, length-append before text, length-append text after, fault_before (before ++ text) after kind at more)

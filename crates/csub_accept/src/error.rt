@@ -1,5 +1,5 @@
 //! Why a source isn't accepted.
-use csub_lex::FaultKind;
+use csub_lex::LexKind;
 use csub_text::Span;
 use thiserror::Error;
 
@@ -11,7 +11,7 @@ pub enum SourceError {
     TooLong(usize),
     /// What is missing at a byte where no token, blank, comment or include line begins.
     #[error("the source is not cut into tokens")]
-    Lex(FaultKind, Span),
+    Lex(LexKind, Span),
     /// The place of the least token at which no unit can go on; the empty place at the end where the tokens end too early.
     #[error("the tokens spell no unit")]
     Syntax(Span),

@@ -8,6 +8,6 @@
 pub mod error;
 pub mod stages;
 
-pub use csub_lex::FaultKind;
+pub use csub_lex::LexKind;
 pub use error::SourceError;
 pub use stages::accept;

@@ -10,7 +10,7 @@ ghost use Rattle.csub_accept.specs.declared.error.SourceError.TheVariants.{Lex, 
 
 use crate::error::SourceError;
 use csub_core::Program;
-use csub_lex::{FaultKind, LexError, Token, lex};
+use csub_lex::{LexError, LexKind, Token, lex};
 use csub_parse::{ParseError, parse};
 use csub_resolve::{ResolveError, resolve};
 use csub_text::Span;
@@ -21,7 +21,7 @@ use std::alloc::Global;
 const MOST_BYTES: usize = 1_048_576;
 
 /// A fault of the cut, with its byte.
-fn fault_at(kind: FaultKind, at: u32) -> SourceError
+fn fault_at(kind: LexKind, at: u32) -> SourceError
     requires { at ≤ 1048576 }
     ensures { result ≡ Lex kind (record { start = at; end = at + 1 }) }
 {
@@ -44,9 +44,9 @@ fn tokens_of(alloc: Global, source: &[u8]) -> Result<Vec<Token>, SourceError>
 {
     match lex(alloc, source) {
         Ok(tokens) => Ok(tokens),
-        Err(LexError::Byte(at)) => Err(fault_at(FaultKind::Byte, at)),
-        Err(LexError::Number(at)) => Err(fault_at(FaultKind::Number, at)),
-        Err(LexError::Directive(at)) => Err(fault_at(FaultKind::Directive, at)),
+        Err(LexError::Byte(at)) => Err(fault_at(LexKind::Byte, at)),
+        Err(LexError::Number(at)) => Err(fault_at(LexKind::Number, at)),
+        Err(LexError::Directive(at)) => Err(fault_at(LexKind::Directive, at)),
         Err(LexError::Memory) => Err(SourceError::Memory),
     }
 }

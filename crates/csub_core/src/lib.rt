@@ -11,6 +11,7 @@
 pub mod program;
 mod valid;
 
+pub use csub_objects::cells;
 pub use csub_semantics::{
     Answer, BinOp, CType, CallLabel, Element, EndRule, ExitLabel, Function, GlobalVar, IntKind,
     Label, LocalVar, Member, Members, Owner, Piece, Place, Point, PointPath, RArg, RCall, RExpr,

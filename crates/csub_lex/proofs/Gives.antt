@@ -6,7 +6,7 @@ use Rattle.std.proofs.lemmas.Bool.{cond-true, cond-false}
 use Rattle.std.proofs.lemmas.List.{drop-drop}
 use Rattle.csub_lex.specs.declared.token.Mark.{Mark}
 use Rattle.csub_lex.specs.declared.token.TokenKind.TheVariants as kinds
-use Rattle.csub_lex.specs.declared.error.FaultKind.TheVariants as faults
+use Rattle.csub_lex.specs.declared.error.LexKind.TheVariants as faults
 use Rattle.csub_lex.specs.Bytes.{no_newline}
 use Rattle.csub_lex.specs.Lines.{blank_line}
 use Rattle.csub_lex.specs.Marks.{mark_text}

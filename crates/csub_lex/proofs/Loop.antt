@@ -3,8 +3,8 @@ use Rattle.std.proofs.Common.{◌≡◌, ℕ, ◌+◌, ◌<◌, ◌≤◌, List,
 use Rattle.std.proofs.lemmas.List.{drop-drop, take_at, drop_all}
 use Rattle.csub_lex.specs.declared.token.Token.{Token}
 use Rattle.csub_lex.specs.declared.token.TokenKind.{TokenKind}
-use Rattle.csub_lex.specs.declared.error.FaultKind.{FaultKind}
-use Rattle.csub_lex.specs.declared.error.FaultKind.TheVariants as faults
+use Rattle.csub_lex.specs.declared.error.LexKind.{LexKind}
+use Rattle.csub_lex.specs.declared.error.LexKind.TheVariants as faults
 use Rattle.csub_lex.specs.Pieces.{Piece, Stuck}
 use Rattle.csub_lex.specs.Tokens.{token_at, Tokens, ends, skips, takes, Fault, here, later, Names, InSource, error_of}
 use Rattle.csub_lex.specs.Finding.{Cut, skipped, took, stuck, next}
@@ -66,7 +66,7 @@ module _ (source : List ℕ) (at n : ℕ) where
       (λ i. record { kind = kind; span = record { start = begin i; end = begin i + m.size i } }) in
       subst (λ (t : Token). Tokens (take at source) (drop at source) (t ∷ tokens)) token made
 
-  pub faults_on : (piece : Option TokenKind) (kind : FaultKind) (place : ℕ) → Moves source at n piece → Fault (take (at + n) source) (drop (at + n) source) kind place → Fault (take at source) (drop at source) kind place
+  pub faults_on : (piece : Option TokenKind) (kind : LexKind) (place : ℕ) → Moves source at n piece → Fault (take (at + n) source) (drop (at + n) source) kind place → Fault (take at source) (drop at source) kind place
   faults_on piece kind place m more =
       subst (λ (x : List ℕ). Fault (take at source) x kind place) (sym m.parts)
       (later m.text (drop (at + n) source) piece m.piece_is (subst (λ (x : List ℕ). Fault x (drop (at + n) source) kind place) (sym m.front) more))
@@ -75,19 +75,19 @@ pub at_end : (source : List ℕ) (at : ℕ) → length source ≤ at → Tokens 
 at_end source at le = subst (λ (x : List ℕ). Tokens (take at source) x []) (sym (drop_all at source le)) ends
 
 -- where no piece is found there is a fault
-pub fault_here : (source : List ℕ) (at : ℕ) (kind : FaultKind) → at < length source → next (take at source) (drop at source) ≡ stuck kind → Fault (take at source) (drop at source) kind at
+pub fault_here : (source : List ℕ) (at : ℕ) (kind : LexKind) → at < length source → next (take at source) (drop at source) ≡ stuck kind → Fault (take at source) (drop at source) kind at
 fault_here source at kind within e = subst (λ (n : ℕ). Fault (take at source) (drop at source) kind n) (length-take-le at source (omega arith)) (here (go (drop at source) (omega (arith, length-drop at source)) e))
   where
     go : (s : List ℕ) → 0 < length s → next (take at source) s ≡ stuck kind → Stuck (take at source) s kind
     go [] some k = absurd (omega arith)
     go (b ∷ bs) some k = stuck_sound (take at source) b bs kind k
 
-pub names : (kind : FaultKind) (at : ℕ) (source : List ℕ) → Fault [] source kind at → Names (error_of kind at) source
+pub names : (kind : LexKind) (at : ℕ) (source : List ℕ) → Fault [] source kind at → Names (error_of kind at) source
 names faults.Byte at source h = h
 names faults.Number at source h = h
 names faults.Directive at source h = h
 
-pub in_source : (kind : FaultKind) (at : ℕ) (source : List ℕ) → at < length source → InSource (error_of kind at) source
+pub in_source : (kind : LexKind) (at : ℕ) (source : List ℕ) → at < length source → InSource (error_of kind at) source
 in_source faults.Byte at source h = h
 in_source faults.Number at source h = h
 in_source faults.Directive at source h = h

@@ -9,8 +9,8 @@ use Rattle.csub_lex.specs.declared.token.Mark.{Mark}
 use Rattle.csub_lex.specs.declared.token.Mark.TheVariants as marks
 use Rattle.csub_lex.specs.declared.token.TokenKind.{TokenKind}
 use Rattle.csub_lex.specs.declared.token.TokenKind.TheVariants as kinds
-use Rattle.csub_lex.specs.declared.error.FaultKind.{FaultKind}
-use Rattle.csub_lex.specs.declared.error.FaultKind.TheVariants as faults
+use Rattle.csub_lex.specs.declared.error.LexKind.{LexKind}
+use Rattle.csub_lex.specs.declared.error.LexKind.TheVariants as faults
 use Rattle.csub_lex.specs.Bytes.{is_blank, is_letter, is_word, no_newline, Run, Stops}
 use Rattle.csub_lex.specs.Marks.{mark_text, IsLongest, NoComment}
 use Rattle.csub_lex.specs.Lines.{blank_line}
@@ -25,7 +25,7 @@ use Rattle.csub_lex.proofs.LineLaws.{close_sound, close_complete, include_sound,
 -- what a cut says of the bytes s behind `before`
 
 -- the kind of a fault at these bytes
-abbrev pub FaultAt : List ℕ → FaultKind → Type 0
+abbrev pub FaultAt : List ℕ → LexKind → Type 0
 FaultAt [] kind = Unit {0}
 FaultAt (b ∷ bs) kind = kind ≡ cond (is_ascii_digit b) faults.Number (cond (b == 35) faults.Directive faults.Byte)
 

@@ -11,8 +11,8 @@ use Rattle.csub_lex.specs.declared.key.TheConstants.{KEYS}
 use Rattle.csub_lex.specs.declared.mark.TheConstants.{MARKS}
 use Rattle.csub_lex.specs.declared.token.TokenKind.{TokenKind}
 use Rattle.csub_lex.specs.declared.token.TokenKind.TheVariants as kinds
-use Rattle.csub_lex.specs.declared.error.FaultKind.{FaultKind}
-use Rattle.csub_lex.specs.declared.error.FaultKind.TheVariants as faults
+use Rattle.csub_lex.specs.declared.error.LexKind.{LexKind}
+use Rattle.csub_lex.specs.declared.error.LexKind.TheVariants as faults
 use Rattle.csub_lex.specs.declared.step.Step.{Step}
 use Rattle.csub_lex.specs.declared.step.Step.TheVariants as steps
 use Rattle.csub_lex.specs.Bytes.{is_blank, is_gap, is_letter, is_word, no_newline}
@@ -26,7 +26,7 @@ use Rattle.csub_lex.specs.Lines.{blank_line}
 pub data Cut : Type 0 where
   skipped : List ℕ → Cut
   took : TokenKind → List ℕ → Cut
-  stuck : FaultKind → Cut
+  stuck : LexKind → Cut
 
 abbrev pub begins : (ℕ → Bool) → List ℕ → Bool
 begins class [] = false
@@ -144,7 +144,7 @@ behind_close [] = None
 behind_close (a ∷ []) = None
 behind_close (a ∷ b ∷ more) = if a == 42 && b == 47 then Some more else behind_close (b ∷ more)
 
-abbrev pub skip_to : FaultKind → Option (List ℕ) → Cut
+abbrev pub skip_to : LexKind → Option (List ℕ) → Cut
 skip_to kind None = stuck kind
 skip_to kind (Some after) = skipped after
 

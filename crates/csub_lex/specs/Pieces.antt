@@ -5,8 +5,8 @@ use Rattle.std.specs.Char.{is_ascii_digit}
 use Rattle.csub_lex.specs.declared.token.Mark.{Mark}
 use Rattle.csub_lex.specs.declared.token.TokenKind.{TokenKind}
 use Rattle.csub_lex.specs.declared.token.TokenKind.TheVariants as kinds
-use Rattle.csub_lex.specs.declared.error.FaultKind.{FaultKind}
-use Rattle.csub_lex.specs.declared.error.FaultKind.TheVariants as faults
+use Rattle.csub_lex.specs.declared.error.LexKind.{LexKind}
+use Rattle.csub_lex.specs.declared.error.LexKind.TheVariants as faults
 use Rattle.csub_lex.specs.Bytes.{is_blank, is_gap, is_letter, is_word, no_newline, Run, Stops}
 use Rattle.csub_lex.specs.Words.{Word}
 use Rattle.csub_lex.specs.Marks.{mark_text, IsLongest, NoComment}
@@ -47,7 +47,7 @@ NoPiece before bytes =
     (text after : List ℕ) (kind : Option TokenKind) → bytes ≡ text ++ after → Piece before text after kind → ⊥
 
 -- bytes that no piece begins, and what is missing: a number where a digit stands, an include line at a `#`, and else any piece
-pub data Stuck (before : List ℕ) : List ℕ → FaultKind → Type 0 where
+pub data Stuck (before : List ℕ) : List ℕ → LexKind → Type 0 where
   no_number : (b : ℕ) (bs : List ℕ) → is_ascii_digit b ≡ true → NoPiece before (b ∷ bs)
       → Stuck before (b ∷ bs) faults.Number
   no_directive : (bs : List ℕ) → NoPiece before (35 ∷ bs) → Stuck before (35 ∷ bs) faults.Directive

@@ -2,8 +2,8 @@
 use Rattle.std.specs.Prelude.{ℕ, ◌+◌, ◌<◌, ◌≤◌, List, [], ◌∷◌, ◌++◌, length, take, drop, slice_range, Option, Some, None}
 use Rattle.csub_lex.specs.declared.token.TokenKind.{TokenKind}
 use Rattle.csub_lex.specs.declared.token.Token.{Token}
-use Rattle.csub_lex.specs.declared.error.FaultKind.{FaultKind}
-use Rattle.csub_lex.specs.declared.error.FaultKind.TheVariants as faults
+use Rattle.csub_lex.specs.declared.error.LexKind.{LexKind}
+use Rattle.csub_lex.specs.declared.error.LexKind.TheVariants as faults
 use Rattle.csub_lex.specs.declared.error.LexError.{LexError}
 use Rattle.csub_lex.specs.declared.error.LexError.TheVariants as errors
 use Rattle.csub_lex.specs.Pieces.{Piece, Stuck}
@@ -21,13 +21,13 @@ pub data Tokens : List ℕ → List ℕ → List Token → Type 0 where
       → Tokens (before ++ text) after tokens → Tokens before (text ++ after) (token_at before text kind ∷ tokens)
 
 -- `Fault before bytes kind at`: the bytes, behind `before`, are cut into pieces up to the place `at`, where none begins
-pub data Fault : List ℕ → List ℕ → FaultKind → ℕ → Type 0 where
-  here : {before bytes : List ℕ} {kind : FaultKind} → Stuck before bytes kind → Fault before bytes kind (length before)
-  later : {before : List ℕ} (text after : List ℕ) (piece : Option TokenKind) {kind : FaultKind} {at : ℕ} → Piece before text after piece
+pub data Fault : List ℕ → List ℕ → LexKind → ℕ → Type 0 where
+  here : {before bytes : List ℕ} {kind : LexKind} → Stuck before bytes kind → Fault before bytes kind (length before)
+  later : {before : List ℕ} (text after : List ℕ) (piece : Option TokenKind) {kind : LexKind} {at : ℕ} → Piece before text after piece
       → Fault (before ++ text) after kind at → Fault before (text ++ after) kind at
 
 -- the error that names a fault at a place
-abbrev pub error_of : FaultKind → ℕ → LexError
+abbrev pub error_of : LexKind → ℕ → LexError
 error_of faults.Byte at = errors.Byte at
 error_of faults.Number at = errors.Number at
 error_of faults.Directive at = errors.Directive at

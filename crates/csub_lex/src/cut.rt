@@ -1,12 +1,12 @@
 //! A whole source cut into tokens.
 ghost use Rattle.std.specs.Prelude.{◌≡◌, ℕ, ◌≤◌, ◌⊎◌, List, [], length, IfOk, IfErr, MatchResult};
-ghost use Rattle.csub_lex.specs.declared.error.FaultKind.{FaultKind};
+ghost use Rattle.csub_lex.specs.declared.error.LexKind.{LexKind};
 ghost use Rattle.csub_lex.specs.declared.error.LexError.TheVariants.{Memory};
 ghost use Rattle.csub_lex.specs.declared.token.Token.{Token};
 ghost use Rattle.csub_lex.specs.Tokens.{Tokens, Spelled, Fault, Names, InSource, error_of};
 
 use crate::bytes::{from, front};
-use crate::error::{FaultKind, LexError};
+use crate::error::{LexError, LexKind};
 use crate::pieces::piece;
 use crate::step::Step;
 use crate::token::Token;
@@ -26,7 +26,7 @@ pub fn lex(alloc: Global, source: &[u8]) -> Result<Vec<Token>, LexError>
     ensures fault { IfErr result (λ error. Names error source.now) }
     ensures place { IfErr result (λ error. InSource error source.now) }
     ensures only { (tokens : List Token) → Tokens [] source.now tokens → MatchResult result (λ found. found.items ≡ tokens) (λ error. error ≡ Memory) }
-    ensures sure { (kind : FaultKind) (at : ℕ) → Fault [] source.now kind at → MatchResult result (λ _. ⊥) (λ error. (error ≡ error_of kind at) ⊎ (error ≡ Memory)) }
+    ensures sure { (kind : LexKind) (at : ℕ) → Fault [] source.now kind at → MatchResult result (λ _. ⊥) (λ error. (error ≡ error_of kind at) ⊎ (error ≡ Memory)) }
 {
     let mut tokens = Vec::new(alloc);
     let mut at = 0;
@@ -51,12 +51,12 @@ pub fn lex(alloc: Global, source: &[u8]) -> Result<Vec<Token>, LexError>
 }
 
 /// The error that names a fault at a place.
-fn error_at(kind: FaultKind, at: u32) -> LexError
+fn error_at(kind: LexKind, at: u32) -> LexError
     ensures { result ≡ error_of kind at }
 {
     match kind {
-        FaultKind::Byte => LexError::Byte(at),
-        FaultKind::Number => LexError::Number(at),
-        FaultKind::Directive => LexError::Directive(at),
+        LexKind::Byte => LexError::Byte(at),
+        LexKind::Number => LexError::Number(at),
+        LexKind::Directive => LexError::Directive(at),
     }
 }

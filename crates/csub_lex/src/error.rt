@@ -3,7 +3,7 @@ use thiserror::Error;
 
 /// What is missing at a place where no token, blank, comment or include line begins.
 #[derive(Clone, Copy, Debug, PartialEq, Eq)]
-pub enum FaultKind {
+pub enum LexKind {
     /// Any of them.
     Byte,
     /// A number: a digit stands there.

@@ -21,6 +21,6 @@ pub mod token;
 
 pub use csub_text::{BinOp, Span, StepOp, Text, UnaryOp};
 pub use cut::lex;
-pub use error::{FaultKind, LexError};
+pub use error::{LexError, LexKind};
 pub use place::line_column;
 pub use token::{Key, Mark, Token, TokenKind};

@@ -3,7 +3,7 @@ ghost use Rattle.std.specs.Prelude.{◌≤◌, ◌<◌, length, drop, IfOk};
 ghost use Rattle.csub_lex.specs.Finding.{word_cut, number_cut, constant, character_of, text_cut, characters_of, directive_cut, comment_cut, mark_cut, next, Gives};
 
 use crate::bytes::{begins_with, behind_line, from, front, is_blank, is_letter, word_len};
-use crate::error::FaultKind;
+use crate::error::LexKind;
 use crate::key::key_of;
 use crate::line::{behind_close, behind_include, is_blank_line, opens};
 use crate::mark::mark_of;
@@ -63,7 +63,7 @@ fn number(bytes: &[u8]) -> Step
     let len = word_len(bytes);
     match number_of(front(bytes, len)) {
         Some((value, unsigned)) => Step::Token(TokenKind::Number(value, unsigned), len),
-        None => Step::Stuck(FaultKind::Number),
+        None => Step::Stuck(LexKind::Number),
     }
 }
 
@@ -78,10 +78,10 @@ fn constant(bytes: &[u8]) -> Step
             if begins_with(after, b'\'') {
                 Step::Token(TokenKind::Char(value), bytes.len() - after.len() + 1)
             } else {
-                Step::Stuck(FaultKind::Byte)
+                Step::Stuck(LexKind::Byte)
             }
         }
-        None => Step::Stuck(FaultKind::Byte),
+        None => Step::Stuck(LexKind::Byte),
     }
 }
 
@@ -95,7 +95,7 @@ fn string(alloc: Global, bytes: &[u8]) -> Result<Step, AllocError>
             TokenKind::Text(text),
             bytes.len() - after.len(),
         )),
-        Ok(None) => Ok(Step::Stuck(FaultKind::Byte)),
+        Ok(None) => Ok(Step::Stuck(LexKind::Byte)),
         Err(error) => Err(error),
     }
 }
@@ -108,11 +108,11 @@ fn directive(before: &[u8], bytes: &[u8]) -> Step
     ensures { Gives bytes.now result (directive_cut before.now (drop 1 bytes.now)) }
 {
     if !is_blank_line(before) {
-        return Step::Stuck(FaultKind::Directive);
+        return Step::Stuck(LexKind::Directive);
     }
     match behind_include(from(bytes, 1)) {
         Some(after) => Step::Skip(bytes.len() - after.len()),
-        None => Step::Stuck(FaultKind::Directive),
+        None => Step::Stuck(LexKind::Directive),
     }
 }
 
@@ -131,7 +131,7 @@ fn mark(bytes: &[u8]) -> Step
     }
     match mark_of(bytes) {
         Some(mark) => Step::Token(TokenKind::Mark(mark), mark.text().len()),
-        None => Step::Stuck(FaultKind::Byte),
+        None => Step::Stuck(LexKind::Byte),
     }
 }
 
@@ -144,6 +144,6 @@ fn comment(bytes: &[u8]) -> Step
 {
     match behind_close(from(bytes, 2)) {
         Some(after) => Step::Skip(bytes.len() - after.len()),
-        None => Step::Stuck(FaultKind::Byte),
+        None => Step::Stuck(LexKind::Byte),
     }
 }

@@ -1,5 +1,5 @@
 //! One piece of a source.
-use crate::error::FaultKind;
+use crate::error::LexKind;
 use crate::token::TokenKind;
 
 /// What the next bytes of a source are, and how many of them.
@@ -10,5 +10,5 @@ pub enum Step {
     /// A token of so many bytes.
     Token(TokenKind, usize),
     /// No piece of a source.
-    Stuck(FaultKind),
+    Stuck(LexKind),
 }

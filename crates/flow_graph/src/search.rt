@@ -1,4 +1,4 @@
-//! Searches in short lists.
+//! Searches for the way out of a point with an exit label.
 ghost use Rattle.std.specs.Prelude.{◌≡◌, ◌<◌, length, IfSome, slice_get, find};
 ghost use Rattle.std.specs.Option.{option_and_then};
 ghost use Rattle.csub_semantics.specs.Points.{exit_tree, exit_eq};
