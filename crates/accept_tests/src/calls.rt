@@ -4,7 +4,7 @@ use std::test::Fail;
 
 // C11 6.5.2.2p7: arguments are converted to the types of the parameters
 #[test]
-fn calls_with_arguments_and_results(rt: HostRuntime) -> Result<(), Fail> {
+fn a_call_converts_its_arguments_and_gives_a_result(rt: HostRuntime) -> Result<(), Fail> {
     bodies_agree(
         &rt,
         rt.alloc(),

@@ -1,5 +1,5 @@
 //! Runs of sources, and their refusals, as texts.
-use csub_accept::{FaultKind, SourceError, accept};
+use csub_accept::{LexKind, SourceError, accept};
 use csub_core::{Program, Status, Trap};
 use program_runs::{Shown, run_program};
 use std::alloc::Global;
@@ -157,11 +157,11 @@ pub fn traced_agree(
     Ok(())
 }
 
-fn kind_name(kind: FaultKind) -> &'static str {
+fn kind_name(kind: LexKind) -> &'static str {
     match kind {
-        FaultKind::Byte => "byte",
-        FaultKind::Number => "number",
-        FaultKind::Directive => "directive",
+        LexKind::Byte => "byte",
+        LexKind::Number => "number",
+        LexKind::Directive => "directive",
     }
 }
 

@@ -124,10 +124,16 @@ fn what_one_frame_stored_is_not_in_the_next(rt: HostRuntime) -> Result<(), Fail>
         &rt,
         rt.alloc(),
         "int f(int n) { int x; if (n == 0) { x = 5; } return x; }",
-        &[(
-            "f(0); f(1); return 0;",
-            &[(b"", 100, "|unset 13 0,2,3,4,5,6,7,8")],
-        )],
+        &[
+            (
+                "f(0); return f(1);",
+                &[(b"", 100, "|unset 13 0,2,3,4,5,6,7,8")],
+            ),
+            (
+                "f(0); f(1); return 0;",
+                &[(b"", 100, "|unset 13 0,2,3,4,5,6,7,8")],
+            ),
+        ],
     )
 }
 

@@ -1,5 +1,5 @@
 //! What `record` writes between the source's digest and the sum.
-use crate::files::{ASSIGNED, answer_agrees, recorded};
+use crate::files::{ASSIGNED, answer_agrees, recorded, repeated};
 use dejavu_cli::Status8;
 use std::alloc::Global;
 use std::process::Abort;
@@ -88,31 +88,41 @@ fn an_entry_has_what_the_run_gives(rt: HostRuntime) -> Result<(), Fail> {
                 "test T 100 -\n",
                 "edges 8\ntests 1\ntest T\nbudget 100\ninput -\nstatus trap unset\nturns 7\noutput -\ncrossed 35\n",
             ),
+            (
+                "int f(int n) { int x; if (n == 0) { x = 5; } return x; } int main(void) { f(0); return f(1); }",
+                "test T 100 -\n",
+                "edges 11\ntests 1\ntest T\nbudget 100\ninput -\nstatus trap unset\nturns 13\noutput -\ncrossed fd01\n",
+            ),
+            (
+                "int main(void) { for (;;) { } }",
+                "test L 1000000 -\ntest M 3 -\n",
+                "edges 5\ntests 2\ntest L\nbudget 1000000\ninput -\nstatus turns\nturns 1000000\noutput -\ncrossed 0d\ntest M\nbudget 3\ninput -\nstatus turns\nturns 3\noutput -\ncrossed 05\n",
+            ),
+            (
+                "int main(void) { a: goto a; }",
+                "test G 5 -\n",
+                "edges 4\ntests 1\ntest G\nbudget 5\ninput -\nstatus turns\nturns 5\noutput -\ncrossed 0d\n",
+            ),
         ],
     )
 }
 
-/// The lines of the history of a loop that writes `x` so many times, whose output has at most 16,384 bytes.
-fn loop_lines(alloc: Global, before: &str, behind: &str) -> Result<String, Fail> {
-    let mut text = String::from_str(alloc, before)?;
-    for _ in 0..16_384 {
-        text.push_str("78")?;
-    }
-    text.push_str(behind)?;
-    Ok(text)
-}
-
+// The output is 16,384 times `x`.
 #[test]
 fn an_output_of_16384_bytes_is_whole_and_a_longer_one_floods(rt: HostRuntime) -> Result<(), Fail> {
     let alloc = rt.alloc();
-    let whole = loop_lines(
+    let whole = repeated(
         alloc,
         "edges 9\ntests 1\ntest L\nbudget 100000\ninput -\nstatus exit 0\nturns 49160\noutput ",
+        "78",
+        16_384,
         "\ncrossed ff01\n",
     )?;
-    let flooded = loop_lines(
+    let flooded = repeated(
         alloc,
         "edges 9\ntests 1\ntest L\nbudget 100000\ninput -\nstatus trap flood\nturns 49158\noutput ",
+        "78",
+        16_384,
         "\ncrossed dd00\n",
     )?;
     records_agree(
@@ -133,16 +143,33 @@ fn an_output_of_16384_bytes_is_whole_and_a_longer_one_floods(rt: HostRuntime) ->
     )
 }
 
-// Each of 4,096 tests writes 16,384 bytes in 776 turns: entries of 32,857 bytes, and 177 bytes in the other lines.
+// The points are 3 of `#start`, the entry and the exit of `main`, and one for each of its statements. The edges are 2 of
+// `#start`, that of the entry, and one for each line of an expression, or two for each `if`.
+#[test]
+fn the_largest_sources_have_so_many_edges(rt: HostRuntime) -> Result<(), Fail> {
+    let alloc = rt.alloc();
+    let lines = repeated(alloc, "int main(void) { ", "1; ", 9995, "}")?;
+    let branches = repeated(alloc, "int main(void) { ", "if (1) ; ", 4998, "}")?;
+    records_agree(
+        &rt,
+        alloc,
+        &[
+            (lines.as_str(), "", "edges 9998\ntests 0\n"),
+            (branches.as_str(), "", "edges 9999\ntests 0\n"),
+        ],
+    )
+}
+
+// Each of 4,096 tests writes 16,384 bytes in 776 turns: entries of 32,844 bytes, and 177 bytes in the other lines.
 #[test]
 fn a_history_of_more_than_134217728_bytes_is_too_much(rt: HostRuntime) -> Result<(), Fail> {
     let alloc = rt.alloc();
-    let mut line = String::new(alloc);
-    for _ in 0..64 {
-        line.push('x')?;
-    }
-    let source = format!(in alloc;
-        "int main(void) {{ int i; for (i = 0; i < 256; i++) {{ printf(\"{line}\"); }} return 0; }}"
+    let source = repeated(
+        alloc,
+        "int main(void) { int i; for (i = 0; i < 256; i++) { printf(\"",
+        "x",
+        64,
+        "\"); } return 0; }",
     )?;
     let mut suite = String::from_str(alloc, "dejavu suite 1\n")?;
     for number in 1..4097 {

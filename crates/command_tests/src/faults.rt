@@ -48,22 +48,37 @@ fn a_fault_at_any_of_the_files_is_a_read_fault(rt: HostRuntime) -> Result<(), Fa
     each_file_may_fail(&rt, alloc, &words, 3, SELECTION)
 }
 
-// The history has 240 bytes, of which the output takes 4 at a call.
+/// An output that takes 4 bytes at a call may fail at each of the calls, so many, that take the text of a command. What was
+/// taken before is a beginning of the text.
+fn each_call_of_the_output_may_fail<R: Threads + Abort + Sync>(
+    rt: &R,
+    alloc: Global,
+    words: &[&str],
+    calls: u32,
+    text: &str,
+) -> Result<(), Fail> {
+    let words = owned_words(alloc, words)?;
+    for before in 0..calls {
+        let mut shelf = shelf_of(alloc, FILES)?;
+        let mut out = FailingSink::new(alloc, 1000, 4, before.wrapping_add(1))?;
+        let status = dejavu(rt, alloc, &words, &mut shelf, &mut out, &OpenGate);
+        assert_eq!(rt; status, Status8::WriteFault);
+        assert_eq!(rt; out.bytes().len(), (before as usize).wrapping_mul(4));
+        assert!(rt; text.as_bytes().starts_with(out.bytes()));
+    }
+    Ok(())
+}
+
+// The history has 240 bytes, and the selection 36.
 #[test]
-fn a_fault_of_the_output_at_any_call_leaves_a_beginning_of_the_history(
+fn a_fault_of_the_output_at_any_call_leaves_a_beginning_of_the_text(
     rt: HostRuntime,
 ) -> Result<(), Fail> {
     let alloc = rt.alloc();
-    let words = owned_words(alloc, &["record", "empty", "one"])?;
-    for before in 0..60u32 {
-        let mut shelf = shelf_of(alloc, FILES)?;
-        let mut out = FailingSink::new(alloc, 1000, 4, before.wrapping_add(1))?;
-        let status = dejavu(&rt, alloc, &words, &mut shelf, &mut out, &OpenGate);
-        assert_eq!(rt; status, Status8::WriteFault);
-        assert_eq!(rt; out.bytes().len(), (before as usize).wrapping_mul(4));
-        assert!(rt; EMPTY_HISTORY.as_bytes().starts_with(out.bytes()));
-    }
-    Ok(())
+    let words = ["record", "empty", "one"];
+    each_call_of_the_output_may_fail(&rt, alloc, &words, 60, EMPTY_HISTORY)?;
+    let words = ["select", "branching", "changed", "history"];
+    each_call_of_the_output_may_fail(&rt, alloc, &words, 9, SELECTION)
 }
 
 #[test]

@@ -203,3 +203,19 @@ pub fn changed_counter(alloc: Global) -> Result<String, Fail> {
     let (before, behind) = WORD_COUNTER.split_once(LINE_BEFORE).ok_or("no such line")?;
     Ok(format!(in alloc; "{before}{LINE_BEFORE}{CHANGED_LINE}{behind}")?)
 }
+
+/// A text between two others, so many times.
+pub fn repeated(
+    alloc: Global,
+    before: &str,
+    part: &str,
+    count: u32,
+    behind: &str,
+) -> Result<String, AllocError> {
+    let mut text = String::from_str(alloc, before)?;
+    for _ in 0..count {
+        text.push_str(part)?;
+    }
+    text.push_str(behind)?;
+    Ok(text)
+}

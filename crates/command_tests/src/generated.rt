@@ -23,6 +23,12 @@ fn generated_begins<R: Threads + Abort + Sync>(
     Ok(())
 }
 
+// The old source has N functions and a `main` that calls each of them once. `#start` has three points and two edges. Each of
+// the N has its entry, its test, an assignment on either side, its `return` and its exit: 6 points, and 6 edges, since two leave
+// the test. `main` has its entry, the input, for each of the N its call and what is done with the result, the output, the
+// `return` and its exit: 5 + 2N points, and 4 + 2N edges. Together that is 8 + 8N points and 6 + 8N edges. There are 4N tests,
+// and the one edge to the changed assignment is dangerous. By the draws that `dv_gen` shows, 2 of the 4 bytes go there in the
+// first pair, 95 and 1, which aren't greater than 149, and all 8 in the second.
 #[test]
 fn a_small_pair_is_measured(rt: HostRuntime) -> Result<(), Fail> {
     let one =

@@ -27,6 +27,7 @@ fn changed(alloc: Global, that: &str, this: &str) -> Result<String, Fail> {
 #[test]
 fn the_line_says_which_rule_a_history_breaks(rt: HostRuntime) -> Result<(), Fail> {
     let rows: &[(&str, &str, &str)] = &[
+        ("history 3", "history 1", "refused: history version 1\n"),
         ("history 3", "history 2", "refused: history version 2\n"),
         ("history 3", "history", "refused: history line 1 rule H1\n"),
         (

@@ -24,11 +24,11 @@ fn order_agrees<R: Threads + Abort + Sync>(
     Ok(())
 }
 
-const DEEP: &str =
+pub const DEEP: &str =
     "int f(int n) { if (n == 0) { return 1; } return f(n - 1); } int main(void) { if (getchar() == 65) { return f(3); } return 0; }";
 
 /// The same, with another condition in `main`.
-const OTHER_CONDITION: &str =
+pub const OTHER_CONDITION: &str =
     "int f(int n) { if (n == 0) { return 1; } return f(n - 1); } int main(void) { if (getchar() + 0 == 65) { return f(3); } return 0; }";
 
 #[test]

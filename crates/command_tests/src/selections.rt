@@ -89,7 +89,7 @@ fn an_unrolled_loop_leaves_every_test(rt: HostRuntime) -> Result<(), Fail> {
 }
 
 #[test]
-fn a_changed_switch_type_or_call_selects_who_reaches_it(rt: HostRuntime) -> Result<(), Fail> {
+fn a_changed_switch_object_or_call_selects_who_reaches_it(rt: HostRuntime) -> Result<(), Fail> {
     selections_agree(
         &rt,
         rt.alloc(),
@@ -105,6 +105,12 @@ fn a_changed_switch_type_or_call_selects_who_reaches_it(rt: HostRuntime) -> Resu
                 "char g; int main(void) { putchar(65); if (getchar() == 66) { g = 300; } return 0; }",
                 TESTS,
                 "left A\nrun B edge 4\nselected 1 of 2\n",
+            ),
+            (
+                "int k = 1; int main(void) { if (getchar() == 65) { putchar(k); } return 0; }",
+                "int k = 2; int main(void) { if (getchar() == 65) { putchar(k); } return 0; }",
+                TESTS,
+                "run A edge 3\nleft B\nselected 1 of 2\n",
             ),
             (
                 "int f(int n) { return f(n + 1); } int main(void) { return f(0); }",

@@ -1,5 +1,5 @@
 //! Lines for sources that aren't accepted, and the selection for a program of some size.
-use crate::files::{COUNTED, answer_agrees, changed_counter, recorded};
+use crate::files::{COUNTED, answer_agrees, changed_counter, recorded, repeated, versions_agree};
 use dejavu_cli::Status8;
 use sample_sources::WORD_COUNTER;
 use std::alloc::Global;
@@ -66,15 +66,16 @@ const SELECTION: &str =
 
 #[test]
 fn tests_with_a_digit_run_again_where_a_digit_begins_a_word(rt: HostRuntime) -> Result<(), Fail> {
-    let new = changed_counter(rt.alloc())?;
-    let history = recorded(&rt, rt.alloc(), WORD_COUNTER, COUNTED)?;
-    let files = [
-        ("old", WORD_COUNTER),
-        ("new", new.as_str()),
-        ("history", history.as_str()),
-    ];
+    let alloc = rt.alloc();
+    let changed = changed_counter(alloc)?;
+    let spare = format!(in alloc; "int spare = 5;\n{changed}")?;
+    let history = recorded(&rt, alloc, WORD_COUNTER, COUNTED)?;
     let words = ["select", "old", "new", "history"];
-    answer_agrees(&rt, rt.alloc(), &files, &words, Status8::Done, SELECTION)
+    for new in [changed.as_str(), spare.as_str()] {
+        let versions = (WORD_COUNTER, new, history.as_str());
+        versions_agree(&rt, alloc, versions, &words, (Status8::Done, SELECTION))?;
+    }
+    Ok(())
 }
 
 /// A source whose `main` returns 0 within so many parentheses.
@@ -100,12 +101,45 @@ fn a_source_may_be_256_deep(rt: HostRuntime) -> Result<(), Fail> {
     source_is_refused(&rt, rt.alloc(), deeper.as_str(), line)
 }
 
-#[test]
-fn a_source_may_have_1048576_bytes(rt: HostRuntime) -> Result<(), Fail> {
-    let mut source = String::new(rt.alloc());
-    for _ in 0..1_048_577 {
-        source.push(' ')?;
+/// Functions, so many, and `main`.
+fn functions(alloc: Global, count: u32) -> Result<String, Fail> {
+    let mut source = String::new(alloc);
+    for number in 0..count {
+        let function = format!(in alloc; "int f{number}(void) {{ return 0; }} ")?;
+        source.push_str(function.as_str())?;
     }
-    let line = "refused: source too long\n";
-    source_is_refused(&rt, rt.alloc(), source.as_str(), line)
+    source.push_str("int main(void) { return 0; }")?;
+    Ok(source)
+}
+
+#[test]
+fn a_source_with_more_than_any_may_have_is_refused(rt: HostRuntime) -> Result<(), Fail> {
+    let alloc = rt.alloc();
+    let many = functions(alloc, 500)?;
+    let line = "refused: source limit functions 501\n";
+    source_is_refused(&rt, alloc, many.as_str(), line)?;
+    let body = "int main(void) { ";
+    let rows: &[(&str, &str, u32, &str, &str)] = &[
+        ("", " ", 1_048_577, "", "refused: source too long\n"),
+        ("", "(", 1_048_576, "", "refused: source syntax at 1:1\n"),
+        (
+            body,
+            "1; ",
+            9996,
+            "}",
+            "refused: source limit points 10001\n",
+        ),
+        (
+            body,
+            "if (1) ; ",
+            4999,
+            "}",
+            "refused: source limit edges 10001\n",
+        ),
+    ];
+    for &(before, part, count, behind, line) in rows {
+        let source = repeated(alloc, before, part, count, behind)?;
+        source_is_refused(&rt, alloc, source.as_str(), line)?;
+    }
+    Ok(())
 }

@@ -73,6 +73,11 @@ fn each_way_out_of_a_dangerous_edge_is_told_with_its_place(rt: HostRuntime) -> R
                 "int f(int n) { if (n == 0) { return 2; } return f(n - 1); } int main(void) { if (getchar() == 65) { return f(3); } return 0; }",
                 "edge 3 f 1:20 true\ndangerous 1 of 14\npairs 11\n",
             ),
+            (
+                "int f(int n) { if (n == 0) { return 1; } return f(n - 1); } int main(void) { if (getchar() == 65) { return f(3); } return 0; }",
+                "int f(int n) { if (n == 0) { return 1; } return f(n - 1); } int main(void) { if (getchar() + 0 == 65) { return f(3); } return 0; }",
+                "edge 8 main 1:65 next\ndangerous 1 of 14\npairs 3\n",
+            ),
         ],
     )
 }

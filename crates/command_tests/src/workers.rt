@@ -1,9 +1,11 @@
-//! Any number of workers records the same history, and each test passes the gate once.
-use crate::files::{BRANCHING, COUNTED, answer_about, owned_words, shelf_of};
-use dejavu_cli::{Status8, dejavu};
-use dv_outside::{Gate, MemorySink};
+//! Any number of workers records the same history, and two of them are at work at the same time.
+use crate::files::{BRANCHING, COUNTED, TWO, answer_about, answer_counted, recorded};
+use crate::orders::{DEEP, OTHER_CONDITION};
+use dejavu_cli::Status8;
+use dv_outside::Gate;
 use sample_sources::WORD_COUNTER;
 use std::alloc::Global;
+use std::process::Abort;
 use std::sync::atomic::{AtomicU64, Ordering};
 use std::test::Fail;
 use std::thread::Threads;
@@ -30,7 +32,7 @@ fn any_number_of_workers_records_the_same(rt: HostRuntime) -> Result<(), Fail> {
     let rows = &[
         (WORD_COUNTER, COUNTED),
         (WORD_COUNTER, "dejavu suite 1\n"),
-        (BRANCHING, "dejavu suite 1\ntest A 100 41\ntest B 100 42\n"),
+        (BRANCHING, TWO),
     ];
     for &(source, suite) in rows {
         let one = history(&rt, alloc, source, suite, "1")?;
@@ -42,19 +44,25 @@ fn any_number_of_workers_records_the_same(rt: HostRuntime) -> Result<(), Fail> {
     Ok(())
 }
 
-/// A gate that counts who passes, and waits a while at the first test of each of two workers for the other one.
+/// A gate that counts who passes, and at which two workers wait a while for each other, the first time that each of them
+/// comes with its test.
 #[derive(Drop)]
 struct Meeting {
+    first: usize,
+    second: usize,
     passed: AtomicU64,
-    waiting: AtomicU64,
+    came: AtomicU64,
     met: AtomicU64,
 }
 
 impl Meeting {
-    fn new() -> Meeting {
+    /// The two workers come with these tests.
+    fn new(first: usize, second: usize) -> Meeting {
         Meeting {
+            first,
+            second,
             passed: AtomicU64::new(0),
-            waiting: AtomicU64::new(0),
+            came: AtomicU64::new(0),
             met: AtomicU64::new(0),
         }
     }
@@ -63,10 +71,12 @@ impl Meeting {
 impl Gate for Meeting {
     fn enter(&self, test: usize) {
         self.passed.fetch_add(1, Ordering::SeqCst);
-        if test == 0 || test == 6 {
-            self.waiting.fetch_add(1, Ordering::SeqCst);
+        if test == self.first || test == self.second {
+            if self.came.fetch_add(1, Ordering::SeqCst) >= 2 {
+                return;
+            }
             for _ in 0..1_000_000_000u64 {
-                if self.waiting.load(Ordering::SeqCst) == 2 {
+                if self.came.load(Ordering::SeqCst) >= 2 {
                     self.met.fetch_add(1, Ordering::SeqCst);
                     return;
                 }
@@ -75,17 +85,42 @@ impl Gate for Meeting {
     }
 }
 
+/// The words about these texts are done, two workers meet with these tests, and so many tests pass.
+fn two_workers_meet<R: Threads + Abort + Sync>(
+    rt: &R,
+    alloc: Global,
+    texts: &[(&str, &str)],
+    words: &[&str],
+    (first, second): (usize, usize),
+    passed: u64,
+) -> Result<(), Fail> {
+    let gate = Meeting::new(first, second);
+    let (status, _) = answer_counted(rt, alloc, texts, words, &gate)?;
+    assert_eq!(rt; status, Status8::Done);
+    assert_eq!(rt; gate.passed.load(Ordering::SeqCst), passed);
+    assert_eq!(rt; gate.met.load(Ordering::SeqCst), 2);
+    Ok(())
+}
+
 // Of twelve tests the first worker has those from 0 on and the second those from 6 on.
 #[test]
 fn two_workers_run_at_the_same_time(rt: HostRuntime) -> Result<(), Fail> {
+    let files = [("source", WORD_COUNTER), ("suite", COUNTED)];
+    let words = ["record", "source", "suite", "--workers=2"];
+    two_workers_meet(&rt, rt.alloc(), &files, &words, (0, 6), 12)
+}
+
+// Both tests are selected. Each worker counts one of them for the first place, and one counts the other test again for the
+// second place.
+#[test]
+fn two_workers_count_at_the_same_time(rt: HostRuntime) -> Result<(), Fail> {
     let alloc = rt.alloc();
-    let gate = Meeting::new();
-    let mut shelf = shelf_of(alloc, &[("source", WORD_COUNTER), ("suite", COUNTED)])?;
-    let mut out = MemorySink::new(alloc, 10_000, 1000)?;
-    let words = owned_words(alloc, &["record", "source", "suite", "--workers=2"])?;
-    let status = dejavu(&rt, alloc, &words, &mut shelf, &mut out, &gate);
-    assert_eq!(rt; status, Status8::Done);
-    assert_eq!(rt; gate.passed.load(Ordering::SeqCst), 12);
-    assert_eq!(rt; gate.met.load(Ordering::SeqCst), 2);
-    Ok(())
+    let history = recorded(&rt, alloc, DEEP, TWO)?;
+    let files = [
+        ("old", DEEP),
+        ("new", OTHER_CONDITION),
+        ("history", history.as_str()),
+    ];
+    let words = ["order", "old", "new", "history", "--workers=2"];
+    two_workers_meet(&rt, alloc, &files, &words, (0, 1), 3)
 }

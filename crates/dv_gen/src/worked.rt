@@ -35,7 +35,7 @@ fn expect_draws(rt: &impl Abort, draws: &mut Draws, m: u32, wanted: &[u32])
 }
 
 #[test]
-fn the_sources_of_one_function_are_these(rt: HostRuntime) -> Result<(), Fail> {
+fn of_one_function_the_new_source_adds_one_more(rt: HostRuntime) -> Result<(), Fail> {
     let made = make_pair(rt.alloc(), 1, 1)?;
     let old = b"int f0(int x) { if (x > 149) { x = x - 1; } else { x = x + 9; } return x; }\n\
 int main(void) {\n    int c;\n    c = getchar();\n    c = f0(c);\n    printf(\"%d\\n\", c);\n    return 0;\n}\n";

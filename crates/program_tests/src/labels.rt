@@ -1,7 +1,7 @@
-//! Which labels have one number, and how a caller asks that counts nothing.
+//! Which labels have one number, also as copies, and how a caller asks that counts nothing.
 ghost use Rattle.std.specs.Prelude.{◌≡◌, ◌<◌, length};
 
-use csub_core::Label;
+use csub_core::{GlobalVar, Label, copy_call, copy_global, copy_label};
 use edge_label::{LabelBook, Steps};
 use program_words::{read_labels, read_program};
 use std::alloc::{AllocError, Global};
@@ -9,13 +9,14 @@ use std::marker::Brand;
 use std::sync::ledger::{Blank, Ledger};
 use std::test::Fail;
 
-/// 26 labels, each other than the ones before it: those without values, those with a value or another kind, operations,
-/// and calls of a function with one parameter and one argument.
+/// 31 labels, each other than the ones before it: those without values, those with a value or another kind, operations,
+/// calls of a function with one parameter and one argument, and the other labels that have values.
 const DIFFERENT: &str =
     "entry end:nothing end:value end:main end:start eval getchar test getchar return return:char getchar return:int getchar eval putchar getchar \
     eval add:int 7 1 eval sub:int 7 1 eval add:int 7 const:unsigned:1 eval add:int 7 const:char:1 eval add:int 7 0 eval add:int 7 -1 eval add:int 7 -2 \
     call:f:int:1 member:x int value 5 call:g:int:1 member:x int value 5 call:f:int:1 member:y int value 5 call:f:int:1 member:x char value 5 \
-    call:f:char:1 member:x int value 5 call:f:void:0 member:x int value 5 call:f:int:1 member:x int value 6 call:f:int:2 member:x int value 5";
+    call:f:char:1 member:x int value 5 call:f:void:0 member:x int value 5 call:f:int:1 member:x int value 6 call:f:int:2 member:x int value 5 \
+    jump exit 7 switch_value getchar init local:x:1 int one 5 init local:x:1 array:2 int list:2 one 5 one read element global:a array:2 int 1";
 
 /// The numbers that a book gives to a new build of these labels.
 fn numbers(alloc: Global, book: &mut LabelBook) -> Result<Vec<u32>, Fail> {
@@ -26,45 +27,77 @@ fn numbers(alloc: Global, book: &mut LabelBook) -> Result<Vec<u32>, Fail> {
     Ok(numbers)
 }
 
-/// The numbers of two builds of these labels.
-fn twice(alloc: Global, book: &mut LabelBook) -> Result<(Vec<u32>, Vec<u32>), Fail> {
+/// A copy of a label; that of a call is a copy of its parts.
+fn copied(alloc: Global, label: &Label) -> Result<Label, AllocError> {
+    match label {
+        Label::Call(call) => Ok(Label::Call(copy_call(alloc, call)?)),
+        _ => copy_label(alloc, label),
+    }
+}
+
+/// The numbers that a book gives to copies of these labels.
+fn numbers_of_copies(alloc: Global, book: &mut LabelBook) -> Result<Vec<u32>, Fail> {
+    let mut numbers = Vec::new(alloc);
+    for label in &read_labels(alloc, DIFFERENT)? {
+        let copy = copied(alloc, label)?;
+        numbers.push(book.intern(&copy, &[])?)?;
+    }
+    Ok(numbers)
+}
+
+/// The numbers of two builds of these labels, and those of copies.
+fn thrice(alloc: Global, book: &mut LabelBook) -> Result<[Vec<u32>; 3], Fail> {
     let old = numbers(alloc, book)?;
     let new = numbers(alloc, book)?;
-    Ok((old, new))
+    let copies = numbers_of_copies(alloc, book)?;
+    Ok([old, new, copies])
 }
 
 /// The same in a new book. It is dropped here alone, since each way to drop one takes long to prove.
-fn twice_anew(alloc: Global) -> Result<(Vec<u32>, Vec<u32>), Fail> {
+fn thrice_anew(alloc: Global) -> Result<[Vec<u32>; 3], Fail> {
     let mut book = LabelBook::new(alloc);
-    twice(alloc, &mut book)
+    thrice(alloc, &mut book)
 }
 
-// Labels that differ in one part have different numbers, given from 0 on; equal ones of a second build have the same.
+// Labels that differ in one part have different numbers, given from 0 on; equal ones of a second build have the same, and so
+// have copies.
 #[test]
 fn a_label_has_the_number_of_its_equal_and_of_no_other(rt: HostRuntime) -> Result<(), Fail> {
-    let (old, new) = twice_anew(rt.alloc())?;
-    assert_eq!(rt; old.len(), 26);
+    let [old, new, copies] = thrice_anew(rt.alloc())?;
+    assert_eq!(rt; old.len(), 31);
     for (place, number) in old.iter().enumerate() {
         assert!(rt; *number as usize == place, "label {place}");
     }
     assert!(rt; new.as_slice() == old.as_slice());
+    assert!(rt; copies.as_slice() == old.as_slice());
     Ok(())
 }
 
-/// The number of `putchar(k)` beside `int j` and `int k` with these contents.
+/// Copies of objects of file scope.
+fn copied_globals(alloc: Global, globals: &[GlobalVar]) -> Result<Vec<GlobalVar>, AllocError> {
+    let mut copies = Vec::new(alloc);
+    for global in globals {
+        copies.push(copy_global(alloc, global)?)?;
+    }
+    Ok(copies)
+}
+
+/// The numbers of `putchar(k)` beside `int j` and `int k` with these contents, and beside copies of both.
 fn number_beside(
     alloc: Global,
     book: &mut LabelBook,
     label: &Label,
     other: i64,
     initial: i64,
-) -> Result<u32, Fail> {
+) -> Result<[u32; 2], Fail> {
     let text = format!(in alloc; "start main {{ }} static:j:{other} int static:k:{initial} int")?;
     let program = read_program(alloc, text.as_str())?.ok_or("refused")?;
-    Ok(book.intern(label, program.globals())?)
+    let number = book.intern(label, program.globals())?;
+    let copies = copied_globals(alloc, program.globals())?;
+    Ok([number, book.intern(label, &copies)?])
 }
 
-/// The numbers of `putchar(k)` beside `int j` and `int k` with the contents of each row.
+/// The numbers of `putchar(k)` beside `int j` and `int k` with the contents of each row, each with that beside copies.
 fn numbers_beside(
     alloc: Global,
     book: &mut LabelBook,
@@ -74,7 +107,7 @@ fn numbers_beside(
     let label = labels.first().ok_or("no label")?;
     let mut numbers = Vec::new(alloc);
     for &(other, initial) in rows {
-        numbers.push(number_beside(alloc, book, label, other, initial)?)?;
+        numbers.extend_from_slice(&number_beside(alloc, book, label, other, initial)?)?;
     }
     Ok(numbers)
 }
@@ -89,7 +122,7 @@ fn numbers_anew(alloc: Global, rows: &[(i64, i64)]) -> Result<Vec<u32>, Fail> {
 #[test]
 fn a_label_has_the_contents_of_what_it_names(rt: HostRuntime) -> Result<(), Fail> {
     let numbers = numbers_anew(rt.alloc(), &[(1, 1), (1, 2), (2, 1), (2, 2)])?;
-    assert_eq!(rt; numbers.as_slice(), [0, 1, 0, 1].as_slice());
+    assert_eq!(rt; numbers.as_slice(), [0, 0, 1, 1, 0, 0, 1, 1].as_slice());
     Ok(())
 }
 

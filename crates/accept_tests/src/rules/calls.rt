@@ -21,7 +21,9 @@ fn functions_are_called(rt: HostRuntime) -> Result<(), Fail> {
 
 // C11 6.5.2.2p2: nothing is said of the type of an argument that is broken in itself, but it counts.
 #[test]
-fn arguments_fit(rt: HostRuntime) -> Result<(), Fail> {
+fn arguments_are_as_many_as_parameters_and_numbers_for_numbers(
+    rt: HostRuntime,
+) -> Result<(), Fail> {
     agrees(
         &rt,
         rt.alloc(),

@@ -65,7 +65,9 @@ fn objects_have_sizes(rt: HostRuntime) -> Result<(), Fail> {
 
 // C11 6.7.9p2, p11 and p16 to p19; in a function an initialiser is any expression.
 #[test]
-fn initialisers_fit(rt: HostRuntime) -> Result<(), Fail> {
+fn an_initialiser_has_the_form_of_its_object_and_no_more_entries(
+    rt: HostRuntime,
+) -> Result<(), Fail> {
     agrees(
         &rt,
         rt.alloc(),

@@ -206,7 +206,7 @@ fn objects_and_structs_have_sizes(rt: HostRuntime) -> Result<(), Fail> {
 
 // C11 6.7.9p2 and p16
 #[test]
-fn initialisers_of_file_scope_fit(rt: HostRuntime) -> Result<(), Fail> {
+fn an_initialiser_of_file_scope_has_the_form_of_its_object(rt: HostRuntime) -> Result<(), Fail> {
     sources_agree(
         &rt,
         rt.alloc(),

@@ -3,7 +3,7 @@ use crate::tests::agrees;
 use std::test::Fail;
 
 #[test]
-fn primary_and_postfix_expressions(rt: HostRuntime) -> Result<(), Fail> {
+fn primary_and_postfix_expressions_are_read(rt: HostRuntime) -> Result<(), Fail> {
     agrees(
         &rt,
         rt.alloc(),
@@ -34,7 +34,7 @@ fn primary_and_postfix_expressions(rt: HostRuntime) -> Result<(), Fail> {
 }
 
 #[test]
-fn unary_expressions_and_casts(rt: HostRuntime) -> Result<(), Fail> {
+fn unary_expressions_and_casts_are_read(rt: HostRuntime) -> Result<(), Fail> {
     agrees(
         &rt,
         rt.alloc(),

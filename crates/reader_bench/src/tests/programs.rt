@@ -7,7 +7,7 @@ const WORDS_ITEMS: &str =
     "10 enum struct object object function if switch function declare declare for return function declare declare while eval if return";
 
 #[test]
-fn programs_of_a_line(rt: HostRuntime) -> Result<(), Fail> {
+fn programs_are_read_with_the_lines_of_their_functions(rt: HostRuntime) -> Result<(), Fail> {
     agrees(
         &rt,
         rt.alloc(),
@@ -51,7 +51,7 @@ fn programs_of_a_line(rt: HostRuntime) -> Result<(), Fail> {
 }
 
 #[test]
-fn the_word_counter_and_its_change(rt: HostRuntime) -> Result<(), Fail> {
+fn the_word_counter_has_the_same_items_with_a_line_more(rt: HostRuntime) -> Result<(), Fail> {
     let (before, behind) = WORD_COUNTER.split_once(LINE_BEFORE).ok_or("no such line")?;
     let changed = format!(in rt.alloc(); "{LINE_BEFORE}{CHANGED_LINE}")?;
     let rows = &[(LINE_BEFORE, WORDS_ITEMS), (changed.as_str(), WORDS_ITEMS)];

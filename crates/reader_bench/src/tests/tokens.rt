@@ -172,7 +172,7 @@ fn each_mark_is_a_token(rt: HostRuntime) -> Result<(), Fail> {
 }
 
 #[test]
-fn names_keywords_and_blanks(rt: HostRuntime) -> Result<(), Fail> {
+fn blanks_and_other_bytes_end_a_name_or_a_keyword(rt: HostRuntime) -> Result<(), Fail> {
     agrees(
         &rt,
         rt.alloc(),
