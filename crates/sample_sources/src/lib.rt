@@ -77,5 +77,5 @@ int main(void)
 /// The line of [`WORD_COUNTER`] behind which [`CHANGED_LINE`] is added in its next version.
 pub const LINE_BEFORE: &str = "            total.digits++;\n";
 
-/// The line that is added there: a digit begins a word as well.
+/// The line that is added there: a digit counts as inside a word, so a letter right behind it begins none.
 pub const CHANGED_LINE: &str = "            state = IN;\n";
