@@ -3,13 +3,16 @@ ghost use Rattle.std.specs.Prelude.{◌≡◌};
 ghost use Rattle.csub_expr.specs.declared.stop.Stop.TheVariants.{Memory};
 
 use std::alloc::{AllocError, AllocFailed};
+use thiserror::Error;
 
 /// Why no tree was read.
-#[derive(Debug, Drop)]
+#[derive(Debug, Drop, Error)]
 pub enum Stop {
     /// Memory was wanted.
+    #[error("memory was wanted")]
     Memory,
     /// A token was refused where so many tokens were left, itself counted.
+    #[error("a token was refused where {0} were left")]
     At(usize),
 }
 

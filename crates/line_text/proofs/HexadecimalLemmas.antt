@@ -147,19 +147,3 @@ pub sized_is : (r : Result (Unit {0}) FromHexError) (out text : List ℕ) (n : �
 sized_is r out text n h some lower =
     let read = sized_value (decode_sized text n) r out h some in
     decoded_is text out lower (sym (decode_sized-twice text n (decode_sized-ok text n out read)) ∙ read)
-
--- ---- a text that is being written
-
--- the next byte's two digits
-pub encode_lower-drop : (bytes : List ℕ) (i : ℕ) → i < length bytes
-    → encode_lower (drop i bytes) ≡ get_or lower_digits (get_or bytes i 0 / 16) 0 ∷ get_or lower_digits (get_or bytes i 0 % 16) 0 ∷ encode_lower (drop (i + 1) bytes)
-unfolding encode_with
-encode_lower-drop bytes i h = ap encode_lower (drop-cons bytes i 0 h) ∙ rw add-one refl
-
-pub pushed_two : (out one two rest more : List ℕ) (a b : ℕ) → one ≡ out ++ a ∷ [] → two ≡ one ++ b ∷ [] → rest ≡ a ∷ b ∷ more → two ++ more ≡ out ++ rest
-pushed_two out one two rest more a b first second next = rw (second, first, next) (simp append_assoc)
-
--- the text is whole once no byte is left
-pub all_written : (out before bytes : List ℕ) (i : ℕ) → length bytes ≤ i → out ++ encode_lower (drop i bytes) ≡ before ++ encode_lower bytes → out ≡ before ++ encode_lower bytes
-unfolding encode_with
-all_written out before bytes i h same = sym (append-nil out) ∙ sym (ap (λ left. out ++ encode_lower left) (drop_of_length-le bytes h)) ∙ same

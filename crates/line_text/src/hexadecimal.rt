@@ -4,10 +4,8 @@ ghost use Rattle.std.specs.Char.{is_ascii_uppercase};
 ghost use Rattle.std.specs.List.{list_any};
 ghost use Rattle.hex.specs.Hex.{encode_lower, IsBytes};
 
-use hex::{FromHexError, decode, decode_to_slice};
+use hex::{FromHexError, decode, decode_to_slice, encode_to_slice};
 use std::alloc::{AllocError, Global};
-
-const DIGITS: &[u8; 16] = b"0123456789abcdef";
 
 /// Appends two digits for each byte, in lower case. On `Err` nothing is appended.
 pub fn push_hex(out: &mut Vec<u8>, bytes: &[u8]) -> Result<(), AllocError>
@@ -15,10 +13,9 @@ pub fn push_hex(out: &mut Vec<u8>, bytes: &[u8]) -> Result<(), AllocError>
     ensures err { OnErr result (out.new.items ≡ out.old.items) }
 {
     out.reserve(2 * bytes.len())?;
-    for byte in bytes {
-        out.push(DIGITS[(byte / 16) as usize]).unwrap();
-        out.push(DIGITS[(byte % 16) as usize]).unwrap();
-    }
+    let start = out.len();
+    out.resize(start + 2 * bytes.len(), 0)?;
+    encode_to_slice(bytes, &mut out[start..]).unwrap();
     Ok(())
 }
 

@@ -12,17 +12,20 @@ use crate::test::Test;
 use csub_text::Text;
 use line_text::{Line, cut_word, read_bytes_or_dash, read_decimal};
 use std::alloc::{AllocError, Global};
+use thiserror::Error;
 
 const MOST_BUDGET: u64 = 10_000_000;
 
 const MOST_INPUT: usize = 16_384;
 
 /// Why a line gives no test.
-#[derive(Clone, Copy)]
+#[derive(Clone, Copy, Debug, Error)]
 pub enum LineFault {
     /// The least rule that the line breaks, 2 to 7.
+    #[error("the line breaks rule {0}")]
     Rule(u8),
     /// Memory ran out.
+    #[error("out of memory")]
     Memory,
 }
 
