@@ -1,6 +1,6 @@
 -- A label of a valid program lists each global that its tree names, so that two programs with that label declare these
 -- alike.
-use Rattle.std.proofs.Common.{◌≡◌, inl, ℕ, ◌+◌, List, [], ◌∷◌, ◌++◌, ◌||◌, Bool, true, false, Option, Some, None, is_some, All, refl, sym, subst, subst₂, IsTrue}
+use Rattle.std.proofs.Common.{◌≡◌, inl, ℕ, ◌+◌, List, [], ◌∷◌, ◌++◌, ◌||◌, Bool, true, false, Option, Some, None, is_some, All, refl, sym, subst, subst₂, IsTrue, bytes_eq}
 use Rattle.std.specs.List.{AllByRecursion, list_any, flat_map}
 use Rattle.std.specs.Option.{option_map}
 use Rattle.std.specs.Ordering.{int_eq}
@@ -11,7 +11,7 @@ use Rattle.std.specs.Cmp.Rules.{signed_items}
 use Rattle.csub_validity.specs.declared.role.Role.{Role}
 use Rattle.csub_validity.specs.declared.role.Role.TheVariants.{Whole, Test, Switch, Effect}
 use Rattle.csub_objects.specs.Types.{Name, TypeTree, type_eq, MemberTree}
-use Rattle.csub_semantics.specs.Types.{name_eq, GlobalTree}
+use Rattle.csub_semantics.specs.Types.{GlobalTree}
 use Rattle.csub_semantics.specs.Globals.{owner_names, variable_names, place_names, expr_names, exprs_names, arg_names, init_names, inits_names, label_names, global_of, named_globals}
 use Rattle.csub_semantics.specs.Trees.{OwnerTree, global_owner, local_owner, Variable, object, temporary, NamedPlace, variable, element_place, member_place, NamedExpr, constant, reading, unary_operation, conversion, stepping, operation, conjunction, disjunction, choice, assignment, update, input_byte, output_byte, formatted, NamedExprs, no_expr, more_exprs, NamedArg, value_argument, array_argument}
 use Rattle.csub_semantics.specs.Labels.{LabelTree, enters, exits, evaluates, initialises, branches, switches, returns, jumps, halts, calls, PointLabel, CallTree, AnswerTree, InitTree, one_value, listed as listed_init, InitTrees, no_init, more_inits}
@@ -30,7 +30,7 @@ use Rattle.call_walk.proofs.EveryLabel.{every_label}
 
 -- the roots of all frames, and those of the globals of a list
 abbrev pub listed : List GlobalTree → Root → Bool
-listed gs (global_root a) = list_any (λ g. name_eq g.name a) gs
+listed gs (global_root a) = list_any (λ g. bytes_eq g.name a) gs
 listed gs (local_root h a n) = true
 listed gs (temp_root h n) = true
 
@@ -250,9 +250,9 @@ alike o o' g e e' =
 module _ (P P' : Flow) where
   pub listed_shared : (gs : List GlobalTree) (a : Name) → AllByRecursion (λ g. P.global g.name ≡ Some g) gs → AllByRecursion (λ g. P'.global g.name ≡ Some g) gs → IsTrue (listed gs (global_root a)) → IsTrue (shared P P' (global_root a))
   listed_shared [] a h h' e = cc
-  listed_shared (g ∷ gs) a h h' e = pick (name_eq g.name a) refl e (λ rest. listed_shared gs a h.1 h'.1 rest)
+  listed_shared (g ∷ gs) a h h' e = pick (bytes_eq g.name a) refl e (λ rest. listed_shared gs a h.1 h'.1 rest)
     where
-      pick : (b : Bool) → name_eq g.name a ≡ b → IsTrue (b || list_any (λ i. name_eq i.name a) gs) → (IsTrue (listed gs (global_root a)) → IsTrue (shared P P' (global_root a))) → IsTrue (shared P P' (global_root a))
+      pick : (b : Bool) → bytes_eq g.name a ≡ b → IsTrue (b || list_any (λ i. bytes_eq i.name a) gs) → (IsTrue (listed gs (global_root a)) → IsTrue (shared P P' (global_root a))) → IsTrue (shared P P' (global_root a))
       pick true is e below = subst (λ n. IsTrue (declared_alike (P.global n) (P'.global n))) (same_name g.name a is) (alike (P.global g.name) (P'.global g.name) g h.0 h'.0)
       pick false is e below = below e
 

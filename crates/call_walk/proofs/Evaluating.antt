@@ -7,12 +7,12 @@ use Rattle.csub_types.specs.declared.kind.IntKind.{IntKind}
 use Rattle.csub_types.specs.declared.trap.Trap.{Trap}
 use Rattle.csub_types.specs.declared.trap.Trap.TheVariants.{Flood}
 use Rattle.csub_types.specs.Kinds.{convert, promote}
-use Rattle.csub_types.specs.Arithmetic.{unary, binary}
+use Rattle.csub_types.specs.Arithmetic.{unary, binary, right_operand}
 use Rattle.csub_objects.specs.Types.{TypeTree, number_type, array_type, struct_type, loose_type}
 use Rattle.csub_semantics.specs.Trees.{global_owner, local_owner, Variable, object, temporary, NamedPlace, variable, element_place, member_place, NamedExpr, constant, reading, unary_operation, conversion, stepping, operation, conjunction, disjunction, choice, assignment, update, input_byte, output_byte, formatted, NamedExprs, no_expr, more_exprs}
 use Rattle.csub_semantics.specs.Memory.{Answer, value, trapped, then_do, given, found, get_byte, most_output, put_byte, put_bytes, low_byte}
 use Rattle.csub_semantics.specs.Formats.{text_of}
-use Rattle.csub_semantics.specs.Evaluation.{right_operand, computed, step_by, step_value, fetch, is_index, indexed, locate, store, step, eval, eval_all}
+use Rattle.csub_semantics.specs.Evaluation.{computed, step_by, step_value, fetch, is_index, indexed, locate, store, step, eval, eval_all}
 use Rattle.csub_semantics.specs.Cells.{Root, root_of, Cell, cell_of, type_of, Spot, referred, stand_at, Content, number, reference, number_in, named}
 use Rattle.csub_semantics.specs.Acts.{Store}
 use Rattle.call_walk.specs.Shared.{Agree}

@@ -1,22 +1,25 @@
 //! Constant expressions (C11 6.6).
 ghost use Rattle.std.specs.Prelude.{◌≡◌, pos, Some, is_some, IfSome, not, option_map};
-ghost use Rattle.csub_types.specs.Arithmetic.{IsRightOperand, unary_kind, binary_kind};
+ghost use Rattle.csub_types.specs.Arithmetic.{IsRightOperand, unary_kind, binary_kind, operation_kind, right_operand};
 ghost use Rattle.csub_types.specs.Kinds.{IsPromoted, common, convert, promote};
 ghost use Rattle.csub_types.specs.Settled.{truth};
 ghost use Rattle.csub_types.specs.declared.kind.IntKind.TheVariants.{Int};
 ghost use Rattle.csub_scopes.specs.Meanings.{scope_of};
 ghost use Rattle.csub_scopes.specs.Scopes.{find};
 ghost use Rattle.csub_tree.specs.Expressions.{expr_tree};
-ghost use Rattle.csub_rules.specs.Constants.{and_value, binary_value, choice_value, constant, constant_of_declared, constant_of_name, is_constant, is_zero, or_value, right_operand, unary_value, untrapped, value_of};
-ghost use Rattle.csub_rules.specs.ExprSorts.{named_kind, number_literal_kind, operation_kind, sort_of};
+ghost use Rattle.csub_rules.specs.Constants.{and_value, binary_value, choice_value, constant, constant_of_declared, constant_of_name, is_constant, is_zero, or_value, unary_value, untrapped, value_of};
+ghost use Rattle.csub_rules.specs.ExprSorts.{named_kind, number_literal_kind, sort_of};
 ghost use Rattle.csub_rules.specs.Sorts.{a_value};
 
-use crate::kind::{binary_kind, named_kind, number_literal_kind, operation_kind, unary_kind};
+use crate::kind::{named_kind, number_literal_kind};
 use crate::library::{LibraryName, library_name};
 use csub_scopes::{Meaning, Scope};
 use csub_text::{BinOp, UnaryOp};
 use csub_tree::{Expr, ExprKind, TypeName};
-use csub_types::{IntKind, Trap, binary, common, convert, promote, truth, unary};
+use csub_types::{
+    IntKind, Trap, binary, binary_kind, common, convert, operation_kind, promote, truth, unary,
+    unary_kind,
+};
 
 /// The value of a declared name that is an enum constant (C11 6.4.4.3).
 fn declared_constant(scope: &Scope, name: &[u8]) -> Option<i64>

@@ -27,7 +27,7 @@ pub use callee::{Callee, callee_of};
 pub use checked::Checked;
 pub use constants::constant;
 pub use expression::check;
-pub use kind::{binary_kind, named_kind, number_literal_kind, operation_kind, unary_kind};
+pub use kind::{named_kind, number_literal_kind};
 pub use library::is_reserved;
 pub use sort::Sort;
 pub use standing::Standing;

@@ -13,7 +13,7 @@ ghost use Rattle.csub_check.specs.Seen.{the_callee, the_sort, the_standing};
 use crate::arguments::{formats, own_fault};
 use crate::callee::{Callee, given_by, named};
 use crate::checked::{Checked, array_fault, index_fault, member_fault, number_fault, place_fault};
-use crate::kind::{binary_kind, named_kind, number_literal_kind, operation_kind, unary_kind};
+use crate::kind::{named_kind, number_literal_kind};
 use crate::sort::{
     Sort, element_of, is_number, is_number_place, member_of, sort_if, the_kind, value_if,
 };
@@ -22,7 +22,7 @@ use csub_rules::{Fault, earlier, fault_if};
 use csub_scopes::Scope;
 use csub_text::{BinOp, Span, UnaryOp};
 use csub_tree::{Expr, Name, TypeName};
-use csub_types::{IntKind, common, promote};
+use csub_types::{IntKind, binary_kind, common, operation_kind, promote, unary_kind};
 
 /// What is found of the arguments of a call.
 #[derive(Clone, Copy)]

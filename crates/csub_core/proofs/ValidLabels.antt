@@ -1,5 +1,5 @@
 -- The names of labels, and how often each stands among them.
-use Rattle.std.proofs.Common.{◌≡◌, ◌≢◌, ◌↔◌, ◌∙◌, ℕ, ◌+◌, ◌≤◌, List, [], ◌∷◌, ◌++◌, ◌||◌, ◌&&◌, map, suc, get_or, Option, Some, None, is_none, is_some, Bool, true, false, not, nat_lt, nat_le, sum_by, All, AllPairs, IsTrue, refl, ap, sym, arith, if◌then◌else◌}
+use Rattle.std.proofs.Common.{◌≡◌, ◌≢◌, ◌↔◌, ◌∙◌, ℕ, ◌+◌, ◌≤◌, List, [], ◌∷◌, ◌++◌, ◌||◌, ◌&&◌, map, suc, get_or, Option, Some, None, is_none, is_some, Bool, true, false, not, nat_lt, nat_le, sum_by, All, AllPairs, IsTrue, refl, ap, sym, arith, if◌then◌else◌, bytes_eq}
 use Rattle.std.specs.List.{list_any, list_all}
 use Rattle.std.specs.Option.{SomeIff}
 use Rattle.std.specs.declared.vec.Vec.{Vec}
@@ -12,7 +12,6 @@ use Rattle.std.proofs.lemmas.List.Kept.{AllPairs-cons}
 use Rattle.std.proofs.lemmas.List.Sums.{sum_by-append, sum_by-cons, AllPass-from_list_all, list_all-from_AllPass}
 use Rattle.std.proofs.lemmas.Bool.Decides.{nat_tests}
 use Rattle.csub_objects.specs.Types.{Name}
-use Rattle.csub_semantics.specs.Types.{name_eq}
 use Rattle.csub_semantics.specs.declared.function.Function.{Function}
 use Rattle.csub_semantics.specs.declared.function.RPart.{RPart}
 use Rattle.csub_semantics.specs.declared.function.RStmt.{RStmt, Block, Switch}
@@ -65,7 +64,7 @@ pub names_of_labels : (f : FunctionTree) → labels_of f ≡ label_names_list f.
 names_of_labels f = names_of_list f.body 0 at to_exit
 
 abbrev use_of : Name → Name → ℕ
-use_of a b = if name_eq b a then 1 else 0
+use_of a b = if bytes_eq b a then 1 else 0
 
 uses-cons : (a b : Name) (names : List Name) → uses a (b ∷ names) ≡ use_of a b + uses a names
 uses-cons a b names = sum_by-cons (use_of a) b names
@@ -116,11 +115,11 @@ some_more n = grind (arith, nat_tests)
 none_more : (n : ℕ) → 0 + n ≡ n
 none_more n = omega arith
 
-any_used : (a : Name) (names : List Name) → nat_lt 0 (uses a names) ≡ list_any (λ b. name_eq b a) names
+any_used : (a : Name) (names : List Name) → nat_lt 0 (uses a names) ≡ list_any (λ b. bytes_eq b a) names
 any_used a [] = refl
-any_used a (b ∷ names) = ap (λ n. nat_lt 0 n) (uses-cons a b names) ∙ by (name_eq b a) (any_used a names)
+any_used a (b ∷ names) = ap (λ n. nat_lt 0 n) (uses-cons a b names) ∙ by (bytes_eq b a) (any_used a names)
   where
-    by : (t : Bool) → nat_lt 0 (uses a names) ≡ list_any (λ b. name_eq b a) names → nat_lt 0 ((if t then 1 else 0) + uses a names) ≡ (t || list_any (λ b. name_eq b a) names)
+    by : (t : Bool) → nat_lt 0 (uses a names) ≡ list_any (λ b. bytes_eq b a) names → nat_lt 0 ((if t then 1 else 0) + uses a names) ≡ (t || list_any (λ b. bytes_eq b a) names)
     by true h = some_more (uses a names)
     by false h = ap (λ n. nat_lt 0 n) (none_more (uses a names)) ∙ h
 
@@ -133,7 +132,7 @@ some_left : (r : Option ℕ) (n v : ℕ) → SomeIff r (n ≤ 1) v → is_some r
 some_left None n v h = grind (arith, nat_tests, h)
 some_left (Some x) n v h = grind (arith, nat_tests, h.0)
 
-pub any_by_room : (r : Option ℕ) (a : Name) (names : List Name) (n v : ℕ) → uses a names ≡ n → SomeIff r (n ≤ 0) v → is_none r ≡ list_any (λ b. name_eq b a) names
+pub any_by_room : (r : Option ℕ) (a : Name) (names : List Name) (n v : ℕ) → uses a names ≡ n → SomeIff r (n ≤ 0) v → is_none r ≡ list_any (λ b. bytes_eq b a) names
 any_by_room r a names n v same h = none_left r n v h ∙ ap (nat_lt 0) (sym same) ∙ any_used a names
 
 none_from_some : (r : Option ℕ) (b : Bool) → is_some r ≡ not b → b ≡ is_none r
@@ -153,12 +152,12 @@ use_of_itself : (a : Name) → use_of a a ≡ 1
 use_of_itself a = ap (λ t. if t then 1 else 0) ((bytes_decides a a).1 refl)
 
 use_of_other : (a b : Name) → a ≢ b → use_of a b ≡ 0
-use_of_other a b other = by (name_eq b a) refl
+use_of_other a b other = by (bytes_eq b a) refl
   where
     counted : Bool → ℕ
     counted t = if t then 1 else 0
 
-    by : (t : Bool) → name_eq b a ≡ t → counted t ≡ 0
+    by : (t : Bool) → bytes_eq b a ≡ t → counted t ≡ 0
     by true e = absurd (other (sym ((bytes_decides b a).0 e)))
     by false e = refl
 
@@ -185,9 +184,9 @@ pairs_tail a names h i j d less below = h (suc i) (suc j) d (omega (arith, less)
 
 once_from_pairs : (names : List Name) → AllPairs (λ b c. b ≢ c) names → (a : Name) → uses a names ≤ 1
 once_from_pairs [] h a = omega arith
-once_from_pairs (b ∷ names) h a = by (name_eq b a) refl (once_from_pairs names (pairs_tail b names h) a)
+once_from_pairs (b ∷ names) h a = by (bytes_eq b a) refl (once_from_pairs names (pairs_tail b names h) a)
   where
-    by : (t : Bool) → name_eq b a ≡ t → uses a names ≤ 1 → uses a (b ∷ names) ≤ 1
+    by : (t : Bool) → bytes_eq b a ≡ t → uses a names ≤ 1 → uses a (b ∷ names) ≤ 1
     by true e rest =
         let same : b ≡ a = (bytes_decides b a).0 e in
         let one : use_of a b ≡ 1 = ap (λ t. if t then 1 else 0) e in

@@ -1,21 +1,21 @@
--- What the steps of the validity check decide or count. No definition above this file needs it.
-use Rattle.std.specs.Prelude.{ℕ, ℤ, ◌+◌, ◌<◌, ◌≤◌, ◌≡◌, ◌≢◌, nat_le, Bool, false, List, [], ◌∷◌, ◌++◌, length, sum_by}
+-- What the steps of the validity check decide or count. Of all this the definitions above need `edges_of` alone (`csub_limits`).
+use Rattle.std.specs.Prelude.{ℕ, ℤ, ◌+◌, ◌<◌, ◌≤◌, ◌≡◌, ◌≢◌, nat_le, Bool, false, List, [], ◌∷◌, ◌++◌, length, sum_by, bytes_eq}
 use Rattle.std.specs.Prelude.{All, AllPairs, Option, Some, None}
 use Rattle.std.specs.List.{flat_map, count_by}
 use Rattle.csub_types.specs.declared.kind.IntKind.{IntKind}
 use Rattle.csub_types.specs.declared.kind.IntKind.TheVariants.{Int}
 use Rattle.csub_objects.specs.Meaning.{type_tree}
-use Rattle.csub_objects.specs.Types.{Name, cells, kinds, IsSized}
+use Rattle.csub_objects.specs.Types.{Name, cells, kinds, IsSized, main_name}
 use Rattle.csub_objects.specs.declared.types.Member.{Member}
 use Rattle.csub_semantics.specs.declared.types.GlobalVar.{GlobalVar}
 use Rattle.csub_semantics.specs.declared.function.LocalVar.{LocalVar}
-use Rattle.csub_semantics.specs.Types.{name_eq, GlobalTree, global_tree}
+use Rattle.csub_semantics.specs.Types.{GlobalTree, global_tree}
 use Rattle.csub_semantics.specs.Labels.{LabelTree, halts, jumps}
 use Rattle.csub_semantics.specs.Syntax.{PartTree, StmtTree, StmtTrees, ElseTree, parts, block, conditional, while_loop, do_loop, for_loop}
 use Rattle.csub_semantics.specs.Syntax.{switch_on, case_label, default_label, breaks, continues, goes_to, marked, no_stmt, more_stmts, no_else, else_stmt}
 use Rattle.csub_semantics.specs.Syntax.{FunctionTree, ProgramTree}
 use Rattle.csub_semantics.specs.Successors.{case_values}
-use Rattle.csub_semantics.specs.Flows.{main_name, function_in, points_of, Edge, edges_from}
+use Rattle.csub_semantics.specs.Flows.{function_in, points_of, Edge, edges_from}
 use Rattle.csub_validity.specs.declared.role.Role.{Role}
 use Rattle.csub_validity.specs.declared.role.Role.TheVariants.{Whole, Test, Switch, Effect}
 use Rattle.csub_validity.specs.Valid.{Scope, is_declared, value_kind, IsPart, IsLast, AreStmts, no_loop, objects_of, AreOther, labels_of, AreCases}
@@ -140,7 +140,7 @@ abbrev mutual
 
 -- how often a name stands among names, and whether at most once
 abbrev pub uses : Name → List Name → ℕ
-uses a names = count_by (λ b. name_eq b a) names
+uses a names = count_by (λ b. bytes_eq b a) names
 
 abbrev pub is_once : List Name → Name → Bool
 is_once names a = nat_le (uses a names) 1

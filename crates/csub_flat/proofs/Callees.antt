@@ -1,9 +1,8 @@
 -- Functions that are found in a graph.
-use Rattle.std.proofs.Common.{◌≡◌, ◌<◌, ◌∙◌, ℕ, List, [], ◌∷◌, length, Option, Some, None, Bool, true, false, cond, refl, sym, ap}
+use Rattle.std.proofs.Common.{◌≡◌, ◌<◌, ◌∙◌, ℕ, List, [], ◌∷◌, length, Option, Some, None, Bool, true, false, cond, refl, sym, ap, bytes_eq}
 use Rattle.std.specs.Option.{option_map}
 use Rattle.std.proofs.lemmas.List.{length-map}
 use Rattle.csub_objects.specs.Types.{Name}
-use Rattle.csub_semantics.specs.Types.{name_eq}
 use Rattle.csub_semantics.specs.Syntax.{FunctionTree, ProgramTree}
 use Rattle.csub_semantics.specs.Flows.{function_in, function_of}
 use Rattle.csub_semantics.specs.Numbers.{name_at}
@@ -16,9 +15,9 @@ functions_counted g P h = sym (length-map g.0 (function_at P)) ∙ ap length h.f
 
 found_name : (fs : List FunctionTree) (f : Name) (g : FunctionTree) → function_in fs f ≡ Some g → g.name ≡ f
 found_name [] f g e = absurd cc
-found_name (h ∷ rest) f g e = step (name_eq h.name f) refl e (found_name rest f g)
+found_name (h ∷ rest) f g e = step (bytes_eq h.name f) refl e (found_name rest f g)
   where
-    step : (b : Bool) → name_eq h.name f ≡ b → cond b (Some h) (function_in rest f) ≡ Some g → (function_in rest f ≡ Some g → g.name ≡ f) → g.name ≡ f
+    step : (b : Bool) → bytes_eq h.name f ≡ b → cond b (Some h) (function_in rest f) ≡ Some g → (function_in rest f ≡ Some g → g.name ≡ f) → g.name ≡ f
     step true t e later = let same : h ≡ g = cc in ap (λ (x : FunctionTree). x.name) (sym same) ∙ same_name h.name f t
     step false t e later = later e
 

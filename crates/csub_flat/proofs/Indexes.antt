@@ -1,5 +1,5 @@
 -- The slots of globals, one after another.
-use Rattle.std.proofs.Common.{◌≡◌, ◌<◌, ◌≤◌, ◌∙◌, ℕ, zero, suc, ◌+◌, ◌&&◌, nat_eq, List, [], ◌∷◌, ◌++◌, map, take, drop, length, get_or, sum_by, Bool, true, false, cond, Option, Some, None, if◌then◌else◌, is_some, refl, ap, sym, subst, arith, add-one}
+use Rattle.std.proofs.Common.{◌≡◌, ◌<◌, ◌≤◌, ◌∙◌, ℕ, zero, suc, ◌+◌, ◌&&◌, nat_eq, List, [], ◌∷◌, ◌++◌, map, take, drop, length, get_or, sum_by, Bool, true, false, cond, Option, Some, None, if◌then◌else◌, is_some, refl, ap, sym, subst, arith, add-one, bytes_eq}
 use Rattle.std.specs.Option.{option_map, option_or}
 use Rattle.std.specs.Ordering.{nat_cmp}
 use Rattle.std.specs.Cmp.Lexicographic.{slice_cmp, texts_ties}
@@ -9,7 +9,7 @@ use Rattle.std.proofs.lemmas.List.Sums.{sum_by-cons}
 use Rattle.csub_semantics.specs.declared.types.GlobalVar.{GlobalVar}
 use Rattle.csub_objects.specs.Types.{Name, cells}
 use Rattle.csub_objects.specs.Meaning.{type_tree}
-use Rattle.csub_semantics.specs.Types.{name_eq, GlobalTree, global_tree}
+use Rattle.csub_semantics.specs.Types.{GlobalTree, global_tree}
 use Rattle.csub_semantics.specs.Syntax.{LocalTree}
 use Rattle.program_laws.proofs.LawsNames.{same_name}
 use Rattle.csub_objects.specs.Paths.{Inside, inside_at, moved}
@@ -45,14 +45,14 @@ abbrev slot_in : List GlobalVar → Name → Option ℕ
 slot_in gs a = option_map (λ (x : Inside). x.at) (place_in (map global_object (map global_tree gs)) a 0)
 
 -- what one global more adds
-slot_more : (gs : List GlobalVar) (i s : ℕ) (g : GlobalVar) (a : Name) → i < length gs → g ≡ get_or gs i g → objects_size (map global_object (map global_tree (take i gs))) ≡ s → slot_in (take (i + 1) gs) a ≡ option_or (slot_in (take i gs) a) (cond (name_eq g.name a) (Some s) None)
+slot_more : (gs : List GlobalVar) (i s : ℕ) (g : GlobalVar) (a : Name) → i < length gs → g ≡ get_or gs i g → objects_size (map global_object (map global_tree (take i gs))) ≡ s → slot_in (take (i + 1) gs) a ≡ option_or (slot_in (take i gs) a) (cond (bytes_eq g.name a) (Some s) None)
 slot_more gs i s g a h e size =
     let before = map global_object (map global_tree (take i gs)) in
     ap (λ (n : ℕ). slot_in (take n gs) a) (add-one i)
     ∙ ap (λ (hs : List GlobalVar). slot_in hs a) (one_more gs i g h e)
     ∙ ap (λ (os : List LocalTree). option_map (λ (x : Inside). x.at) (place_in os a 0)) (objects_append (take i gs) (g ∷ []))
     ∙ ap (option_map (λ (x : Inside). x.at)) (place_in-append before (global_object (global_tree g) ∷ []) a 0)
-    ∙ either (place_in before a 0) (name_eq g.name a) size
+    ∙ either (place_in before a 0) (bytes_eq g.name a) size
   where
     either : (o : Option Inside) (b : Bool) {k : ℕ} → k ≡ s
         → option_map (λ (x : Inside). x.at) (option_or o (moved k (if b && nat_eq 0 0 then Some (inside_at 0 (plain (type_tree g.ctype))) else None)))
@@ -62,7 +62,7 @@ slot_more gs i s g a h e size =
     either None false k = refl
 
 -- the map's order tells names apart as their equality does
-at_name : (a b : Name) → is_at (slice_cmp nat_cmp a) b ≡ name_eq a b
+at_name : (a b : Name) → is_at (slice_cmp nat_cmp a) b ≡ bytes_eq a b
 at_name a b = sym (texts_ties a b)
 
 is_none : {X : Type 0} (o : Option X) → is_some o ≡ false → o ≡ None
@@ -73,9 +73,9 @@ is_none (Some x) e = cc
 module _ (gs : List GlobalVar) (i s : ℕ) (g : GlobalVar) (inside : i < length gs) (is : g ≡ get_or gs i g) (size : objects_size (map global_object (map global_tree (take i gs))) ≡ s) (m : BTreeMap Name ℕ) (so_far : AreSlotsOf (map global_object (map global_tree (take i gs))) m) where
   -- a name that is there keeps its slot
   pub name_again : is_some (get (slice_cmp nat_cmp) m g.name) ≡ true → AreSlotsOf (map global_object (map global_tree (take (i + 1) gs))) m
-  name_again there a = pick (name_eq g.name a) refl (get (slice_cmp nat_cmp) m a) refl ∙ sym (slot_more gs i s g a inside is size)
+  name_again there a = pick (bytes_eq g.name a) refl (get (slice_cmp nat_cmp) m a) refl ∙ sym (slot_more gs i s g a inside is size)
     where
-      pick : (b : Bool) → name_eq g.name a ≡ b → (o : Option ℕ) → get (slice_cmp nat_cmp) m a ≡ o → get (slice_cmp nat_cmp) m a ≡ option_or (slot_in (take i gs) a) (cond b (Some s) None)
+      pick : (b : Bool) → bytes_eq g.name a ≡ b → (o : Option ℕ) → get (slice_cmp nat_cmp) m a ≡ o → get (slice_cmp nat_cmp) m a ≡ option_or (slot_in (take i gs) a) (cond b (Some s) None)
       pick b e (Some j) f = f ∙ ap (λ (o : Option ℕ). option_or o (cond b (Some s) None)) (sym f ∙ so_far a)
       pick true e None f = let t : is_some (get (slice_cmp nat_cmp) m a) ≡ true = subst (λ n. is_some (get (slice_cmp nat_cmp) m n) ≡ true) (same_name g.name a e) there in let u = sym (ap is_some f) ∙ t in cc
       pick false e None f = f ∙ ap (λ (o : Option ℕ). option_or o None) (sym f ∙ so_far a)
@@ -84,10 +84,10 @@ module _ (gs : List GlobalVar) (i s : ℕ) (g : GlobalVar) (inside : i < length 
   pub name_added : (n : BTreeMap Name ℕ) → is_some (get (slice_cmp nat_cmp) m g.name) ≡ false → ((q : Name) → get (slice_cmp nat_cmp) n q ≡ cond (is_at (slice_cmp nat_cmp g.name) q) (Some s) (get (slice_cmp nat_cmp) m q)) → AreSlotsOf (map global_object (map global_tree (take (i + 1) gs))) n
   name_added n new updates a =
       updates a ∙ ap (λ b. cond b (Some s) (get (slice_cmp nat_cmp) m a)) (at_name g.name a)
-      ∙ pick (name_eq g.name a) refl
+      ∙ pick (bytes_eq g.name a) refl
       ∙ sym (slot_more gs i s g a inside is size)
     where
-      pick : (b : Bool) → name_eq g.name a ≡ b → cond b (Some s) (get (slice_cmp nat_cmp) m a) ≡ option_or (slot_in (take i gs) a) (cond b (Some s) None)
+      pick : (b : Bool) → bytes_eq g.name a ≡ b → cond b (Some s) (get (slice_cmp nat_cmp) m a) ≡ option_or (slot_in (take i gs) a) (cond b (Some s) None)
       pick true e =
           let none : get (slice_cmp nat_cmp) m a ≡ None = ap (get (slice_cmp nat_cmp) m) (sym (same_name g.name a e)) ∙ is_none (get (slice_cmp nat_cmp) m g.name) new in
           ap (λ (o : Option ℕ). option_or o (Some s)) (sym none ∙ so_far a)

@@ -1,10 +1,9 @@
 -- Points and functions of a program by their numbers.
-use Rattle.std.proofs.Common.{◌≡◌, ◌<◌, ◌∙◌, ℕ, zero, suc, List, [], ◌∷◌, length, All, Option, Some, Bool, true, false, cond, refl, sym, ap, subst, arith}
+use Rattle.std.proofs.Common.{◌≡◌, ◌<◌, ◌∙◌, ℕ, zero, suc, List, [], ◌∷◌, length, All, Option, Some, Bool, true, false, cond, refl, sym, ap, subst, arith, bytes_eq}
 use Rattle.std.specs.Prelude.{slice_get}
 use Rattle.std.specs.Option.{option_map}
 use Rattle.std.proofs.lemmas.List.Elements.{All-head, All-tail}
 use Rattle.csub_objects.specs.Types.{Name}
-use Rattle.csub_semantics.specs.Types.{name_eq}
 use Rattle.csub_semantics.specs.Syntax.{FunctionTree, ProgramTree}
 use Rattle.csub_semantics.specs.Flows.{point_list, function_in, function_of}
 use Rattle.csub_semantics.specs.Numbers.{Site, site_of, site_at}
@@ -25,7 +24,7 @@ place_is P n h =
 
 found_in : (fs : List FunctionTree) (Q : FunctionTree → Type 0) (a : Name) (g : FunctionTree) → All Q fs → function_in fs a ≡ Some g → Q g
 found_in [] Q a g h e = absurd cc
-found_in (f ∷ rest) Q a g h e = pick (name_eq f.name a) e (λ later. found_in rest Q a g (All-tail Q f rest h) later)
+found_in (f ∷ rest) Q a g h e = pick (bytes_eq f.name a) e (λ later. found_in rest Q a g (All-tail Q f rest h) later)
   where
     pick : (b : Bool) → cond b (Some f) (function_in rest a) ≡ Some g → (function_in rest a ≡ Some g → Q g) → Q g
     pick true e later = let same : f ≡ g = cc in subst Q same (All-head Q f rest h)

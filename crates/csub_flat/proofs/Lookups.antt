@@ -1,5 +1,5 @@
 -- The slots of objects, as the code puts them into maps and looks them up.
-use Rattle.std.proofs.Common.{◌≡◌, ◌<◌, ◌≤◌, ◌∙◌, ℕ, zero, suc, ◌+◌, ◌-◌, ◌&&◌, nat_eq, List, [], ◌∷◌, ◌++◌, map, take, length, get_or, Bool, true, false, cond, Option, Some, None, refl, ap, sym, subst, arith, add-one}
+use Rattle.std.proofs.Common.{◌≡◌, ◌<◌, ◌≤◌, ◌∙◌, ℕ, zero, suc, ◌+◌, ◌-◌, ◌&&◌, nat_eq, List, [], ◌∷◌, ◌++◌, map, take, length, get_or, Bool, true, false, cond, Option, Some, None, refl, ap, sym, subst, arith, add-one, bytes_eq}
 use Rattle.std.specs.List.{AllZip, slice_get}
 use Rattle.std.specs.Option.{option_map, option_and_then, unwrap_or}
 use Rattle.std.specs.Ordering.{nat_cmp}
@@ -13,7 +13,6 @@ use Rattle.std.proofs.lemmas.Option.{slice_get-map, slice_get-get_or, same_Some}
 use Rattle.csub_objects.specs.Types.{Name, cells}
 use Rattle.csub_objects.specs.Paths.{Inside, inside_at, moved}
 use Rattle.csub_semantics.specs.declared.function.Function.{Function}
-use Rattle.csub_semantics.specs.Types.{name_eq}
 use Rattle.csub_semantics.specs.Syntax.{LocalTree, FunctionTree, local_tree, function_tree}
 use Rattle.csub_validity.specs.Valid.{objects_of}
 use Rattle.csub_flat.specs.Frames.{plain, objects_size, place_in, as_object}
@@ -37,10 +36,10 @@ pub put_at : (m : ObjectSlots) (new : List (ℕ × BTreeMap Name ℕ)) (found : 
     → found ≡ get nat_cmp m k → none.entries ≡ [] → held ≡ unwrap_or found none
     → ((q : Name) → named_slot q named ≡ cond (is_at (slice_cmp nat_cmp copy) q) (Some s) (named_slot q held))
     → ((q : ℕ) → lookup (is_at (nat_cmp q)) new ≡ cond (is_at (nat_cmp k) q) (Some named) (get nat_cmp m q))
-    → (a : Name) (n : ℕ) → option_and_then (named_slot a) (lookup (is_at (nat_cmp n)) new) ≡ cond (name_eq b a && nat_eq k n) (Some s) (slot_at m a n)
+    → (a : Name) (n : ℕ) → option_and_then (named_slot a) (lookup (is_at (nat_cmp n)) new) ≡ cond (bytes_eq b a && nat_eq k n) (Some s) (slot_at m a n)
 put_at m new found none held named b copy k s same is_found empty is_held inner outer a n =
     ap (option_and_then (named_slot a)) (outer n ∙ ap (λ t. cond t (Some named) (get nat_cmp m n)) (sym (unsigned_ties k n)))
-    ∙ pick (nat_eq k n) refl (name_eq b a) (inner a ∙ ap (λ c. cond (is_at (slice_cmp nat_cmp c) a) (Some s) (named_slot a held)) same ∙ ap (λ t. cond t (Some s) (named_slot a held)) (sym (texts_ties b a)))
+    ∙ pick (nat_eq k n) refl (bytes_eq b a) (inner a ∙ ap (λ c. cond (is_at (slice_cmp nat_cmp c) a) (Some s) (named_slot a held)) same ∙ ap (λ t. cond t (Some s) (named_slot a held)) (sym (texts_ties b a)))
   where
     old : named_slot a held ≡ slot_at m a k
     old = held_at found none held empty is_held a ∙ ap (option_and_then (named_slot a)) is_found
@@ -54,9 +53,9 @@ put_at m new found none held named b copy k s same is_found empty is_held inner 
 
 -- an object before others
 pub one_before : (o : LocalTree) (os : List LocalTree) (s slot : ℕ) (m new : ObjectSlots) → slot ≡ s + cells o.ctype
-    → ((a : Name) (n : ℕ) → slot_at new a n ≡ cond (name_eq o.name a && nat_eq o.number n) (Some s) (slot_at m a n))
+    → ((a : Name) (n : ℕ) → slot_at new a n ≡ cond (bytes_eq o.name a && nat_eq o.number n) (Some s) (slot_at m a n))
     → AreObjectSlots slot os m → AreObjectSlots s (o ∷ os) new
-one_before o os s slot m new whole put before a n = put a n ∙ pick (name_eq o.name a && nat_eq o.number n)
+one_before o os s slot m new whole put before a n = put a n ∙ pick (bytes_eq o.name a && nat_eq o.number n)
   where
     later : slot_at m a n ≡ option_map (λ (x : Inside). x.at) (moved (s + cells o.ctype) (place_in os a n))
     later = before a n ∙ ap (λ k. option_map (λ (x : Inside). x.at) (moved k (place_in os a n))) whole

@@ -1,5 +1,5 @@
 -- The objects of a valid function have places in its frame.
-use Rattle.std.proofs.Common.{ℕ, zero, suc, ◌+◌, ◌≡◌, ◌≤◌, ◌⊎◌, inl, inr, List, [], ◌∷◌, ◌++◌, map, Bool, true, false, cond, ◌&&◌, nat_eq, nat_lt, All, AllPairs, Option, Some, None, find, if◌then◌else◌, refl, sym, ◌∙◌, ap, subst, arith}
+use Rattle.std.proofs.Common.{ℕ, zero, suc, ◌+◌, ◌≡◌, ◌≤◌, ◌⊎◌, inl, inr, List, [], ◌∷◌, ◌++◌, map, Bool, true, false, cond, ◌&&◌, nat_eq, nat_lt, All, AllPairs, Option, Some, None, find, if◌then◌else◌, refl, sym, ◌∙◌, ap, subst, arith, bytes_eq}
 use Rattle.std.specs.List.{flat_map}
 use Rattle.std.specs.Option.{option_map}
 use Rattle.std.proofs.lemmas.Bool.{eqb-true, eq-eqb, and_parts}
@@ -7,7 +7,7 @@ use Rattle.std.proofs.lemmas.List.Elements.{All-head, All-tail, All-nil, All-con
 use Rattle.csub_types.specs.declared.kind.IntKind.{IntKind}
 use Rattle.csub_types.specs.declared.kind.IntKind.TheVariants.{Int}
 use Rattle.csub_objects.specs.Types.{Name, TypeTree, number_type, MemberTree, cells}
-use Rattle.csub_semantics.specs.Types.{name_eq, GlobalTree}
+use Rattle.csub_semantics.specs.Types.{GlobalTree}
 use Rattle.csub_semantics.specs.Globals.{global_of}
 use Rattle.csub_semantics.specs.Trees.{OwnerTree, global_owner, local_owner, object, temporary}
 use Rattle.csub_semantics.specs.Syntax.{LocalTree, FunctionTree}
@@ -70,45 +70,45 @@ module _ {X : Type 0} (R : X → X → Type 0) (x : X) (xs : List X) where
 pub member_place : (os : List LocalTree) (o : LocalTree) → AllPairs AreOther os → Has os o → (s : ℕ) × (place_in os o.name o.number ≡ Some (inside_at s (plain o.ctype)))
 member_place [] o pairs h = absurd h
 member_place (p ∷ rest) o pairs h =
-    pick (pairs_head AreOther p rest pairs) (name_eq p.name o.name && nat_eq p.number o.number) refl h (λ g. member_place rest o (pairs_tail AreOther p rest pairs) g)
+    pick (pairs_head AreOther p rest pairs) (bytes_eq p.name o.name && nat_eq p.number o.number) refl h (λ g. member_place rest o (pairs_tail AreOther p rest pairs) g)
   where
-    pick : All (AreOther p) rest → (b : Bool) → (name_eq p.name o.name && nat_eq p.number o.number) ≡ b → Has (p ∷ rest) o → (Has rest o → (s : ℕ) × (place_in rest o.name o.number ≡ Some (inside_at s (plain o.ctype))))
+    pick : All (AreOther p) rest → (b : Bool) → (bytes_eq p.name o.name && nat_eq p.number o.number) ≡ b → Has (p ∷ rest) o → (Has rest o → (s : ℕ) × (place_in rest o.name o.number ≡ Some (inside_at s (plain o.ctype))))
         → (s : ℕ) × ((if b then Some (inside_at 0 (plain p.ctype)) else moved (cells p.ctype) (place_in rest o.name o.number)) ≡ Some (inside_at s (plain o.ctype)))
     pick others true t (inl same) later = (0, ap (λ (q : LocalTree). let r : Option Inside = Some (inside_at 0 (plain q.ctype)) in r) same)
     pick others true t (inr there) later =
-        let q = and_parts (name_eq p.name o.name) (nat_eq p.number o.number) t in
+        let q = and_parts (bytes_eq p.name o.name) (nat_eq p.number o.number) t in
         absurd (has_all (AreOther p) rest others o there (same_name p.name o.name q.0) (eqb-true p.number o.number q.1))
     pick others false t (inl same) later =
-        let e : (name_eq p.name o.name && nat_eq p.number o.number) ≡ true = subst (λ (q : LocalTree). (name_eq p.name q.name && nat_eq p.number q.number) ≡ true) same (let u = name_itself p.name in let v = eq-eqb p.number p.number refl in rw (u, v) refl) in
+        let e : (bytes_eq p.name o.name && nat_eq p.number o.number) ≡ true = subst (λ (q : LocalTree). (bytes_eq p.name q.name && nat_eq p.number q.number) ≡ true) same (let u = name_itself p.name in let v = eq-eqb p.number p.number refl in rw (u, v) refl) in
         cc
     pick others false t (inr there) later = let w = later there in (cells p.ctype + w.0, ap (moved (cells p.ctype)) w.1)
 
 -- where a type is found, there is a place
 pub type_place : (os : List LocalTree) (a : Name) (n : ℕ) (t : TypeTree) → type_in os a n ≡ Some t → (s : ℕ) × (place_in os a n ≡ Some (inside_at s (plain t)))
 type_place [] a n t e = cc
-type_place (o ∷ rest) a n t e = pick (name_eq o.name a && nat_eq o.number n) e (λ g. type_place rest a n t g)
+type_place (o ∷ rest) a n t e = pick (bytes_eq o.name a && nat_eq o.number n) e (λ g. type_place rest a n t g)
   where
-    pick : (b : Bool) → option_map (λ (u : LocalTree). u.ctype) (cond b (Some o) (find (λ (u : LocalTree). name_eq u.name a && nat_eq u.number n) rest)) ≡ Some t → (type_in rest a n ≡ Some t → (s : ℕ) × (place_in rest a n ≡ Some (inside_at s (plain t))))
+    pick : (b : Bool) → option_map (λ (u : LocalTree). u.ctype) (cond b (Some o) (find (λ (u : LocalTree). bytes_eq u.name a && nat_eq u.number n) rest)) ≡ Some t → (type_in rest a n ≡ Some t → (s : ℕ) × (place_in rest a n ≡ Some (inside_at s (plain t))))
         → (s : ℕ) × ((if b then Some (inside_at 0 (plain o.ctype)) else moved (cells o.ctype) (place_in rest a n)) ≡ Some (inside_at s (plain t)))
     pick true e later = let same : o.ctype ≡ t = cc in (0, ap (λ (u : TypeTree). let r : Option Inside = Some (inside_at 0 (plain u)) in r) same)
     pick false e later = let w = later e in (cells o.ctype + w.0, ap (moved (cells o.ctype)) w.1)
 
 -- what type a name and a number were found with
 pub type_found : (os : List LocalTree) (a : Name) (n : ℕ) (t : TypeTree) → type_in os a n ≡ Some t → (o : LocalTree) × Has os o × (o.name ≡ a) × (o.number ≡ n) × (o.ctype ≡ t)
-type_found os a n t e = pick (find (λ (u : LocalTree). name_eq u.name a && nat_eq u.number n) os) refl e
+type_found os a n t e = pick (find (λ (u : LocalTree). bytes_eq u.name a && nat_eq u.number n) os) refl e
   where
-    pick : (r : Option LocalTree) → find (λ (u : LocalTree). name_eq u.name a && nat_eq u.number n) os ≡ r → option_map (λ (u : LocalTree). u.ctype) r ≡ Some t → (o : LocalTree) × Has os o × (o.name ≡ a) × (o.number ≡ n) × (o.ctype ≡ t)
+    pick : (r : Option LocalTree) → find (λ (u : LocalTree). bytes_eq u.name a && nat_eq u.number n) os ≡ r → option_map (λ (u : LocalTree). u.ctype) r ≡ Some t → (o : LocalTree) × Has os o × (o.name ≡ a) × (o.number ≡ n) × (o.ctype ≡ t)
     pick None f g = cc
     pick (Some o) f g =
-        let h = has_found (λ (u : LocalTree). name_eq u.name a && nat_eq u.number n) os o f in
-        let q = and_parts (name_eq o.name a) (nat_eq o.number n) h.1 in
+        let h = has_found (λ (u : LocalTree). bytes_eq u.name a && nat_eq u.number n) os o f in
+        let q = and_parts (bytes_eq o.name a) (nat_eq o.number n) h.1 in
         let same : o.ctype ≡ t = cc in
         (o, h.0, same_name o.name a q.0, eqb-true o.number n q.1, same)
 
 -- and a place among the globals
 global_has : (globals : List GlobalTree) (a : Name) (t : TypeTree) → global_type globals a ≡ Some t → (s : ℕ) × (place_in (map global_object globals) a 0 ≡ Some (inside_at s (plain t)))
 global_has [] a t e = cc
-global_has (g ∷ rest) a t e = pick (name_eq g.name a) e (λ h. global_has rest a t h)
+global_has (g ∷ rest) a t e = pick (bytes_eq g.name a) e (λ h. global_has rest a t h)
   where
     pick : (b : Bool) → option_map (λ (u : GlobalTree). u.ctype) (cond b (Some g) (global_of rest a)) ≡ Some t → (global_type rest a ≡ Some t → (s : ℕ) × (place_in (map global_object rest) a 0 ≡ Some (inside_at s (plain t))))
         → (s : ℕ) × ((if b && nat_eq 0 0 then Some (inside_at 0 (plain g.ctype)) else moved (cells g.ctype) (place_in (map global_object rest) a 0)) ≡ Some (inside_at s (plain t)))

@@ -1,8 +1,7 @@
 -- Objects one after another, looked at in turn.
-use Rattle.std.proofs.Common.{◌≡◌, ◌<◌, ◌≤◌, ◌∙◌, ℕ, zero, suc, ◌+◌, ◌-◌, ◌&&◌, nat_eq, cond, Some, List, [], ◌∷◌, ◌++◌, map, drop, length, get_or, ap, sym, subst, arith}
+use Rattle.std.proofs.Common.{◌≡◌, ◌<◌, ◌≤◌, ◌∙◌, ℕ, zero, suc, ◌+◌, ◌-◌, ◌&&◌, nat_eq, cond, Some, List, [], ◌∷◌, ◌++◌, map, drop, length, get_or, ap, sym, subst, arith, bytes_eq}
 use Rattle.std.proofs.lemmas.List.{drop_more, drop_all}
 use Rattle.csub_objects.specs.Types.{Name, cells}
-use Rattle.csub_semantics.specs.Types.{name_eq}
 use Rattle.csub_semantics.specs.Syntax.{LocalTree}
 use Rattle.csub_flat.specs.Frames.{objects_size}
 use Rattle.csub_flat.specs.Objects.{ObjectSlots, slot_at, AreObjectSlots}
@@ -53,7 +52,7 @@ module _ {X : Type 0} (object : X → LocalTree) where
           let one = ap objects_size last_left in let all = size_left xs j in let sum = h.size in omega arith
 
       pub places_more : (slot k s : ℕ) (old m new : ObjectSlots) → HavePlaces xs i slot k old m → objects_size (map object xs) ≤ k → s ≡ slot - cells (object x).ctype
-          → ((a : Name) (n : ℕ) → slot_at new a n ≡ cond (name_eq (object x).name a && nat_eq (object x).number n) (Some s) (slot_at m a n))
+          → ((a : Name) (n : ℕ) → slot_at new a n ≡ cond (bytes_eq (object x).name a && nat_eq (object x).number n) (Some s) (slot_at m a n))
           → HavePlaces xs j s k old new
       places_more slot k s old m new h most is_slot put =
           let room = room_before slot k old m h most in

@@ -1,9 +1,9 @@
 -- What types the objects of valid programs have.
-use Rattle.std.proofs.Common.{◌≡◌, List, [], ◌∷◌, ◌++◌, map, get_or, All, Option, Some, None, refl, subst}
+use Rattle.std.proofs.Common.{◌≡◌, List, [], ◌∷◌, ◌++◌, map, get_or, All, Option, Some, None, refl, subst, bytes_eq}
 use Rattle.std.specs.Option.{option_map}
 use Rattle.std.proofs.lemmas.List.Elements.{All-head, All-tail, All-cons}
 use Rattle.csub_objects.specs.Types.{TypeTree, IsSized, MemberTree}
-use Rattle.csub_semantics.specs.Types.{name_eq, GlobalTree}
+use Rattle.csub_semantics.specs.Types.{GlobalTree}
 use Rattle.csub_semantics.specs.Globals.{global_of}
 use Rattle.csub_semantics.specs.Trees.{OwnerTree, global_owner, local_owner}
 use Rattle.csub_semantics.specs.Syntax.{LocalTree, FunctionTree}
@@ -35,7 +35,7 @@ module _ (globals : List GlobalTree) (f : FunctionTree) (declared : AreDeclared 
       pick : (o : Option GlobalTree) → global_of globals a ≡ o → option_map (λ (g : GlobalTree). g.ctype) o ≡ Some t → MayStand t
       pick None e k = cc
       pick (Some g) e k =
-          let found = has_found (λ (u : GlobalTree). name_eq u.name a) globals g e in
+          let found = has_found (λ (u : GlobalTree). bytes_eq u.name a) globals g e in
           let same : g.ctype ≡ t = cc in
           subst MayStand same (sized_stands g.ctype (has_all (λ (u : GlobalTree). IsSized u.ctype) globals are.types g found.0))
   object_stands (local_owner a n) t are h =

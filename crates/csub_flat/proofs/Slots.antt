@@ -1,5 +1,5 @@
 -- Places of objects, by parameters and locals.
-use Rattle.std.proofs.Common.{◌≡◌, ◌≤◌, ◌∙◌, ℕ, zero, suc, ◌+◌, ◌-◌, ◌*◌, ◌&&◌, nat_lt, List, [], ◌∷◌, ◌++◌, map, sum_by, Bool, true, false, Option, Some, None, nat_eq, if◌then◌else◌, refl, ap, sym, subst, arith}
+use Rattle.std.proofs.Common.{◌≡◌, ◌≤◌, ◌∙◌, ℕ, zero, suc, ◌+◌, ◌-◌, ◌*◌, ◌&&◌, nat_lt, List, [], ◌∷◌, ◌++◌, map, sum_by, Bool, true, false, Option, Some, None, nat_eq, if◌then◌else◌, refl, ap, sym, subst, arith, bytes_eq}
 use Rattle.std.specs.Option.{option_or}
 use Rattle.std.proofs.lemmas.List.Sums.{sum_by-cons}
 use Rattle.csub_objects.specs.declared.types.Member.{Member}
@@ -8,7 +8,6 @@ use Rattle.csub_types.specs.declared.kind.IntKind.TheVariants.{Int}
 use Rattle.csub_objects.specs.Types.{Name, TypeTree, number_type, array_type, struct_type, loose_type}
 use Rattle.csub_objects.specs.Types.{MemberTrees, no_member, more_members, cells, member_cells}
 use Rattle.csub_objects.specs.Meaning.{member_tree}
-use Rattle.csub_semantics.specs.Types.{name_eq}
 use Rattle.csub_flat.specs.Flatten.{temp_slot, slot_or}
 use Rattle.csub_semantics.specs.Syntax.{LocalTree, FunctionTree, local_tree, function_tree}
 use Rattle.csub_validity.specs.Valid.{parameter_object, objects_of, frame_cells}
@@ -33,7 +32,7 @@ moved_none (Some x) = ap (λ n. let r : Option Inside = Some (inside_at n x.ctyp
 
 pub place_in-append : (os us : List LocalTree) (a : Name) (n : ℕ) → place_in (os ++ us) a n ≡ option_or (place_in os a n) (moved (objects_size os) (place_in us a n))
 place_in-append [] us a n = moved_none (place_in us a n)
-place_in-append (o ∷ os) us a n = pick (name_eq o.name a && nat_eq o.number n) (place_in-append os us a n)
+place_in-append (o ∷ os) us a n = pick (bytes_eq o.name a && nat_eq o.number n) (place_in-append os us a n)
   where
     either : (p : Option Inside) → moved (cells o.ctype) (option_or p (moved (objects_size os) (place_in us a n))) ≡ option_or (moved (cells o.ctype) p) (moved (objects_size (o ∷ os)) (place_in us a n))
     either None = moved-moved (cells o.ctype) (objects_size os) (place_in us a n)
@@ -82,7 +81,7 @@ mutual
 
 place_room : (os : List LocalTree) (a : Name) (n : ℕ) (x : Inside) → place_in os a n ≡ Some x → x.at + cells x.ctype ≤ objects_size os
 place_room [] a n x e = cc
-place_room (o ∷ rest) a n x e = pick (name_eq o.name a && nat_eq o.number n) e (λ y f. place_room rest a n y f)
+place_room (o ∷ rest) a n x e = pick (bytes_eq o.name a && nat_eq o.number n) e (λ y f. place_room rest a n y f)
   where
     later : (p : Option Inside) → ((y : Inside) → p ≡ Some y → y.at + cells y.ctype ≤ objects_size rest) → moved (cells o.ctype) p ≡ Some x → x.at + cells x.ctype ≤ cells o.ctype + objects_size rest
     later None found g = cc

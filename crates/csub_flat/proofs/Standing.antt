@@ -1,16 +1,16 @@
 -- The label of each point of a valid program fits the frame of its function.
-use Rattle.std.proofs.Common.{◌≡◌, List, [], ◌∷◌, map, AllPairs, Option, Some, None, cond, refl, sym, ◌∙◌, ap, arith, Bool, true, false}
+use Rattle.std.proofs.Common.{◌≡◌, List, [], ◌∷◌, map, AllPairs, Option, Some, None, cond, refl, sym, ◌∙◌, ap, arith, Bool, true, false, bytes_eq}
 use Rattle.std.specs.List.{flat_map}
 use Rattle.csub_types.specs.declared.kind.IntKind.{IntKind}
 use Rattle.csub_types.specs.declared.kind.IntKind.TheVariants.{Int}
 use Rattle.csub_semantics.specs.declared.label.EndRule.TheVariants.{Main, Start}
-use Rattle.csub_objects.specs.Types.{Name}
-use Rattle.csub_semantics.specs.Types.{name_eq, GlobalTree}
+use Rattle.csub_objects.specs.Types.{Name, main_name}
+use Rattle.csub_semantics.specs.Types.{GlobalTree}
 use Rattle.csub_semantics.specs.Labels.{LabelTree, halts}
 use Rattle.csub_semantics.specs.Syntax.{LocalTree, FunctionTree, ProgramTree}
 use Rattle.csub_semantics.specs.Points.{PointTree}
 use Rattle.csub_semantics.specs.Successors.{Way}
-use Rattle.csub_semantics.specs.Flows.{start_name, main_name, end_rule, result_rule, function_nodes, function_in, function_of}
+use Rattle.csub_semantics.specs.Flows.{start_name, end_rule, result_rule, function_nodes, function_in, function_of}
 use Rattle.csub_validity.specs.declared.role.Role.{Role}
 use Rattle.csub_validity.specs.declared.role.Role.TheVariants.{Whole, Test, Switch}
 use Rattle.csub_validity.specs.Valid.{objects_of, parameter_object, AreOther, AreDeclared, BeginsWithStart, HasOwnNames, declared_types, IsValid}
@@ -50,13 +50,13 @@ module _ (P : ProgramTree) (valid : IsValid P) where
   first_is : (fs : List FunctionTree) → BeginsWithStart fs → (f : FunctionTree) → function_in fs start_name ≡ Some f → f.temps ≡ 1
   first_is [] h f e = absurd h
   first_is (g ∷ rest) h f e =
-      let found : function_in (g ∷ rest) start_name ≡ Some g = ap (λ n. cond (name_eq n start_name) (Some g) (function_in rest start_name)) h.name in
+      let found : function_in (g ∷ rest) start_name ≡ Some g = ap (λ n. cond (bytes_eq n start_name) (Some g) (function_in rest start_name)) h.name in
       let both : Some g ≡ Some f = sym found ∙ e in
       let same : g ≡ f = cc in
       ap (λ (x : FunctionTree). x.temps) (sym same) ∙ h.temps
 
   rule_fits : (f : FunctionTree) (g : Name) → function_of P g ≡ Some f → f.name ≡ g → FitsRule (globals_of P) f (end_rule f.name f.result)
-  rule_fits f g e same = by_start (name_eq f.name start_name) refl
+  rule_fits f g e same = by_start (bytes_eq f.name start_name) refl
     where
       by_result : (r : Option IntKind) → FitsRule (globals_of P) f (result_rule r)
       by_result None = tt
@@ -66,12 +66,12 @@ module _ (P : ProgramTree) (valid : IsValid P) where
       by_main true = tt
       by_main false = by_result f.result
 
-      by_start : (b : Bool) → name_eq f.name start_name ≡ b → FitsRule (globals_of P) f (cond b Start (cond (name_eq f.name main_name) Main (result_rule f.result)))
+      by_start : (b : Bool) → bytes_eq f.name start_name ≡ b → FitsRule (globals_of P) f (cond b Start (cond (bytes_eq f.name main_name) Main (result_rule f.result)))
       by_start true t =
           let is : f.name ≡ start_name = same_name f.name start_name t in
           let one = first_is P.functions valid.start f (ap (function_of P) (sym is ∙ same) ∙ e) in
           temporary_has P.globals f 1 Int (omega arith) (omega arith)
-      by_start false t = by_main (name_eq f.name main_name)
+      by_start false t = by_main (bytes_eq f.name main_name)
 
   pub label_fits : (g : Name) (p : PointTree) (s : Stands P g p) → FitsLabel P s.function s.node.label
   label_fits g p s = by_node s.node.point s.node.label s.node.ways (node_is P g p valid s)

@@ -1,12 +1,12 @@
 -- The slots of a frame: those of its function's objects one after another, its parameters first, and behind them those of
 -- its temporaries. The slots of globals are numbered in the same way.
-use Rattle.std.specs.Prelude.{ℕ, zero, suc, ◌+◌, ◌&&◌, List, [], ◌∷◌, map, nat_eq, nat_lt, Option, Some, None, if◌then◌else◌}
+use Rattle.std.specs.Prelude.{ℕ, zero, suc, ◌+◌, ◌&&◌, List, [], ◌∷◌, map, nat_eq, nat_lt, Option, Some, None, if◌then◌else◌, bytes_eq}
 use Rattle.csub_types.specs.declared.kind.IntKind.TheVariants.{Int}
 use Rattle.csub_objects.specs.Types.{Name, TypeTree, number_type, array_type, struct_type, loose_type, MemberTrees, no_member, more_members, cells}
 use Rattle.csub_objects.specs.Paths.{Inside, inside_at, moved}
 use Rattle.csub_objects.specs.declared.types.Member.{Member}
 use Rattle.csub_objects.specs.Meaning.{member_tree}
-use Rattle.csub_semantics.specs.Types.{name_eq, GlobalTree}
+use Rattle.csub_semantics.specs.Types.{GlobalTree}
 use Rattle.csub_semantics.specs.Trees.{Variable, object, temporary, global_owner, local_owner}
 use Rattle.csub_semantics.specs.Syntax.{LocalTree, FunctionTree, ProgramTree}
 use Rattle.csub_semantics.specs.Cells.{Root, global_root, local_root, temp_root}
@@ -37,7 +37,7 @@ as_object p = parameter_object (member_tree p)
 abbrev pub place_in : List LocalTree → Name → ℕ → Option Inside
 place_in [] a n = None
 place_in (o ∷ rest) a n =
-    if name_eq o.name a && nat_eq o.number n then Some (inside_at 0 (plain o.ctype)) else moved (cells o.ctype) (place_in rest a n)
+    if bytes_eq o.name a && nat_eq o.number n then Some (inside_at 0 (plain o.ctype)) else moved (cells o.ctype) (place_in rest a n)
 
 -- where a temporary is, by its number from 1
 abbrev pub temporary_place : ℕ → ℕ → ℕ → Option Inside

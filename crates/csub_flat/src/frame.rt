@@ -1,7 +1,6 @@
 //! The frames of functions: the slots of their objects, each of which is found without a look at the others.
-ghost use Rattle.std.specs.Prelude.{ℕ, ◌≡◌, ◌-◌, ◌≤◌, ◌&&◌, ◌++◌, List, nat_eq, map, Some, IfOk, OnOk, if◌then◌else◌};
+ghost use Rattle.std.specs.Prelude.{ℕ, ◌≡◌, ◌-◌, ◌≤◌, ◌&&◌, ◌++◌, List, nat_eq, map, Some, IfOk, OnOk, if◌then◌else◌, bytes_eq};
 ghost use Rattle.csub_objects.specs.Types.{Name};
-ghost use Rattle.csub_semantics.specs.Types.{name_eq};
 ghost use Rattle.csub_semantics.specs.Syntax.{LocalTree, local_tree, function_tree, program_tree};
 ghost use Rattle.csub_validity.specs.Valid.{objects_of};
 ghost use Rattle.csub_flat.specs.Frames.{objects_size, as_object, frame_size};
@@ -44,7 +43,7 @@ fn put_slot(
     number: u32,
     slot: u32,
 ) -> Result<(), AllocError>
-    ensures { OnOk result ((a : Name) (n : ℕ) → slot_at slots.new a n ≡ (if name_eq name.now a && nat_eq number n then Some slot else slot_at slots.old a n)) }
+    ensures { OnOk result ((a : Name) (n : ℕ) → slot_at slots.new a n ≡ (if bytes_eq name.now a && nat_eq number n then Some slot else slot_at slots.old a n)) }
 {
     let name = name.copy()?;
     let named = slots.entry(number)?.or_insert(BTreeMap::new(alloc));

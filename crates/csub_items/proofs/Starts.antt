@@ -2,7 +2,7 @@
 use Rattle.std.proofs.Common.{◌≡◌, ◌∙◌, refl, ap, Bool, true, false, cond, List, [], ◌∷◌, map, Option, Some, find, bytes_eq}
 use Rattle.std.specs.Option.{option_map}
 use Rattle.csub_semantics.specs.declared.function.Function.{Function as CodeFunction}
-use Rattle.csub_semantics.specs.Flows.{main_name}
+use Rattle.csub_objects.specs.Types.{main_name}
 use Rattle.csub_semantics.specs.Syntax.{FunctionTree, function_tree}
 use Rattle.csub_resolution.specs.Programs.{span_of_main, span_or_none}
 

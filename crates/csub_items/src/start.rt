@@ -1,6 +1,6 @@
 //! `#start`, which calls `main`.
 ghost use Rattle.std.specs.Prelude.{◌≡◌, ◌∷◌, [], IfOk, bytes_eq, find, map, option_map};
-ghost use Rattle.csub_semantics.specs.Flows.{main_name};
+ghost use Rattle.csub_objects.specs.Types.{main_name};
 ghost use Rattle.csub_semantics.specs.Syntax.{function_tree, no_stmt, more_stmts, part_tree, parts, stmt_tree, stmts_of};
 ghost use Rattle.csub_validity.specs.Valid.{start_call};
 ghost use Rattle.csub_resolution.specs.Programs.{span_of_main, start};

@@ -1,23 +1,23 @@
 //! What is made of each kind of expression, by what is made of its parts.
 ghost use Rattle.std.specs.Prelude.{◌≡◌, pos, IfOk, IsTrue, length, map};
 ghost use Rattle.csub_types.specs.declared.kind.IntKind.TheVariants.{Int};
-ghost use Rattle.csub_types.specs.Arithmetic.{binary_kind, unary_kind};
+ghost use Rattle.csub_types.specs.Arithmetic.{binary_kind, unary_kind, operation_kind};
 ghost use Rattle.csub_types.specs.Kinds.{common, promote};
 ghost use Rattle.csub_objects.specs.Meaning.{type_tree};
 ghost use Rattle.csub_semantics.specs.Trees.{choice, conjunction, constant, conversion, disjunction, element_place, expr_tree as value_tree, exprs_of, formatted, input_byte, member_place, object, operation, output_byte, owner_tree, place_tree, reading, stepping, unary_operation, variable};
 ghost use Rattle.csub_rules.specs.Sorts.{a_place, a_value, element_of, has_member, is_array, is_number_place, member_of, the_kind};
-ghost use Rattle.csub_rules.specs.ExprSorts.{named_kind, number_literal_kind, operation_kind};
+ghost use Rattle.csub_rules.specs.ExprSorts.{named_kind, number_literal_kind};
 ghost use Rattle.csub_resolution.specs.Values.{assigned, first_value, no_place};
 ghost use Rattle.csub_lower.specs.Made.{made_place, made_sort, made_value};
 
 use crate::boxes::{boxed_place, boxed_value};
 use crate::made::{Made, Number, to_array, to_number_place, to_struct};
-use csub_check::{binary_kind, named_kind, number_literal_kind, operation_kind, unary_kind};
+use csub_check::{named_kind, number_literal_kind};
 use csub_objects::{CType, copy_type};
 use csub_semantics::{Owner, Piece, Place, RExpr};
 use csub_text::{BinOp, StepOp, UnaryOp};
 use csub_tree::{Name, TypeName};
-use csub_types::{IntKind, common, promote};
+use csub_types::{IntKind, binary_kind, common, operation_kind, promote, unary_kind};
 use std::alloc::{AllocError, Global};
 
 /// A constant (C11 6.4.4).

@@ -1,14 +1,13 @@
 -- The row of the edges that a run crossed.
-use Rattle.std.specs.Prelude.{ℕ, List, map, Bool, ◌&&◌, Option, Some, None}
+use Rattle.std.specs.Prelude.{ℕ, List, map, Bool, ◌&&◌, Option, Some, None, bytes_eq}
 use Rattle.std.specs.List.{list_any}
 use Rattle.csub_semantics.specs.Syntax.{ProgramTree}
 use Rattle.csub_semantics.specs.Points.{point_eq, exit_eq}
-use Rattle.csub_semantics.specs.Types.{name_eq}
 use Rattle.csub_semantics.specs.Flows.{Edge, edge_list}
 use Rattle.csub_semantics.specs.Numbers.{edge_at}
 
 abbrev pub edge_eq : Edge → Edge → Bool
-edge_eq d e = name_eq d.function e.function && (point_eq d.from e.from && exit_eq d.exit e.exit)
+edge_eq d e = bytes_eq d.function e.function && (point_eq d.from e.from && exit_eq d.exit e.exit)
 
 -- whether an edge is among those that were crossed
 abbrev pub is_among : List Edge → Edge → Bool

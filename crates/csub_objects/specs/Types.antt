@@ -1,13 +1,17 @@
 -- Types of objects as values, and what C says of them: elements, members, cells, and the limits of this language.
 use Rattle.std.specs.Prelude.{ℕ, ◌+◌, ◌*◌, ◌≤◌, ◌<◌, ◌≡◌, ◌≢◌, ◌++◌, ◌&&◌, max, nat_eq, List, [], ◌∷◌, AllPairs}
 use Rattle.std.specs.List.{repeat}
-use Rattle.std.specs.Prelude.{Bool, true, false, Option, Some, None, option_map, bytes_eq, if◌then◌else◌}
+use Rattle.std.specs.Prelude.{Bool, true, false, Option, Some, None, option_map, bytes_eq, codes, if◌then◌else◌}
 use Rattle.csub_types.specs.declared.kind.IntKind.{IntKind}
 use Rattle.csub_types.specs.declared.kind.IntKind.TheVariants.{Char, Int, Unsigned}
 
 -- a name, as its bytes
 abbrev pub Name : Type 0
 Name = List ℕ
+
+-- the function with which a program begins (C11 5.1.2.2.1p1)
+abbrev pub main_name : Name
+main_name = codes "main"
 
 mutual
   -- a type (C11 6.2.5): an integer type, an array type of a length, a struct type, or the type of an array parameter (6.7.6.3p7)

@@ -7,12 +7,12 @@ use Rattle.csub_tree.specs.declared.name.Name.{Name as NameAt}
 use Rattle.csub_tree.specs.Declarations.{Param, Head, Declarator}
 use Rattle.csub_tree.specs.Statements.{Stmts}
 use Rattle.csub_tree.specs.Units.{Item, Object, Function, Source}
-use Rattle.csub_objects.specs.Types.{Name, TypeTree, MemberTree}
+use Rattle.csub_objects.specs.Types.{Name, TypeTree, MemberTree, main_name}
 use Rattle.csub_semantics.specs.Types.{GlobalTree}
 use Rattle.csub_semantics.specs.Syntax.{PartTree, StmtTree, StmtTrees, ElseTree, parts, block, conditional, while_loop, do_loop, for_loop}
 use Rattle.csub_semantics.specs.Syntax.{switch_on, case_label, default_label, breaks, continues, goes_to, marked, no_stmt, more_stmts}
 use Rattle.csub_semantics.specs.Syntax.{no_else, else_stmt, FunctionTree, ProgramTree}
-use Rattle.csub_semantics.specs.Flows.{start_name, main_name}
+use Rattle.csub_semantics.specs.Flows.{start_name}
 use Rattle.csub_validity.specs.Valid.{stage_result, start_call}
 use Rattle.csub_scopes.specs.Scopes.{Scope}
 use Rattle.csub_rules.specs.ExprSorts.{number_of}

@@ -19,7 +19,8 @@ use Rattle.csub_scopes.specs.Scopes.{Scope, Declared, Meaning, global_object, lo
 use Rattle.csub_scopes.specs.Scopes as scopes
 use Rattle.csub_rules.specs.Library.{LibraryName, getchar, putchar, printf, exit, eof, library_name}
 use Rattle.csub_rules.specs.Sorts.{the_kind}
-use Rattle.csub_rules.specs.ExprSorts.{sort_of, number_literal_kind, named_kind, operation_kind}
+use Rattle.csub_rules.specs.ExprSorts.{sort_of, number_literal_kind, named_kind}
+use Rattle.csub_types.specs.Arithmetic.{operation_kind}
 use Rattle.csub_rules.specs.Callees.{Callee, no_function, user_function, getchar_function, putchar_function, printf_function, exit_function}
 use Rattle.csub_rules.specs.Callees.{callee_of}
 use Rattle.csub_resolution.specs.Printed.{format_of}

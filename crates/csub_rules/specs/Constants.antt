@@ -4,11 +4,10 @@ use Rattle.std.specs.Option.{option_and_then}
 use Rattle.std.specs.Ordering.{int_eq}
 use Rattle.csub_text.specs.declared.operator.UnaryOp.{UnaryOp}
 use Rattle.csub_text.specs.declared.operator.BinOp.{BinOp}
-use Rattle.csub_text.specs.declared.operator.BinOp.TheVariants.{Shl, Shr}
 use Rattle.csub_types.specs.declared.kind.IntKind.{IntKind}
 use Rattle.csub_types.specs.declared.trap.Trap.{Trap}
 use Rattle.csub_types.specs.Kinds.{convert, promote, common}
-use Rattle.csub_types.specs.Arithmetic.{unary, binary}
+use Rattle.csub_types.specs.Arithmetic.{unary, binary, operation_kind, right_operand}
 use Rattle.csub_types.specs.Settled.{truth, fits_int}
 use Rattle.csub_tree.specs.Expressions.{Expr, Kind, Node, Number, Char, Text, Named, Paren, Unary, Cast, Step, Binary, And, Or}
 use Rattle.csub_tree.specs.Expressions.{Choose, Assign, Call, Index, Member}
@@ -16,7 +15,7 @@ use Rattle.csub_objects.specs.Types.{Name}
 use Rattle.csub_scopes.specs.Scopes.{Scope, Declared, Meaning, global_object, local_object, enum_constant, a_function, untyped, find}
 use Rattle.csub_rules.specs.Library.{LibraryName, getchar, putchar, printf, exit, eof, library_name}
 use Rattle.csub_rules.specs.Sorts.{the_kind}
-use Rattle.csub_rules.specs.ExprSorts.{sort_of, named_kind, operation_kind}
+use Rattle.csub_rules.specs.ExprSorts.{sort_of, named_kind}
 
 -- the value of a name that is an enum constant (C11 6.4.4.3), or of `EOF`, which is -1 here (7.21.1p3 leaves it open)
 abbrev pub constant_of_meaning : Meaning → Option ℤ
@@ -68,12 +67,6 @@ abbrev mutual
 abbrev pub untrapped : Result ℤ Trap → Option ℤ
 untrapped (Ok v) = Some v
 untrapped (Err t) = None
-
--- the count of a shift stays as it is (C11 6.5.7p3); another right operand is converted
-abbrev pub right_operand : BinOp → IntKind → ℤ → ℤ
-right_operand Shl k v = v
-right_operand Shr k v = v
-right_operand op k v = convert k v
 
 abbrev pub unary_value : UnaryOp → IntKind → Option ℤ → Option ℤ
 unary_value op k None = None

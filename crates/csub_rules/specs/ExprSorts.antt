@@ -2,11 +2,10 @@
 use Rattle.std.specs.Prelude.{ℕ, List, [], ◌∷◌, Bool, true, false, Option, Some, None, ◌&&◌, ◌||◌, nat_lt, if◌then◌else◌}
 use Rattle.csub_text.specs.declared.operator.UnaryOp.{UnaryOp}
 use Rattle.csub_text.specs.declared.operator.BinOp.{BinOp}
-use Rattle.csub_text.specs.declared.operator.BinOp.TheVariants.{Shl, Shr}
 use Rattle.csub_types.specs.declared.kind.IntKind.{IntKind}
 use Rattle.csub_types.specs.declared.kind.IntKind.TheVariants as kinds
 use Rattle.csub_types.specs.Kinds.{promote, common}
-use Rattle.csub_types.specs.Arithmetic.{unary_kind, binary_kind}
+use Rattle.csub_types.specs.Arithmetic.{unary_kind, binary_kind, operation_kind}
 use Rattle.csub_tree.specs.declared.name.TypeName.{TypeName}
 use Rattle.csub_tree.specs.declared.name.TypeName.TheVariants as names
 use Rattle.csub_tree.specs.Expressions.{Expr, Kind, Exprs, Node, Number, Char, Text, Named, Paren, Unary, Cast, Step, Binary, And, Or}
@@ -82,13 +81,6 @@ number_of (names.Struct tag) = None
 -- the kind that a cast names, `int` where it names none, which no cast of a source does (C11 6.5.4p2)
 abbrev pub named_kind : TypeName → IntKind
 named_kind t = kind_or_int (number_of t)
-
--- the kind in which an operation is computed: shifts promote the left operand alone (C11 6.5.7p3), the others convert both
--- to their common kind (6.3.1.8p1)
-abbrev pub operation_kind : BinOp → IntKind → IntKind → IntKind
-operation_kind Shl a b = promote a
-operation_kind Shr a b = promote a
-operation_kind op a b = common a b
 
 -- C11 6.5.3.3p1: the operand is promoted; p5: `!` gives an `int`
 abbrev pub unary_sort : UnaryOp → Sort → Sort

@@ -1,9 +1,8 @@
 -- The memory of named cells.
-use Rattle.std.specs.Prelude.{ℕ, ℤ, List, [], ◌∷◌, ◌++◌, Bool, true, false, ◌&&◌, Option, Some, None, nat_eq, if◌then◌else◌}
+use Rattle.std.specs.Prelude.{ℕ, ℤ, List, [], ◌∷◌, ◌++◌, Bool, true, false, ◌&&◌, Option, Some, None, nat_eq, if◌then◌else◌, bytes_eq}
 use Rattle.csub_objects.specs.Types.{Name, TypeTree, number_type, array_type, struct_type, loose_type, number_kind, MemberTree}
 use Rattle.csub_objects.specs.Types.{element_type, member_type, array_length}
 use Rattle.csub_objects.specs.Paths.{Inner, element_at, member_of}
-use Rattle.csub_semantics.specs.Types.{name_eq}
 use Rattle.csub_semantics.specs.Trees.{global_owner, local_owner, Variable, object, temporary}
 use Rattle.csub_semantics.specs.Memory.{Memory}
 
@@ -29,7 +28,7 @@ Cells = Cell → Option Content
 
 abbrev pub inner_eq : Inner → Inner → Bool
 inner_eq (element_at i) (element_at j) = nat_eq i j
-inner_eq (member_of a) (member_of b) = name_eq a b
+inner_eq (member_of a) (member_of b) = bytes_eq a b
 inner_eq x y = false
 
 abbrev pub path_eq : List Inner → List Inner → Bool
@@ -39,8 +38,8 @@ path_eq (x ∷ xs) [] = false
 path_eq (x ∷ xs) (y ∷ ys) = inner_eq x y && path_eq xs ys
 
 abbrev pub root_eq : Root → Root → Bool
-root_eq (global_root a) (global_root b) = name_eq a b
-root_eq (local_root h a n) (local_root i b o) = nat_eq h i && (name_eq a b && nat_eq n o)
+root_eq (global_root a) (global_root b) = bytes_eq a b
+root_eq (local_root h a n) (local_root i b o) = nat_eq h i && (bytes_eq a b && nat_eq n o)
 root_eq (temp_root h n) (temp_root i o) = nat_eq h i && nat_eq n o
 root_eq a b = false
 

@@ -10,7 +10,7 @@ use Rattle.csub_text.specs.declared.operator.StepOp.TheVariants.{PreUp, PreDown,
 use Rattle.csub_types.specs.declared.kind.IntKind.{IntKind}
 use Rattle.csub_types.specs.declared.trap.Trap.TheVariants.{Bounds}
 use Rattle.csub_types.specs.Kinds.{convert, promote}
-use Rattle.csub_types.specs.Arithmetic.{unary, binary}
+use Rattle.csub_types.specs.Arithmetic.{unary, binary, right_operand}
 use Rattle.csub_types.specs.Settled.{truth}
 use Rattle.csub_semantics.specs.Trees.{PlaceTree, variable, element_place, member_place, ExprTree, constant, reading}
 use Rattle.csub_semantics.specs.Trees.{unary_operation, conversion, stepping, operation}
@@ -19,13 +19,7 @@ use Rattle.csub_semantics.specs.Trees.{ExprTrees, no_expr, more_exprs}
 use Rattle.csub_semantics.specs.Formats.{text_of}
 use Rattle.csub_semantics.specs.Memory.{State, Answer, value, trapped, then_do, given, found, Memory, get_byte, put_byte, put_bytes, low_byte}
 
--- a right operand in its kind; the count of a shift stays as it is (C11 6.5.7)
-abbrev pub right_operand : BinOp → IntKind → ℤ → ℤ
-right_operand Shl k v = v
-right_operand Shr k v = v
-right_operand op k v = convert k v
-
--- an operation in a kind: both operands are converted to it first, which changes nothing in a valid program
+-- an operation in a kind, to which its operands are converted first (the usual arithmetic conversions, C11 6.3.1.8p1)
 abbrev pub computed : {S : Type 0} → BinOp → IntKind → ℤ → ℤ → S → Answer ℤ S
 computed op k a b s = given (binary op (promote k) (convert (promote k) a) (right_operand op (promote k) b)) s
 

@@ -1,24 +1,21 @@
 -- The points and edges of a program, and the record of functions between a program and all that runs or walks it.
-use Rattle.std.specs.Prelude.{ℤ, List, [], ◌∷◌, ◌++◌, map, Option, Some, None, find, if◌then◌else◌}
+use Rattle.std.specs.Prelude.{ℤ, List, [], ◌∷◌, ◌++◌, map, Option, Some, None, find, if◌then◌else◌, bytes_eq, codes}
 use Rattle.std.specs.Option.{option_map}
 use Rattle.std.specs.List.{flat_map}
 use Rattle.csub_types.specs.declared.kind.IntKind.{IntKind}
 use Rattle.csub_semantics.specs.declared.label.EndRule.{EndRule}
 use Rattle.csub_semantics.specs.declared.label.EndRule.TheVariants.{Nothing, Value, Main, Start}
-use Rattle.csub_objects.specs.Types.{Name}
-use Rattle.csub_semantics.specs.Types.{name_eq, GlobalTree}
+use Rattle.csub_objects.specs.Types.{Name, main_name}
+use Rattle.csub_semantics.specs.Types.{GlobalTree}
 use Rattle.csub_semantics.specs.Labels.{enters, exits, PointLabel}
 use Rattle.csub_semantics.specs.Globals.{global_of, named_globals}
 use Rattle.csub_semantics.specs.Syntax.{FunctionTree, ProgramTree}
 use Rattle.csub_semantics.specs.Points.{PointTree, entry, exit, at, point_eq, ExitTree, next, exit_eq, on_default}
 use Rattle.csub_semantics.specs.Successors.{Way, Node, Around, way, enter_list, marks_list, target, nodes_list}
 
--- `#start`, which calls `main`, and `main`
+-- `#start`, which calls `main`
 abbrev pub start_name : Name
-start_name = 35 ∷ 115 ∷ 116 ∷ 97 ∷ 114 ∷ 116 ∷ []
-
-abbrev pub main_name : Name
-main_name = 109 ∷ 97 ∷ 105 ∷ 110 ∷ []
+start_name = codes "#start"
 
 -- what the end of a function asks for: `#start` ends the run, `main` gives 0 where it returned nothing (C11 5.1.2.2.3),
 -- a void function gives nothing, and any other has to have returned a value
@@ -27,7 +24,7 @@ result_rule None = Nothing
 result_rule (Some kind) = Value
 
 abbrev pub end_rule : Name → Option IntKind → EndRule
-end_rule name result = if name_eq name start_name then Start else if name_eq name main_name then Main else result_rule result
+end_rule name result = if bytes_eq name start_name then Start else if bytes_eq name main_name then Main else result_rule result
 
 -- past the end of a body, and at a return, control goes to the function's exit; no `break` and no `continue` stands
 -- outside a loop or `switch`
@@ -84,7 +81,7 @@ pub record Flow : Type 0 where
 
 -- the function of a name
 abbrev pub function_in : List FunctionTree → Name → Option FunctionTree
-function_in fs f = find (λ g. name_eq g.name f) fs
+function_in fs f = find (λ g. bytes_eq g.name f) fs
 
 abbrev pub function_of : ProgramTree → Name → Option FunctionTree
 function_of P f = function_in P.functions f

@@ -15,10 +15,11 @@ shown Signed v = signed_decimal (convert Int v)
 shown Plain v = signed_decimal (convert Unsigned v)
 shown Letter v = low_byte v ∷ []
 
--- the text of a format, whose conversions take the values in order; it ends where they run out, which no valid program meets
+-- the text of a format, whose conversions take the values in order, and a byte none; it ends where they run out, which no
+-- valid program meets
 abbrev pub text_of : List Piece → List ℤ → List ℕ
 text_of [] vs = []
-text_of (Byte b ∷ rest) vs = low_byte (pos b) ∷ text_of rest vs
+text_of (Byte b ∷ rest) vs = shown (Byte b) (pos 0) ++ text_of rest vs
 text_of (Signed ∷ rest) [] = []
 text_of (Signed ∷ rest) (v ∷ vs) = shown Signed v ++ text_of rest vs
 text_of (Plain ∷ rest) [] = []

@@ -1,12 +1,12 @@
 -- The globals that a label names. They belong to the label, so that statements count as the same only where each global
 -- that they name is declared with one type and one initial value in both programs.
-use Rattle.std.specs.Prelude.{List, [], ◌∷◌, ◌++◌, Option, Some, None, find}
+use Rattle.std.specs.Prelude.{List, [], ◌∷◌, ◌++◌, Option, Some, None, find, bytes_eq}
 use Rattle.std.specs.List.{flat_map}
 use Rattle.std.specs.Ordering.{nat_cmp}
 use Rattle.std.specs.Cmp.Lexicographic.{slice_cmp}
 use Rattle.std.specs.BTreeSet.{insert_key}
 use Rattle.csub_objects.specs.Types.{Name}
-use Rattle.csub_semantics.specs.Types.{name_eq, GlobalTree}
+use Rattle.csub_semantics.specs.Types.{GlobalTree}
 use Rattle.csub_semantics.specs.Trees.{OwnerTree, global_owner, local_owner, Variable, object, temporary}
 use Rattle.csub_semantics.specs.Trees.{NamedPlace, variable, element_place, member_place, NamedExpr}
 use Rattle.csub_semantics.specs.Trees.{constant}
@@ -86,7 +86,7 @@ ordered before (a ∷ more) = ordered (insert_key (slice_cmp nat_cmp) before a) 
 
 -- the global of a name
 abbrev pub global_of : List GlobalTree → Name → Option GlobalTree
-global_of globals a = find (λ (g : GlobalTree). name_eq g.name a) globals
+global_of globals a = find (λ (g : GlobalTree). bytes_eq g.name a) globals
 
 abbrev pub found_first : Option GlobalTree → List GlobalTree → List GlobalTree
 found_first None rest = rest

@@ -1,11 +1,10 @@
 -- The points of statements and where they lead, by places in the syntax. All is generic in the type X of points: a
 -- function `name` names the points inside a statement by path, part and stage.
-use Rattle.std.specs.Prelude.{ℕ, ℤ, ◌+◌, List, [], ◌∷◌, ◌++◌, Bool, true, false, Option, Some, None, length, if◌then◌else◌}
+use Rattle.std.specs.Prelude.{ℕ, ℤ, ◌+◌, List, [], ◌∷◌, ◌++◌, Bool, true, false, Option, Some, None, length, if◌then◌else◌, bytes_eq}
 use Rattle.std.specs.Ordering.{int_cmp}
 use Rattle.std.specs.BTreeSet.{insert_key}
 use Rattle.csub_text.specs.declared.span.Span.{Span}
 use Rattle.csub_objects.specs.Types.{Name}
-use Rattle.csub_semantics.specs.Types.{name_eq}
 use Rattle.csub_semantics.specs.Labels.{LabelTree, returns, halts}
 use Rattle.csub_semantics.specs.Points.{ExitTree, next, on_true, on_false, on_case, on_default}
 use Rattle.csub_semantics.specs.Syntax.{PartTree, StmtTree, StmtTrees, ElseTree, parts, block, conditional, while_loop, do_loop, for_loop}
@@ -182,7 +181,7 @@ module _ {X : Type 0} where
   -- where a `goto` of a name leads: to the statement with the label (C11 6.8.6.1p2)
   abbrev pub target : List (Mark X) → X → Name → X
   target [] other a = other
-  target (m ∷ rest) other a = if name_eq m.name a then m.to else target rest other a
+  target (m ∷ rest) other a = if bytes_eq m.name a then m.to else target rest other a
 
   -- the points of a part from stage k on: each leads to the next, and the last has the given ways out
   abbrev pub part_nodes : PartTree → ℕ → (ℕ → X) → List (Way X) → List (Node X)

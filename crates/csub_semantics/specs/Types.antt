@@ -1,11 +1,8 @@
 -- Objects of file scope as values. Their types are those of csub_objects.
-use Rattle.std.specs.Prelude.{ℤ, List, Bool, bytes_eq}
+use Rattle.std.specs.Prelude.{ℤ, List}
 use Rattle.csub_objects.specs.Types.{Name, TypeTree}
 use Rattle.csub_objects.specs.Meaning.{type_tree}
 use Rattle.csub_semantics.specs.declared.types.GlobalVar.{GlobalVar}
-
-abbrev pub name_eq : Name → Name → Bool
-name_eq a b = bytes_eq a b
 
 -- an object of file scope: its name, its declared type, and what its cells hold when a run begins
 pub record GlobalTree : Type 0 where

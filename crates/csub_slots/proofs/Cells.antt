@@ -1,7 +1,6 @@
 -- The tests of equality of cells' names.
-use Rattle.std.proofs.Common.{◌≡◌, List, [], ◌∷◌, true, ◌&&◌, refl, ◌∙◌, ap, nat_eq}
+use Rattle.std.proofs.Common.{◌≡◌, List, [], ◌∷◌, true, ◌&&◌, refl, ◌∙◌, ap, nat_eq, bytes_eq}
 use Rattle.std.proofs.lemmas.Bool.{eqb-true, eq-eqb, and_parts}
-use Rattle.csub_semantics.specs.Types.{name_eq}
 use Rattle.csub_objects.specs.Paths.{Inner, element_at, member_of}
 use Rattle.csub_semantics.specs.Cells.{Root, global_root, local_root, temp_root, Cell, inner_eq, path_eq, root_eq, cell_eq}
 use Rattle.program_laws.proofs.LawsNames.{same_name, name_itself}
@@ -29,8 +28,8 @@ path_same (x ∷ xs) = let p = inner_same x in let q = path_same xs in rw (p, q)
 root_true : (a b : Root) → root_eq a b ≡ true → a ≡ b
 root_true (global_root a) (global_root b) e = ap global_root (same_name a b e)
 root_true (local_root h a n) (local_root i b o) e =
-    let p = and_parts (nat_eq h i) (name_eq a b && nat_eq n o) e in
-    let q = and_parts (name_eq a b) (nat_eq n o) p.1 in
+    let p = and_parts (nat_eq h i) (bytes_eq a b && nat_eq n o) e in
+    let q = and_parts (bytes_eq a b) (nat_eq n o) p.1 in
     let r = eqb-true h i p.0 in let s = same_name a b q.0 in let t = eqb-true n o q.1 in cc
 root_true (temp_root h n) (temp_root i o) e = let p = and_parts (nat_eq h i) (nat_eq n o) e in let r = eqb-true h i p.0 in let t = eqb-true n o p.1 in cc
 root_true (global_root a) (local_root i b o) e = cc

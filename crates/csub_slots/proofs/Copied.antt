@@ -20,7 +20,6 @@ use Rattle.csub_flat.specs.Fits.{HasPlace, FitsPlace, FitsExpr, FitExprs}
 use Rattle.csub_flat.proofs.LawsSized.{part_found, element_sized, member_sized, place_stands}
 use Rattle.csub_slots.specs.Layout.{live_size, live}
 use Rattle.csub_slots.proofs.Numbered.{unmoved}
-use Rattle.csub_semantics.specs.Types.{name_eq}
 use Rattle.csub_slots.proofs.Evals.{LikePlace, like_variable, like_element, like_member, LikeExpr, like_constant, like_reading, like_unary, like_conversion}
 use Rattle.csub_slots.proofs.Evals.{like_stepping, like_operation, like_conjunction, like_disjunction, like_choice, like_assignment, like_update, like_input, like_output, like_formatted}
 use Rattle.csub_slots.proofs.Evals.{LikeRow, like_none, like_more}
@@ -94,7 +93,7 @@ HasSize g = IsSized g.ctype
 -- no global of a program is an array parameter
 global_whole : (gs : List LocalTree) (a : Name) (n s : ℕ) (t : TypeTree) → All HasSize gs → place_in gs a n ≡ Some (inside_at s (plain t)) → IsWhole t
 global_whole [] a n s t sized e = cc
-global_whole (g ∷ rest) a n s t sized e = pick (name_eq g.name a && nat_eq g.number n) e (λ k h. global_whole rest a n k t (All-tail HasSize g rest sized) h)
+global_whole (g ∷ rest) a n s t sized e = pick (bytes_eq g.name a && nat_eq g.number n) e (λ k h. global_whole rest a n k t (All-tail HasSize g rest sized) h)
   where
     pick : (b : Bool) → (if b then Some (inside_at 0 (plain g.ctype)) else moved (cells g.ctype) (place_in rest a n)) ≡ Some (inside_at s (plain t))
         → ((k : ℕ) → place_in rest a n ≡ Some (inside_at k (plain t)) → IsWhole t) → IsWhole t

@@ -9,10 +9,10 @@ use Rattle.csub_types.specs.declared.kind.IntKind.{IntKind}
 use Rattle.csub_types.specs.declared.trap.Trap.{Trap}
 use Rattle.csub_types.specs.declared.trap.Trap.TheVariants.{Flood, Bounds}
 use Rattle.csub_types.specs.Kinds.{convert, promote}
-use Rattle.csub_types.specs.Arithmetic.{unary, binary}
+use Rattle.csub_types.specs.Arithmetic.{unary, binary, right_operand}
 use Rattle.csub_semantics.specs.Trees.{PlaceTree, variable, element_place, member_place, ExprTree, constant, reading, unary_operation, conversion, stepping, operation, conjunction, disjunction, choice, assignment, update, input_byte, output_byte, formatted, ExprTrees, no_expr, more_exprs}
 use Rattle.csub_semantics.specs.Memory.{State, Answer, value, trapped, Memory, then_do, given, found, get_byte, put_byte, put_bytes, low_byte, most_output}
-use Rattle.csub_semantics.specs.Evaluation.{right_operand, computed, step_by, step_value, is_index, fetch, indexed, store, step, locate, eval, eval_all}
+use Rattle.csub_semantics.specs.Evaluation.{computed, step_by, step_value, is_index, fetch, indexed, store, step, locate, eval, eval_all}
 use Rattle.csub_semantics.specs.declared.expression.Piece.{Piece}
 use Rattle.csub_semantics.specs.Formats.{text_of}
 use Rattle.csub_slots.specs.Like.{LikeState}

@@ -1,5 +1,5 @@
 -- The slots of globals at the beginning of a run stand for its first cells.
-use Rattle.std.proofs.Common.{ℕ, suc, ◌+◌, ◌≡◌, ◌<◌, ℤ, pos, List, [], ◌∷◌, ◌++◌, map, length, replicate, get_or, All, Bool}
+use Rattle.std.proofs.Common.{ℕ, suc, ◌+◌, ◌≡◌, ◌<◌, ℤ, pos, List, [], ◌∷◌, ◌++◌, map, length, replicate, get_or, All, Bool, bytes_eq}
 use Rattle.std.proofs.Common.{true, false, cond, ◌&&◌, nat_eq, Option, Some, None, slice_index_or, if◌then◌else◌, refl, sym, ◌∙◌, ap}
 use Rattle.std.proofs.Common.{subst, arith, length-append}
 use Rattle.std.specs.Option.{option_map, option_and_then}
@@ -12,7 +12,7 @@ use Rattle.csub_types.specs.declared.kind.IntKind.TheVariants.{Int}
 use Rattle.csub_objects.specs.Types.{Name, TypeTree, number_type, array_type, struct_type, loose_type, kinds, cells, HasArrays, IsSized}
 use Rattle.csub_objects.specs.Paths.{Inner, number_cell, Inside, inside_at, moved, inside}
 use Rattle.csub_objects.proofs.LawsTypes.{length-kinds}
-use Rattle.csub_semantics.specs.Types.{name_eq, GlobalTree}
+use Rattle.csub_semantics.specs.Types.{GlobalTree}
 use Rattle.csub_semantics.specs.Globals.{global_of}
 use Rattle.csub_semantics.specs.Syntax.{FunctionTree, ProgramTree}
 use Rattle.csub_semantics.specs.Flows.{flow_of}
@@ -125,7 +125,7 @@ module _ (layout : Layout) (root : Root) (a : Name) (path : List Inner) where
   opened_holds : (globals : List GlobalTree) → All HasContents globals → (x : Inside) → place globals ≡ Some x
       → Holds layout root x.ctype (initial_content (global_of globals a) path) (slice_index_or (opening_slots globals) x.at empty)
   opened_holds [] h x e = cc
-  opened_holds (g ∷ rest) h x e = pick (name_eq g.name a) e (opened_holds rest (All-tail HasContents g rest h))
+  opened_holds (g ∷ rest) h x e = pick (bytes_eq g.name a) e (opened_holds rest (All-tail HasContents g rest h))
     where
       pick : (b : Bool)
           → into (if b && nat_eq 0 0 then Some (inside_at 0 (plain g.ctype)) else moved (cells g.ctype) (place_in (map global_object rest) a 0)) path
@@ -143,7 +143,7 @@ module _ (layout : Layout) (root : Root) (a : Name) (path : List Inner) where
 
   opened_nothing : (globals : List GlobalTree) → All HasContents globals → place globals ≡ None → initial_content (global_of globals a) path ≡ None
   opened_nothing [] h e = refl
-  opened_nothing (g ∷ rest) h e = pick (name_eq g.name a) e (opened_nothing rest (All-tail HasContents g rest h))
+  opened_nothing (g ∷ rest) h e = pick (bytes_eq g.name a) e (opened_nothing rest (All-tail HasContents g rest h))
     where
       pick : (b : Bool)
           → into (if b && nat_eq 0 0 then Some (inside_at 0 (plain g.ctype)) else moved (cells g.ctype) (place_in (map global_object rest) a 0)) path ≡ None

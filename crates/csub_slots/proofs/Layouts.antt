@@ -1,9 +1,8 @@
 -- Objects have slots of their own, in a frame and among globals and live frames.
-use Rattle.std.proofs.Common.{ℕ, zero, suc, ◌+◌, ◌≡◌, ◌<◌, ◌≤◌, ◌⊎◌, inl, inr, List, [], ◌∷◌, length, Bool, true, false, ◌&&◌, nat_eq, nat_lt, Some, None, if◌then◌else◌, refl, sym, ◌∙◌, ap, arith}
+use Rattle.std.proofs.Common.{ℕ, zero, suc, ◌+◌, ◌≡◌, ◌<◌, ◌≤◌, ◌⊎◌, inl, inr, List, [], ◌∷◌, length, Bool, true, false, ◌&&◌, nat_eq, nat_lt, Some, None, if◌then◌else◌, refl, sym, ◌∙◌, ap, arith, bytes_eq}
 use Rattle.std.proofs.lemmas.Bool.{eqb-true, and_parts, ltb-true}
 use Rattle.csub_types.specs.declared.kind.IntKind.TheVariants.{Int}
 use Rattle.csub_objects.specs.Types.{Name, number_type, cells}
-use Rattle.csub_semantics.specs.Types.{name_eq}
 use Rattle.csub_semantics.specs.Syntax.{LocalTree, FunctionTree}
 use Rattle.csub_validity.specs.Valid.{objects_of}
 use Rattle.csub_semantics.specs.Cells.{Root, global_root, local_root, temp_root, of_frame}
@@ -27,7 +26,7 @@ pub record IsLayout (layout : Layout) (count : ℕ) : Type 0 where
 -- an object is within the slots of all
 pub place_within : (os : List LocalTree) (a : Name) (n : ℕ) (x : Inside) → place_in os a n ≡ Some x → x.at + cells x.ctype ≤ objects_size os
 place_within [] a n x e = cc
-place_within (o ∷ rest) a n x e = pick (name_eq o.name a && nat_eq o.number n) e (λ y g. place_within rest a n y g)
+place_within (o ∷ rest) a n x e = pick (bytes_eq o.name a && nat_eq o.number n) e (λ y g. place_within rest a n y g)
   where
     pick : (b : Bool) → (if b then Some (inside_at 0 (plain o.ctype)) else moved (cells o.ctype) (place_in rest a n)) ≡ Some x → ((y : Inside) → place_in rest a n ≡ Some y → y.at + cells y.ctype ≤ objects_size rest) → x.at + cells x.ctype ≤ objects_size (o ∷ rest)
     pick true g again =
@@ -41,15 +40,15 @@ place_within (o ∷ rest) a n x e = pick (name_eq o.name a && nat_eq o.number n)
 -- two names have places that are apart
 pub places_apart : (os : List LocalTree) (a b : Name) (n m : ℕ) (x y : Inside) → place_in os a n ≡ Some x → place_in os b m ≡ Some y → ((a ≡ b) × (n ≡ m)) ⊎ Apart x y
 places_apart [] a b n m x y e f = cc
-places_apart (o ∷ rest) a b n m x y e f = pick (name_eq o.name a && nat_eq o.number n) refl (name_eq o.name b && nat_eq o.number m) refl e f (λ v z g h. places_apart rest a b n m v z g h)
+places_apart (o ∷ rest) a b n m x y e f = pick (bytes_eq o.name a && nat_eq o.number n) refl (bytes_eq o.name b && nat_eq o.number m) refl e f (λ v z g h. places_apart rest a b n m v z g h)
   where
     at_head : (t : Inside) → Some (inside_at 0 (plain o.ctype)) ≡ Some t → (t.at ≡ 0) × (cells t.ctype ≡ cells o.ctype)
     at_head t g = let is : inside_at 0 (plain o.ctype) ≡ t = cc in (ap (λ (z : Inside). z.at) (sym is), ap (λ (z : Inside). cells z.ctype) (sym is) ∙ plain_cells o.ctype)
 
-    same : (c : Name) (k : ℕ) → (name_eq o.name c && nat_eq o.number k) ≡ true → (o.name ≡ c) × (o.number ≡ k)
-    same c k g = let p = and_parts (name_eq o.name c) (nat_eq o.number k) g in (same_name o.name c p.0, eqb-true o.number k p.1)
+    same : (c : Name) (k : ℕ) → (bytes_eq o.name c && nat_eq o.number k) ≡ true → (o.name ≡ c) × (o.number ≡ k)
+    same c k g = let p = and_parts (bytes_eq o.name c) (nat_eq o.number k) g in (same_name o.name c p.0, eqb-true o.number k p.1)
 
-    pick : (c : Bool) → (name_eq o.name a && nat_eq o.number n) ≡ c → (d : Bool) → (name_eq o.name b && nat_eq o.number m) ≡ d
+    pick : (c : Bool) → (bytes_eq o.name a && nat_eq o.number n) ≡ c → (d : Bool) → (bytes_eq o.name b && nat_eq o.number m) ≡ d
         → (if c then Some (inside_at 0 (plain o.ctype)) else moved (cells o.ctype) (place_in rest a n)) ≡ Some x
         → (if d then Some (inside_at 0 (plain o.ctype)) else moved (cells o.ctype) (place_in rest b m)) ≡ Some y
         → ((v z : Inside) → place_in rest a n ≡ Some v → place_in rest b m ≡ Some z → ((a ≡ b) × (n ≡ m)) ⊎ Apart v z) → ((a ≡ b) × (n ≡ m)) ⊎ Apart x y

@@ -1,11 +1,11 @@
 //! What expressions give, over slots. Nothing here takes memory.
 ghost use Rattle.std.specs.Prelude.{◌≡◌, ◌≤◌, [], length, map, All, slice_set, Ok};
 ghost use Rattle.csub_types.specs.Kinds.{promote, convert};
-ghost use Rattle.csub_types.specs.Arithmetic.{unary, binary};
+ghost use Rattle.csub_types.specs.Arithmetic.{unary, binary, right_operand};
 ghost use Rattle.csub_semantics.specs.Trees.{formatted, exprs_of};
 ghost use Rattle.csub_semantics.specs.Memory.{value, then_do, get_byte};
 ghost use Rattle.csub_semantics.specs.Evaluation as the;
-ghost use Rattle.csub_semantics.specs.Evaluation.{right_operand, is_nonzero, locate, eval, eval_all, fetch};
+ghost use Rattle.csub_semantics.specs.Evaluation.{is_nonzero, locate, eval, eval_all, fetch};
 ghost use Rattle.csub_slots.specs.Layout as layout;
 ghost use Rattle.csub_slots.specs.Memory.{flat, spots};
 ghost use Rattle.csub_flat.specs.Seen.{place_seen, expr_seen};

@@ -10,7 +10,7 @@ use Rattle.csub_text.specs.declared.operator.BinOp.TheVariants.{Mul, Div, Rem, A
 use Rattle.csub_types.specs.declared.kind.IntKind.{IntKind}
 use Rattle.csub_types.specs.declared.kind.IntKind.TheVariants.{Int}
 use Rattle.csub_types.specs.declared.trap.Trap.{Trap}
-use Rattle.csub_types.specs.Kinds.{IsOf, convert, low_bits}
+use Rattle.csub_types.specs.Kinds.{IsOf, promote, common, convert, low_bits}
 use Rattle.csub_types.specs.Settled.{settled, truth}
 use Rattle.csub_types.specs.Division.{quotient, remainder}
 use Rattle.csub_types.specs.Shifts.{shifted_left, shifted_right}
@@ -51,6 +51,19 @@ abbrev pub IsRightOperand : BinOp → IntKind → ℤ → Type 0
 IsRightOperand Shl k b = Unit {0}
 IsRightOperand Shr k b = Unit {0}
 IsRightOperand op k b = IsOf k b
+
+-- The kind in which an operation is computed: shifts promote the left operand alone (6.5.7p3), the others convert both to
+-- their common kind (6.3.1.8p1).
+abbrev pub operation_kind : BinOp → IntKind → IntKind → IntKind
+operation_kind Shl j k = promote j
+operation_kind Shr j k = promote j
+operation_kind op j k = common j k
+
+-- A right operand in that kind; the count of a shift keeps its own.
+abbrev pub right_operand : BinOp → IntKind → ℤ → ℤ
+right_operand Shl k b = b
+right_operand Shr k b = b
+right_operand op k b = convert k b
 
 -- The kind of a result: that of the operands, but `int` for a comparison (6.5.8p6 and 6.5.9p3) and for `!` (6.5.3.3p5).
 abbrev pub binary_kind : BinOp → IntKind → IntKind

@@ -2,15 +2,47 @@
 ghost use Rattle.std.specs.Prelude.{◌≡◌, IfOk, ◌*ℤ◌};
 ghost use Rattle.csub_types.specs.Kinds.{IsOf, IsPromoted, low_bits};
 ghost use Rattle.csub_types.specs.Settled.{settled, truth};
-ghost use Rattle.csub_types.specs.Arithmetic.{unary, binary, IsRightOperand, unary_kind, binary_kind};
+ghost use Rattle.csub_types.specs.Arithmetic.{unary, binary, IsRightOperand, unary_kind, binary_kind, operation_kind};
 ghost use Rattle.csub_types.specs.declared.kind.IntKind.TheVariants.{Int};
 
 use crate::division::{divide, remain};
-use crate::kind::{IntKind, convert};
+use crate::kind::{IntKind, common, convert, promote};
 use crate::settle::settle;
 use crate::shift::{shift_left, shift_right};
 use crate::trap::Trap;
 use csub_text::{BinOp, UnaryOp};
+
+/// The kind in which an operation is computed: a shift promotes its left operand alone (C11 6.5.7p3), the others convert
+/// both to their common kind (6.3.1.8p1).
+pub fn operation_kind(op: BinOp, a: IntKind, b: IntKind) -> IntKind
+    ensures value { result ≡ operation_kind op a b }
+    ensures promoted { IsPromoted result }
+{
+    match op {
+        BinOp::Shl | BinOp::Shr => promote(a),
+        _ => common(a, b),
+    }
+}
+
+/// The kind of an operation's result: `int` for a comparison (C11 6.5.8p6 and 6.5.9p3).
+pub fn binary_kind(op: BinOp, kind: IntKind) -> IntKind
+    ensures { result ≡ binary_kind op kind }
+{
+    match op {
+        BinOp::Lt | BinOp::Gt | BinOp::Le | BinOp::Ge | BinOp::Eq | BinOp::Ne => IntKind::Int,
+        _ => kind,
+    }
+}
+
+/// The kind of a result of `+`, `-`, `!` or `~`: `int` for `!` (C11 6.5.3.3p5).
+pub fn unary_kind(op: UnaryOp, kind: IntKind) -> IntKind
+    ensures { result ≡ unary_kind op kind }
+{
+    match op {
+        UnaryOp::Not => IntKind::Int,
+        _ => kind,
+    }
+}
 
 /// What an operator gives on one operand of a promoted kind (C11 6.5.3.3). The only trap is `Overflow`.
 pub fn unary(op: UnaryOp, kind: IntKind, a: i64) -> Result<i64, Trap>

@@ -9,7 +9,7 @@ use Rattle.csub_rules.specs.Labels.{stands_in}
 use Rattle.csub_rules.proofs.LawsEarlier.{on_left, on_right, tested}
 use Rattle.csub_rules.proofs.LawsSound.{Gives, nothing, join, tells}
 use Rattle.csub_units.specs.Files.{no_file}
-use Rattle.csub_units.specs.Items.{main_name}
+use Rattle.csub_objects.specs.Types.{main_name}
 use Rattle.csub_units.specs.Units.{undefined_fault, undefineds_fault, all_defined, placed_fault, no_place, main_fault, unit_fault}
 use Rattle.csub_units.specs.BrokenObject.{IsIn, this_one, next_one}
 use Rattle.csub_units.specs.BrokenItem.{BrokenPlaced, by_item, m19_undefined, BrokenUnit, placed, m19_missing}

@@ -14,7 +14,8 @@ use Rattle.csub_rules.specs.Labels.{stands_in}
 use Rattle.csub_rules.specs.Bodies.{BrokenBody}
 use Rattle.csub_units.specs.Files.{File, no_file}
 use Rattle.csub_units.specs.Heads.{at_params, past_param, is_taken, contradicts}
-use Rattle.csub_units.specs.Items.{main_name, past_item, lacks_names, is_other_main, in_function}
+use Rattle.csub_units.specs.Items.{past_item, lacks_names, is_other_main, in_function}
+use Rattle.csub_objects.specs.Types.{main_name}
 use Rattle.csub_units.specs.Units.{all_defined, no_place}
 use Rattle.csub_units.specs.BrokenObject.{BrokenDeclaration, BrokenStruct, BrokenEnumeration, IsIn}
 

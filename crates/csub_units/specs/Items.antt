@@ -1,11 +1,11 @@
 -- The items of a source (C11 6.9), and the rules on them.
-use Rattle.std.specs.Prelude.{List, [], ◌∷◌, Bool, true, false, Option, Some, None, not, is_some, ◌&&◌, ◌||◌, bytes_eq, codes}
+use Rattle.std.specs.Prelude.{List, [], ◌∷◌, Bool, true, false, Option, Some, None, not, is_some, ◌&&◌, ◌||◌, bytes_eq}
 use Rattle.std.specs.List.{list_any}
 use Rattle.csub_types.specs.declared.kind.IntKind.{IntKind}
 use Rattle.csub_types.specs.declared.kind.IntKind.TheVariants.{Int}
 use Rattle.csub_tree.specs.Declarations.{Param, Head}
 use Rattle.csub_tree.specs.Units.{Item, Struct, Enum, Object, Prototype, Function}
-use Rattle.csub_objects.specs.Types.{Name, kind_eq}
+use Rattle.csub_objects.specs.Types.{kind_eq, main_name}
 use Rattle.csub_scopes.specs.Scopes.{Scope}
 use Rattle.csub_rules.specs.declared.fault.Fault.{Fault}
 use Rattle.csub_rules.specs.Faults.{fault_if, ◌or_earlier◌}
@@ -18,9 +18,6 @@ use Rattle.csub_units.specs.Objects.{past_declaration, declaration_fault}
 use Rattle.csub_units.specs.Structs.{past_struct, struct_fault}
 use Rattle.csub_units.specs.Enums.{past_enum, enumeration_fault}
 use Rattle.csub_units.specs.Heads.{at_params, past_params, past_head, head_fault}
-
-abbrev pub main_name : Name
-main_name = codes "main"
 
 -- what is declared behind an item
 abbrev pub past_item : File → Item → File

@@ -3,12 +3,12 @@ use Rattle.std.specs.Prelude.{List, [], ◌∷◌, Option, None, not}
 use Rattle.std.specs.Option.{option_or}
 use Rattle.csub_text.specs.declared.span.Span.{Span}
 use Rattle.csub_tree.specs.Units.{Item, Struct, Enum, Object, Prototype, Function, Source}
-use Rattle.csub_objects.specs.Types.{Name}
+use Rattle.csub_objects.specs.Types.{Name, main_name}
 use Rattle.csub_rules.specs.declared.fault.Fault.{Fault}
 use Rattle.csub_rules.specs.Faults.{fault_if, ◌or_earlier◌}
 use Rattle.csub_rules.specs.Labels.{stands_in}
 use Rattle.csub_units.specs.Files.{no_file}
-use Rattle.csub_units.specs.Items.{main_name, past_items, items_fault}
+use Rattle.csub_units.specs.Items.{past_items, items_fault}
 
 -- M19: a declared function is defined nowhere in the source; the functions that are defined have these names
 abbrev pub undefined_fault : List Name → Item → Option Fault

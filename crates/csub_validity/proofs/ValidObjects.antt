@@ -1,12 +1,11 @@
 -- The objects of a function, by its parameters and its locals.
-use Rattle.std.proofs.Common.{◌≡◌, ◌≢◌, ◌↔◌, ◌∙◌, ℕ, List, [], ◌∷◌, ◌++◌, ◌&&◌, map, get_or, All, AllPairs, Option, Some, None, find, nat_eq, refl, ap, sym, subst}
+use Rattle.std.proofs.Common.{◌≡◌, ◌≢◌, ◌↔◌, ◌∙◌, ℕ, List, [], ◌∷◌, ◌++◌, ◌&&◌, map, get_or, All, AllPairs, Option, Some, None, find, nat_eq, refl, ap, sym, subst, bytes_eq}
 use Rattle.std.specs.Option.{option_map, option_or}
 use Rattle.std.proofs.lemmas.List.Folds.{find-append}
 use Rattle.csub_objects.specs.declared.types.Member.{Member}
 use Rattle.csub_semantics.specs.declared.function.LocalVar.{LocalVar}
 use Rattle.csub_objects.specs.Types.{Name, TypeTree}
 use Rattle.csub_objects.specs.Meaning.{member_tree}
-use Rattle.csub_semantics.specs.Types.{name_eq}
 use Rattle.csub_semantics.specs.Syntax.{LocalTree, local_tree}
 use Rattle.csub_validity.specs.Valid.{parameter_object, type_in, AreOther}
 use Rattle.csub_validity.specs.Checks.{AreApart}
@@ -27,7 +26,7 @@ type_of_either (Some x) u = refl
 
 type_in-append : (os us : List LocalTree) (a : Name) (n : ℕ) → type_in (os ++ us) a n ≡ option_or (type_in os a n) (type_in us a n)
 type_in-append os us a n =
-    let test = λ (o : LocalTree). name_eq o.name a && nat_eq o.number n in
+    let test = λ (o : LocalTree). bytes_eq o.name a && nat_eq o.number n in
     ap (option_map (λ (o : LocalTree). o.ctype)) (find-append test os us) ∙ type_of_either (find test os) (find test us)
 
 -- what is found among the parameters, and what is found among the locals where no parameter fits

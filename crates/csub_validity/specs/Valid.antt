@@ -1,20 +1,19 @@
 -- Valid programs: what a program keeps at every moment.
-use Rattle.std.specs.Prelude.{ℕ, ◌+◌, ◌≤◌, ◌≡◌, ◌≢◌, ◌<◌, ◌++◌, ◌⊎◌, ◌&&◌, Bool, true, false, IsTrue, nat_eq}
+use Rattle.std.specs.Prelude.{ℕ, ◌+◌, ◌≤◌, ◌≡◌, ◌≢◌, ◌<◌, ◌++◌, ◌⊎◌, ◌&&◌, Bool, true, false, IsTrue, nat_eq, bytes_eq}
 use Rattle.std.specs.Prelude.{ℤ, List, [], ◌∷◌, map, length, sum_by, slice_get, find, All, AllPairs, Option, Some, None, IfSome, is_some}
 use Rattle.std.specs.Prelude.{if◌then◌else◌}
 use Rattle.std.specs.List.{list_any, flat_map}
 use Rattle.std.specs.Option.{option_map, option_and_then}
 use Rattle.csub_text.specs.declared.operator.BinOp.{BinOp}
-use Rattle.csub_text.specs.declared.operator.BinOp.TheVariants.{Shl, Shr}
 use Rattle.csub_types.specs.declared.kind.IntKind.{IntKind}
 use Rattle.csub_types.specs.declared.kind.IntKind.TheVariants.{Int}
 use Rattle.csub_types.specs.Kinds.{IsOf, promote, common}
-use Rattle.csub_types.specs.Arithmetic.{unary_kind, binary_kind}
-use Rattle.csub_objects.specs.Types.{Name, TypeTree, number_type, array_type, struct_type, loose_type}
+use Rattle.csub_types.specs.Arithmetic.{unary_kind, binary_kind, operation_kind}
+use Rattle.csub_objects.specs.Types.{Name, TypeTree, number_type, array_type, struct_type, loose_type, main_name}
 use Rattle.csub_objects.specs.Types.{MemberTree, MemberTrees, no_member, more_members}
 use Rattle.csub_objects.specs.Types.{number_kind, IsNumber, element_type, member_type, cells, kinds, IsSized}
 use Rattle.csub_objects.specs.Parts.{part_type, has_parts}
-use Rattle.csub_semantics.specs.Types.{name_eq, GlobalTree}
+use Rattle.csub_semantics.specs.Types.{GlobalTree}
 use Rattle.csub_semantics.specs.Trees.{NamedPlace, NamedExpr, Variable, OwnerTree, global_owner, local_owner, variable}
 use Rattle.csub_semantics.specs.Trees.{NamedArg, value_argument, array_argument}
 use Rattle.csub_semantics.specs.Trees.{element_place, member_place}
@@ -35,13 +34,7 @@ use Rattle.csub_validity.specs.declared.role.Targets.{Targets}
 use Rattle.csub_semantics.specs.Globals.{global_of}
 use Rattle.csub_semantics.specs.Successors.{is_default, case_values, marks_list}
 use Rattle.csub_semantics.specs.Points.{at}
-use Rattle.csub_semantics.specs.Flows.{start_name, main_name, to_exit, function_of, point_list, edge_list}
-
--- the kind of an operation: a shift has the promoted kind of its left operand (C11 6.5.7), any other the common kind
-abbrev pub operation_kind : BinOp → IntKind → IntKind → IntKind
-operation_kind Shl a b = promote a
-operation_kind Shr a b = promote a
-operation_kind op a b = common a b
+use Rattle.csub_semantics.specs.Flows.{start_name, to_exit, function_of, point_list, edge_list}
 
 -- the type of a place: an array alone has elements (C11 6.5.2.1p1), and a struct alone members (6.5.2.3p1)
 abbrev pub place_type : NamedPlace → Option TypeTree
@@ -118,7 +111,7 @@ scope_of P f p = record { globals = P.globals; objects = objects_of f; results =
 
 -- the declared type of the object with a name and a number among those of its name
 abbrev pub type_in : List LocalTree → Name → ℕ → Option TypeTree
-type_in objects a n = option_map (λ (o : LocalTree). o.ctype) (find (λ (o : LocalTree). name_eq o.name a && nat_eq o.number n) objects)
+type_in objects a n = option_map (λ (o : LocalTree). o.ctype) (find (λ (o : LocalTree). bytes_eq o.name a && nat_eq o.number n) objects)
 
 -- the declared type of the object of file scope with a name
 abbrev pub global_type : List GlobalTree → Name → Option TypeTree
@@ -373,7 +366,7 @@ abbrev mutual
   IsStmt P f to breaks = IsTrue to.of_break
   IsStmt P f to continues = IsTrue to.of_continue
   -- a `goto` names a label of its function (C11 6.8.6.1p1)
-  IsStmt P f to (goes_to a p) = IsJump p × IsTrue (list_any (λ b. name_eq b a) (labels_of f))
+  IsStmt P f to (goes_to a p) = IsJump p × IsTrue (list_any (λ b. bytes_eq b a) (labels_of f))
   IsStmt P f to (marked a s) = IsStmt P f (further_in to) s
 
   pub AreStmts : ProgramTree → FunctionTree → Targets → StmtTrees → Type 0

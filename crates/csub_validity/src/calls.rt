@@ -1,8 +1,7 @@
 //! Whether calls fit the functions that they call.
-ghost use Rattle.std.specs.Prelude.{◌≡◌, ◌↔◌, ◌<◌, ◌≤◌, map, IsTrue, IfSome};
+ghost use Rattle.std.specs.Prelude.{◌≡◌, ◌↔◌, ◌<◌, ◌≤◌, map, IsTrue, IfSome, bytes_eq};
 ghost use Rattle.std.specs.Option.{option_map};
 ghost use Rattle.csub_objects.specs.Meaning.{type_tree, member_tree};
-ghost use Rattle.csub_semantics.specs.Types.{name_eq};
 ghost use Rattle.csub_semantics.specs.Trees.{arg_tree};
 ghost use Rattle.csub_semantics.specs.Labels.{call_tree};
 ghost use Rattle.csub_semantics.specs.Syntax.{part_tree, function_tree};
@@ -132,7 +131,7 @@ pub fn find_function<'a>(functions: &'a [Function], name: &[u8]) -> Option<&'a F
 
 /// Whether a function has a name.
 pub fn is_named(function: &Function, name: &[u8]) -> bool
-    ensures test { result ≡ name_eq function.now.name name.now }
+    ensures test { result ≡ bytes_eq function.now.name name.now }
     ensures same { IsTrue result ↔ (function.now.name ≡ name.now) }
 {
     function.name.bytes() == name

@@ -3,8 +3,8 @@ ghost use Rattle.std.specs.Prelude.{◌≡◌, ◌↔◌, All, IsTrue, map};
 ghost use Rattle.csub_types.specs.Kinds.{IsOf, promote, common};
 ghost use Rattle.csub_semantics.specs.Trees.{place_tree, expr_tree, temporary};
 ghost use Rattle.csub_semantics.specs.Syntax.{part_tree};
-ghost use Rattle.csub_types.specs.Arithmetic.{unary_kind, binary_kind};
-ghost use Rattle.csub_validity.specs.Valid.{IsExpr, IsPlace, IsVariable, result_of, stage_result, place_kind, kind_of, operation_kind};
+ghost use Rattle.csub_types.specs.Arithmetic.{unary_kind, binary_kind, operation_kind};
+ghost use Rattle.csub_validity.specs.Valid.{IsExpr, IsPlace, IsVariable, result_of, stage_result, place_kind, kind_of};
 ghost use Rattle.std.specs.Option.{option_map};
 ghost use Rattle.csub_semantics.specs.Labels.{label_tree};
 ghost use Rattle.csub_validity.specs.Checks.{scope_at, own_result};
@@ -14,8 +14,8 @@ use crate::objects::is_object;
 use crate::places::{is_number_place, place_kind};
 use crate::role::Site;
 use csub_semantics::{Label, Place, RExpr, RPart};
-use csub_text::{BinOp, UnaryOp};
-use csub_types::{IntKind, common, convert, promote};
+use csub_text::BinOp;
+use csub_types::{IntKind, binary_kind, common, convert, operation_kind, promote, unary_kind};
 
 /// Whether an expression at a stage of a part is valid: every constant is a number of its kind, every operation has the
 /// kind that its operator and operands state (C11 6.5.3.3, 6.5.5 to 6.5.15 and 6.5.16.2p3), every name is that of an
@@ -129,41 +129,6 @@ pub fn kind_of(expr: &RExpr) -> IntKind
         RExpr::Choose(kind, _, _, _) => *kind,
         RExpr::Assign(place, _) => place_kind(place),
         RExpr::Update(place, _, _, _) => place_kind(place),
-    }
-}
-
-/// The kind of a unary operator's result (C11 6.5.3.3p5 for `!`).
-fn unary_kind(op: UnaryOp, kind: IntKind) -> IntKind
-    ensures { result ≡ unary_kind op kind }
-{
-    match op {
-        UnaryOp::Not => IntKind::Int,
-        UnaryOp::Plus | UnaryOp::Minus | UnaryOp::Flip => kind,
-    }
-}
-
-/// The kind of a binary operator's result (C11 6.5.8 and 6.5.9 for comparisons).
-fn binary_kind(op: BinOp, kind: IntKind) -> IntKind
-    ensures { result ≡ binary_kind op kind }
-{
-    match op {
-        BinOp::Lt | BinOp::Gt | BinOp::Le | BinOp::Ge | BinOp::Eq | BinOp::Ne => IntKind::Int,
-        BinOp::Mul | BinOp::Div | BinOp::Rem | BinOp::Add | BinOp::Sub => kind,
-        BinOp::Shl | BinOp::Shr | BinOp::BitAnd | BinOp::BitXor | BinOp::BitOr => kind,
-    }
-}
-
-/// The kind of an operation on operands of two kinds (C11 6.5.7 for shifts).
-fn operation_kind(op: BinOp, left: IntKind, right: IntKind) -> IntKind
-    ensures { result ≡ operation_kind op left right }
-{
-    match op {
-        BinOp::Shl | BinOp::Shr => promote(left),
-        BinOp::Mul | BinOp::Div | BinOp::Rem | BinOp::Add | BinOp::Sub => common(left, right),
-        BinOp::Lt | BinOp::Gt | BinOp::Le | BinOp::Ge => common(left, right),
-        BinOp::Eq | BinOp::Ne | BinOp::BitAnd | BinOp::BitXor | BinOp::BitOr => {
-            common(left, right)
-        }
     }
 }
 

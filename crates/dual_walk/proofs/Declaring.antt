@@ -1,5 +1,5 @@
 -- In a valid program each name in a label stands with the type of its declaration, and each tag with the members of its own.
-use Rattle.std.proofs.Common.{ℕ, suc, ◌≡◌, ◌<◌, ◌+◌, List, [], ◌∷◌, ◌++◌, ◌∙◌, map, Bool, true, false, cond, ◌&&◌, nat_eq, All, AllPairs, Option, Some, None, find, option_map, refl, sym, ap, subst, arith}
+use Rattle.std.proofs.Common.{ℕ, suc, ◌≡◌, ◌<◌, ◌+◌, List, [], ◌∷◌, ◌++◌, ◌∙◌, map, Bool, true, false, cond, ◌&&◌, nat_eq, All, AllPairs, Option, Some, None, find, option_map, refl, sym, ap, subst, arith, bytes_eq}
 use Rattle.std.specs.List.{flat_map}
 use Rattle.std.specs.Option.{option_and_then}
 use Rattle.std.proofs.lemmas.Bool.{eqb-true, and_parts}
@@ -7,7 +7,7 @@ use Rattle.std.proofs.lemmas.List.Elements.{All-nil, All-cons, All-head, All-tai
 use Rattle.std.proofs.lemmas.Option.{slice_get_within, slice_get-get_or, get_or_from_slice_get}
 use Rattle.csub_types.specs.declared.kind.IntKind.{IntKind}
 use Rattle.csub_objects.specs.Types.{Name, TypeTree, MemberTree, members_of}
-use Rattle.csub_semantics.specs.Types.{name_eq, global_tree}
+use Rattle.csub_semantics.specs.Types.{global_tree}
 use Rattle.csub_semantics.specs.Trees.{OwnerTree, global_owner, local_owner, Variable, object, temporary, NamedPlace, variable, element_place, member_place, NamedExpr, constant, reading, unary_operation, conversion, stepping, operation, conjunction, disjunction, choice, assignment, update, input_byte, output_byte, formatted, NamedExprs, no_expr, more_exprs, NamedArg, value_argument, array_argument}
 use Rattle.csub_semantics.specs.Labels.{LabelTree, evaluates, initialises, branches, switches, returns, halts, calls, PointLabel, CallTree, AnswerTree, InitTree, one_value, listed, InitTrees, no_init, more_inits}
 use Rattle.csub_semantics.specs.Points.{PointTree}
@@ -48,7 +48,7 @@ module _ {X : Type 0} (R : X → X → Type 0) (x : X) (xs : List X) where
 
 -- whether an object has a name and a number
 abbrev is_named : Name → ℕ → LocalTree → Bool
-is_named a n o = name_eq o.name a && nat_eq o.number n
+is_named a n o = bytes_eq o.name a && nat_eq o.number n
 
 -- an object that differs from all of a list has no type there
 not_among : (o : LocalTree) (os : List LocalTree) (a : Name) (n : ℕ) (t : TypeTree) → All (AreOther o) os → is_named a n o ≡ true → type_in os a n ≡ Some t → ⊥
@@ -57,8 +57,8 @@ not_among o (v ∷ os) a n t others is e = pick (is_named a n v) refl e (not_amo
   where
     pick : (b : Bool) → is_named a n v ≡ b → option_map (λ (u : LocalTree). u.ctype) (cond b (Some v) (find (is_named a n) os)) ≡ Some t → (type_in os a n ≡ Some t → ⊥) → ⊥
     pick true same e later =
-        let mine = and_parts (name_eq o.name a) (nat_eq o.number n) is in
-        let other = and_parts (name_eq v.name a) (nat_eq v.number n) same in
+        let mine = and_parts (bytes_eq o.name a) (nat_eq o.number n) is in
+        let other = and_parts (bytes_eq v.name a) (nat_eq v.number n) same in
         All-head (AreOther o) v os others (same_name o.name a mine.0 ∙ sym (same_name v.name a other.0)) (eqb-true o.number n mine.1 ∙ sym (eqb-true v.number n other.1))
     pick false same e later = later e
 
@@ -207,7 +207,7 @@ module _ (P : ProgramTree) (valid : IsValid P) (k : ℕ) (b : Name) (f : Functio
 -- no two objects of a function of a valid program have one name and one number
 objects_differ : (P : ProgramTree) → IsValid P → (a : Name) (f : FunctionTree) → function_of P a ≡ Some f → AllPairs AreOther (objects_of f)
 objects_differ P valid a f e =
-    let at = found_at (λ (g : FunctionTree). name_eq g.name a) P.functions f e in
+    let at = found_at (λ (g : FunctionTree). bytes_eq g.name a) P.functions f e in
     subst (λ (g : FunctionTree). AllPairs AreOther (objects_of g)) (get_or_from_slice_get P.functions at.0 f f at.1) (valid.objects at.0 f (slice_get_within P.functions at.0 f at.1))
 
 -- the objects of the function with a number

@@ -1,10 +1,9 @@
 -- What the numbers of a valid program stand for: its points, its ways out, its functions and its labels.
-use Rattle.std.proofs.Common.{◌≡◌, ℕ, zero, suc, ◌+◌, ◌<◌, ◌≤◌, List, [], ◌∷◌, length, get_or, Bool, true, false, cond, Option, Some, None, find, option_map, refl, sym, ap, ◌∙◌, subst, subst₂, arith}
+use Rattle.std.proofs.Common.{◌≡◌, ℕ, zero, suc, ◌+◌, ◌<◌, ◌≤◌, List, [], ◌∷◌, length, get_or, Bool, true, false, cond, Option, Some, None, find, option_map, refl, sym, ap, ◌∙◌, subst, subst₂, arith, bytes_eq}
 use Rattle.std.specs.Prelude.{◌↔◌, slice_get}
 use Rattle.std.specs.List.{flat_map}
 use Rattle.std.proofs.lemmas.Option.{slice_get-get_or, slice_get-map, same_Some}
 use Rattle.csub_objects.specs.Types.{Name}
-use Rattle.csub_semantics.specs.Types.{name_eq}
 use Rattle.csub_semantics.specs.Labels.{CallTree, call_of, PointLabel}
 use Rattle.csub_semantics.specs.Points.{PointTree, entry, ExitTree, exit_eq}
 use Rattle.csub_semantics.specs.Syntax.{FunctionTree, ProgramTree}
@@ -103,7 +102,7 @@ pub callee_defined : (P : ProgramTree) → IsFlow (flow_of P) → (f : Name) (p 
 callee_defined P ok f p l k e is = defined_by P k.callee entry_label (ok.called f p l k e is)
 
 pub defined_name : (P : ProgramTree) (g : Name) (d : Defines P g) → d.function.name ≡ g
-defined_name P g d = same_name d.function.name g (found_at (λ (f : FunctionTree). name_eq f.name g) P.functions d.function d.is).2
+defined_name P g d = same_name d.function.name g (found_at (λ (f : FunctionTree). bytes_eq f.name g) P.functions d.function d.is).2
 
 -- no point is led to
 pub leads_none : (P : ProgramTree) (f : Name) (o : Option PointTree) → None ≡ option_map (site f) o → (q : PointTree) → o ≡ Some q → ⊥

@@ -1,11 +1,11 @@
 -- In a valid program each struct in the type of an object has the members of the first struct with its tag.
-use Rattle.std.proofs.Common.{ℕ, zero, suc, ◌≡◌, ◌<◌, List, [], ◌∷◌, ◌++◌, ◌∙◌, length, get_or, map, Bool, true, false, cond, All, Option, Some, None, find, option_map, refl, sym, ap, subst, arith, true≢false}
+use Rattle.std.proofs.Common.{ℕ, zero, suc, ◌≡◌, ◌<◌, List, [], ◌∷◌, ◌++◌, ◌∙◌, length, get_or, map, Bool, true, false, cond, All, Option, Some, None, find, option_map, refl, sym, ap, subst, arith, true≢false, bytes_eq}
 use Rattle.std.specs.List.{flat_map}
 use Rattle.std.proofs.lemmas.List.Elements.{All-nil, All-cons, All-head, All-tail}
 use Rattle.std.proofs.lemmas.Option.{slice_get_within, get_or_from_slice_get}
 use Rattle.std.proofs.lemmas.Slice.Eq.{bytes_eq-Decides}
 use Rattle.csub_objects.specs.Types.{Name, TypeTree, number_type, array_type, struct_type, loose_type, MemberTree, MemberTrees, no_member, more_members, members_of}
-use Rattle.csub_semantics.specs.Types.{GlobalTree, name_eq}
+use Rattle.csub_semantics.specs.Types.{GlobalTree}
 use Rattle.csub_semantics.specs.Globals.{global_of}
 use Rattle.csub_semantics.specs.Flows.{function_of}
 use Rattle.csub_semantics.specs.Syntax.{LocalTree, FunctionTree, ProgramTree}
@@ -54,7 +54,7 @@ behind f (Some x) y e = (x, refl, cc)
 
 -- the members of the first struct with a tag
 abbrev pub first_members : List StructTree → Tags
-first_members structs tag = option_map (λ (s : StructTree). s.members) (find (λ (s : StructTree). name_eq s.tag tag) structs)
+first_members structs tag = option_map (λ (s : StructTree). s.members) (find (λ (s : StructTree). bytes_eq s.tag tag) structs)
 
 -- the members that a program declares tags with
 abbrev pub declared_members : ProgramTree → Tags
@@ -67,7 +67,7 @@ HasFirst structs s = first_members structs s.tag ≡ Some s.members
 all_first : (structs : List StructTree) → AgreeOnTags structs → All (HasFirst structs) structs
 all_first structs agree k d below =
     let s = get_or structs k d in
-    let test : StructTree → Bool = λ t. name_eq t.tag s.tag in
+    let test : StructTree → Bool = λ t. bytes_eq t.tag s.tag in
     let first = passes test structs k d below ((bytes_eq-Decides s.tag s.tag).1 refl) in
     let agrees : All (AgreeOn first.0) structs = all_found (λ a. All (AgreeOn a) structs) test structs first.0 agree first.1 in
     ap (option_map (λ (t : StructTree). t.members)) first.1 ∙ ap Some (agrees k d below (same_name first.0.tag s.tag first.2))
@@ -114,7 +114,7 @@ module _ (P : ProgramTree) (valid : IsValid P) where
   pub global_tagged : (a : Name) (t : TypeTree) → global_type P.globals a ≡ Some t → IsTagged by_tag t
   global_tagged a t e =
       let found = behind (λ (g : GlobalTree). g.ctype) (global_of P.globals a) t e in
-      subst (IsTagged by_tag) found.2 (all_found (λ (g : GlobalTree). IsTagged by_tag g.ctype) (λ (g : GlobalTree). name_eq g.name a) P.globals found.0 globals_tagged found.1)
+      subst (IsTagged by_tag) found.2 (all_found (λ (g : GlobalTree). IsTagged by_tag g.ctype) (λ (g : GlobalTree). bytes_eq g.name a) P.globals found.0 globals_tagged found.1)
 
   -- those of the objects of a function
   objects_tagged : (a : Name) (f : FunctionTree) → function_of P a ≡ Some f → All (λ (o : LocalTree). IsTagged by_tag o.ctype) (objects_of f)
@@ -123,7 +123,7 @@ module _ (P : ProgramTree) (valid : IsValid P) where
       let kinds = map (λ (g : GlobalTree). g.ctype) P.globals in
       let all = all_parts (IsTagged by_tag) types P.functions (all_right (IsTagged by_tag) kinds (flat_map types P.functions) types_tagged) in
       (All-of_map (IsTagged by_tag) (λ (o : LocalTree). o.ctype) (objects_of f)).0
-      (all_found (λ (f : FunctionTree). All (IsTagged by_tag) (types f)) (λ (f : FunctionTree). name_eq f.name a) P.functions f all e)
+      (all_found (λ (f : FunctionTree). All (IsTagged by_tag) (types f)) (λ (f : FunctionTree). bytes_eq f.name a) P.functions f all e)
 
   pub object_tagged : (b : Name) (f : FunctionTree) → function_of P b ≡ Some f → (a : Name) (n : ℕ) (t : TypeTree) → type_in (objects_of f) a n ≡ Some t → IsTagged by_tag t
   object_tagged b f is a n t e =

@@ -1,12 +1,12 @@
 -- Numbers of globals by their names.
-use Rattle.std.proofs.Common.{◌≡◌, ℕ, List, [], ◌∷◌, ◌++◌, Bool, true, false, cond, Option, Some, None, Bor, is_some, refl, sym, subst, subst₂}
+use Rattle.std.proofs.Common.{◌≡◌, ℕ, List, [], ◌∷◌, ◌++◌, Bool, true, false, cond, Option, Some, None, Bor, is_some, refl, sym, subst, subst₂, bytes_eq}
 use Rattle.std.specs.Option.{option_or}
 use Rattle.std.specs.Str.{bytes_eq}
 use Rattle.std.specs.Map.{lookup}
 use Rattle.std.proofs.lemmas.List.Folds.{find-append}
 use Rattle.std.proofs.lemmas.Slice.Eq.{bytes_eq-Decides}
 use Rattle.csub_objects.specs.Types.{Name}
-use Rattle.csub_semantics.specs.Types.{name_eq, GlobalTree}
+use Rattle.csub_semantics.specs.Types.{GlobalTree}
 use Rattle.csub_semantics.specs.Globals.{global_of, globals_of, found_first}
 use Rattle.edge_label.specs.Indices.{Agree}
 use Rattle.edge_label.specs.Tables.{Extend, IsGlobalNumber, AppendsGlobals}
@@ -46,24 +46,24 @@ module _ {A B : Type 0} (R : A → B → Type 0) where
 abbrev pub Tells : Tables → (Name → Option ℕ) → List GlobalTree → Type 0
 Tells tables numbers globals = (name : Name) → Agree (IsGlobalNumber tables) (numbers name) (global_of globals name)
 
-one_more : (before : List GlobalTree) (g : GlobalTree) (name : Name) → global_of (before ++ g ∷ []) name ≡ option_or (global_of before name) (cond (name_eq g.name name) (Some g) None)
-one_more before g name = find-append (λ (h : GlobalTree). name_eq h.name name) before (g ∷ [])
+one_more : (before : List GlobalTree) (g : GlobalTree) (name : Name) → global_of (before ++ g ∷ []) name ≡ option_or (global_of before name) (cond (bytes_eq g.name name) (Some g) None)
+one_more before g name = find-append (λ (h : GlobalTree). bytes_eq h.name name) before (g ∷ [])
 
 module _ (before : List GlobalTree) (g : GlobalTree) where
   -- a name that has a number keeps it
   pub first_stays : (tables : Tables) (numbers : Name → Option ℕ) → Tells tables numbers before → is_some (numbers g.name) ≡ true → Tells tables numbers (before ++ g ∷ [])
   first_stays tables numbers tells has name =
       subst (Agree (IsGlobalNumber tables) (numbers name)) (sym (one_more before g name))
-      (stays (IsGlobalNumber tables) (name_eq g.name name) (numbers name) (global_of before name) g
+      (stays (IsGlobalNumber tables) (bytes_eq g.name name) (numbers name) (global_of before name) g
       (λ same. subst (λ n. is_some (numbers n) ≡ true) ((bytes_eq-Decides g.name name).0 same) has) (tells name))
 
   -- a name that has none gets this one
   pub first_added : (tables new : Tables) (number : ℕ) (numbers more : Name → Option ℕ) → Extend tables new → IsGlobalNumber new number g
       → Tells tables numbers before → is_some (numbers g.name) ≡ false
-      → ((name : Name) → more name ≡ cond (name_eq g.name name) (Some number) (numbers name)) → Tells new more (before ++ g ∷ [])
+      → ((name : Name) → more name ≡ cond (bytes_eq g.name name) (Some number) (numbers name)) → Tells new more (before ++ g ∷ [])
   first_added tables new number numbers more grown has tells lacks puts name =
       subst₂ (Agree (IsGlobalNumber new)) (sym (puts name)) (sym (one_more before g name))
-      (added (IsGlobalNumber new) (name_eq g.name name) number (numbers name) (global_of before name) g
+      (added (IsGlobalNumber new) (bytes_eq g.name name) number (numbers name) (global_of before name) g
       (λ same. subst (λ n. is_some (numbers n) ≡ false) ((bytes_eq-Decides g.name name).0 same) lacks) has
       (weaker (IsGlobalNumber tables) (IsGlobalNumber new) (IsGlobalNumber-extends tables new grown) (numbers name) (global_of before name) (tells name)))
 

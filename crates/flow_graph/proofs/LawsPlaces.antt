@@ -1,5 +1,5 @@
 -- Where the points of a program stand: each at one number, at which it is found by its function's name and its place.
-use Rattle.std.proofs.Common.{◌≡◌, Bool, true, false, cond, List, [], ◌∷◌, ◌∙◌, zero, suc, arith, map, length, refl, ap, sym, ℕ, ◌+◌, ◌⊎◌, inl, inr, get_or, Some, ⊎_elim}
+use Rattle.std.proofs.Common.{◌≡◌, Bool, true, false, cond, List, [], ◌∷◌, ◌∙◌, zero, suc, arith, map, length, refl, ap, sym, ℕ, ◌+◌, ◌⊎◌, inl, inr, get_or, Some, ⊎_elim, bytes_eq}
 use Rattle.std.specs.Prelude.{◌≢◌, AllPairs}
 use Rattle.std.specs.List.{slice_get, range_with_len}
 use Rattle.std.proofs.lemmas.List.{length-map}
@@ -7,7 +7,6 @@ use Rattle.std.proofs.lemmas.Option.{slice_get-map, slice_get_within, same_Some,
 use Rattle.csub_semantics.specs.Points.{PointTree, point_eq}
 use Rattle.csub_semantics.specs.Syntax.{FunctionTree, ProgramTree}
 use Rattle.csub_semantics.specs.Successors.{Node}
-use Rattle.csub_semantics.specs.Types.{name_eq}
 use Rattle.csub_semantics.specs.Flows.{function_nodes, PlacedNode, placed, points_of, point_list, edge_list, function_in, node_in, node_of}
 use Rattle.csub_semantics.specs.Numbers.{Site, site_of, site_at}
 use Rattle.csub_core.specs.Valid.{IsValid}
@@ -67,12 +66,12 @@ pub function_found : (fs : List FunctionTree) (k : ℕ) (f : FunctionTree) → A
 function_found [] k f d e = absurd cc
 function_found (g ∷ rest) zero f d e =
     let same = same_Some g f e in
-    ap (λ b. cond b (Some g) (function_in rest f.name)) (ap (λ x. name_eq x.name f.name) same ∙ name_itself f.name) ∙ e
+    ap (λ b. cond b (Some g) (function_in rest f.name)) (ap (λ x. bytes_eq x.name f.name) same ∙ name_itself f.name) ∙ e
 function_found (g ∷ rest) (suc k) f d e =
     let within = slice_get_within rest k f e in
     let is : get_or rest k f ≡ f = same_Some _ _ (sym (slice_get-get_or rest k f within) ∙ e) in
     let differ = d 0 (suc k) f (omega arith) (omega arith) in
-    let other = fails (name_eq g.name f.name) (λ t. same_name g.name f.name t) (λ same. differ (same ∙ ap (λ (x : FunctionTree). x.name) (sym is))) in
+    let other = fails (bytes_eq g.name f.name) (λ t. same_name g.name f.name t) (λ same. differ (same ∙ ap (λ (x : FunctionTree). x.name) (sym is))) in
     let later = function_found rest k f (λ i j x a b. d (suc i) (suc j) x (omega arith) (omega arith)) e in
     ap (λ b. cond b (Some g) (function_in rest f.name)) other ∙ later
 

@@ -1,5 +1,5 @@
 -- What stands in a graph at a number.
-use Rattle.std.proofs.Common.{◌≡◌, Bool, true, false, cond, List, [], ◌∷◌, ◌∙◌, zero, suc, arith, map, refl, ap, sym, subst, ℕ, ◌+◌, ◌-◌, ◌<◌, ◌≤◌, length, get_or, Option, Some, None}
+use Rattle.std.proofs.Common.{◌≡◌, Bool, true, false, cond, List, [], ◌∷◌, ◌∙◌, zero, suc, arith, map, refl, ap, sym, subst, ℕ, ◌+◌, ◌-◌, ◌<◌, ◌≤◌, length, get_or, Option, Some, None, bytes_eq}
 use Rattle.std.specs.List.{slice_get, find, sum_by}
 use Rattle.std.specs.Option.{option_map, option_and_then}
 use Rattle.std.proofs.lemmas.List.{length-map}
@@ -8,7 +8,6 @@ use Rattle.std.proofs.lemmas.Simd.{map-map}
 use Rattle.std.proofs.lemmas.Option.{slice_get-map, slice_get_within, same_Some, slice_get-get_or}
 use Rattle.csub_semantics.specs.declared.types.GlobalVar.{GlobalVar}
 use Rattle.csub_objects.specs.Types.{Name}
-use Rattle.csub_semantics.specs.Types.{name_eq}
 use Rattle.csub_semantics.specs.Globals.{named_globals}
 use Rattle.csub_semantics.specs.Labels.{label_tree}
 use Rattle.csub_semantics.specs.Points.{PointTree, entry, exit, point_tree, ExitTree, exit_tree, exit_eq}
@@ -173,13 +172,13 @@ module _ (P : ProgramTree) (t : Tables) (g : IsGraphOf t P) where
   named (Some n) =
       sym (slice_get-map (λ (f : FunctionTree). f.name) P.functions n) ∙ sym (ap (λ l. slice_get l n) names_same) ∙ slice_get-map (λ (f : GraphFunction). f.name) t.0 n
 
-  pub find_looked : (o : Option ℕ) (name : Name) → option_and_then (slice_get t.0) o ≡ find (λ f. name_eq f.name name) t.0 → option_and_then (name_at P) o ≡ option_map (λ g. g.name) (flows.function_of P name)
+  pub find_looked : (o : Option ℕ) (name : Name) → option_and_then (slice_get t.0) o ≡ find (λ f. bytes_eq f.name name) t.0 → option_and_then (name_at P) o ≡ option_map (λ g. g.name) (flows.function_of P name)
   find_looked o name e =
       named o
       ∙ ap (option_map (λ (f : GraphFunction). f.name)) e
-      ∙ sym (find-map (λ (f : GraphFunction). f.name) (λ n. name_eq n name) t.0)
-      ∙ ap (find (λ n. name_eq n name)) names_same
-      ∙ find-map (λ (f : FunctionTree). f.name) (λ n. name_eq n name) P.functions
+      ∙ sym (find-map (λ (f : GraphFunction). f.name) (λ n. bytes_eq n name) t.0)
+      ∙ ap (find (λ n. bytes_eq n name)) names_same
+      ∙ find-map (λ (f : FunctionTree). f.name) (λ n. bytes_eq n name) P.functions
 
   -- edges
   counts_same : map way_count t.1 ≡ map (λ m. length m.node.ways) (point_list P)

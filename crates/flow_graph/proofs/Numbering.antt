@@ -1,10 +1,9 @@
 -- The points by numbers are the points by places: where each number of a list of points is told to be its point, each
 -- way out leads by number to the point to which it leads by name.
-use Rattle.std.proofs.Common.{◌≡◌, List, [], ◌∷◌, ◌++◌, ◌∙◌, arith, map, refl, ap, sym, subst, ℕ, ℤ, ◌+◌, length, Bool, true, false, Option, Some, None, append_assoc, append-nil, if◌then◌else◌}
+use Rattle.std.proofs.Common.{◌≡◌, List, [], ◌∷◌, ◌++◌, ◌∙◌, arith, map, refl, ap, sym, subst, ℕ, ℤ, ◌+◌, length, Bool, true, false, Option, Some, None, append_assoc, append-nil, if◌then◌else◌, bytes_eq}
 use Rattle.std.proofs.lemmas.List.{map-append}
 use Rattle.csub_objects.specs.Types.{Name}
 use Rattle.csub_semantics.specs.Labels.{LabelTree, enters, exits, returns, halts}
-use Rattle.csub_semantics.specs.Types.{name_eq}
 use Rattle.csub_semantics.specs.Points.{PointTree, entry, exit, at, next, on_true, on_false, on_case, on_default}
 use Rattle.csub_semantics.specs.Syntax.{Stage, PartTree, StmtTree, StmtTrees, ElseTree, parts, block, conditional, while_loop, do_loop, for_loop, switch_on, case_label, default_label, breaks, continues, goes_to, marked, no_stmt, more_stmts, no_else, else_stmt, FunctionTree}
 use Rattle.csub_semantics.specs.Successors as points
@@ -17,7 +16,7 @@ use Rattle.flow_graph.proofs.Lengths.{part_nodes-length, parts_nodes-length, nod
 
 target-append : {X : Type 0} (ks ls : List (Mark X)) (other : X) (n : Name) → target (ks ++ ls) other n ≡ target ks (target ls other n) n
 target-append [] ls other n = refl
-target-append (k ∷ ks) ls other n = ap (λ x. if name_eq k.name n then k.to else x) (target-append ks ls other n)
+target-append (k ∷ ks) ls other n = ap (λ x. if bytes_eq k.name n then k.to else x) (target-append ks ls other n)
 
 module _ (at_number : ℕ → Option Site) (f : Name) where
   -- a point with what its numbers are
@@ -134,7 +133,7 @@ module _ (at_number : ℕ → Option Site) (f : Name) where
   chosen false x y x' y' e g = g
 
   one_leads : (n : Name) (to : ℕ) (to' : PointTree) (ks : List (Mark ℕ)) (ls : List (Mark PointTree)) → at_number to ≡ Some (site f to') → Lead ks ls → Lead (record { name = n; to = to } ∷ ks) (record { name = n; to = to' } ∷ ls)
-  one_leads n to to' ks ls e lead = λ a other other' g. chosen (name_eq n a) to (target ks other a) to' (target ls other' a) e (lead a other other' g)
+  one_leads n to to' ks ls e lead = λ a other other' g. chosen (bytes_eq n a) to (target ks other a) to' (target ls other' a) e (lead a other other' g)
 
   both_lead : (ks ks' : List (Mark ℕ)) (ls ls' : List (Mark PointTree)) → Lead ks ls → Lead ks' ls' → Lead (ks ++ ks') (ls ++ ls')
   both_lead ks ks' ls ls' lead lead' =

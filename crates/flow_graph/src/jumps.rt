@@ -1,7 +1,6 @@
 //! Where each `goto` of a function leads, by a table of its labels.
-ghost use Rattle.std.specs.Prelude.{◌≡◌, ◌≤◌, ◌-◌, IfOk, OnOk, map, reverse, Some, if◌then◌else◌};
+ghost use Rattle.std.specs.Prelude.{◌≡◌, ◌≤◌, ◌-◌, IfOk, OnOk, map, reverse, Some, if◌then◌else◌, bytes_eq};
 ghost use Rattle.csub_objects.specs.Types.{Name};
-ghost use Rattle.csub_semantics.specs.Types.{name_eq};
 ghost use Rattle.csub_semantics.specs.Syntax.{stmt_tree, stmts_of};
 ghost use Rattle.csub_semantics.specs.Successors.{target};
 ghost use Rattle.flow_graph.specs.Numbers.{all_to as all_to', count_list, marks_list, numbered_mark};
@@ -38,7 +37,7 @@ fn put(
     table: &mut IndexMap<Vec<u8>, u32>,
     labelled: &Labelled,
 ) -> Result<(), AllocError>
-    ensures { OnOk result ((name : Name) → entry_of table.new name ≡ (if name_eq labelled.now.name name then Some labelled.now.to else entry_of table.old name)) }
+    ensures { OnOk result ((name : Name) → entry_of table.new name ≡ (if bytes_eq labelled.now.name name then Some labelled.now.to else entry_of table.old name)) }
 {
     let key = labelled.name.bytes().to_vec(alloc)?;
     table.insert(key, labelled.to)?;

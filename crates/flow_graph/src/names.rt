@@ -1,7 +1,6 @@
 //! A table of the functions, by which one is found by its name without a look at the others.
-ghost use Rattle.std.specs.Prelude.{◌≡◌, IfOk, OnOk, Some, if◌then◌else◌};
+ghost use Rattle.std.specs.Prelude.{◌≡◌, IfOk, OnOk, Some, if◌then◌else◌, bytes_eq};
 ghost use Rattle.csub_objects.specs.Types.{Name};
-ghost use Rattle.csub_semantics.specs.Types.{name_eq};
 ghost use Rattle.flow_graph.specs.Names.{number_of, AreNamed};
 
 use crate::node::{GraphFunction, step};
@@ -11,7 +10,7 @@ use std::collections::BTreeMap;
 
 /// Enters the number of a function under its name, in the place of one that is there. An `Err` is want of memory.
 fn put_name(names: &mut BTreeMap<Text, u32>, name: &Text, number: u32) -> Result<(), AllocError>
-    ensures { OnOk result ((a : Name) → number_of names.new a ≡ (if name_eq name.now a then Some number else number_of names.old a)) }
+    ensures { OnOk result ((a : Name) → number_of names.new a ≡ (if bytes_eq name.now a then Some number else number_of names.old a)) }
 {
     names.insert(name.copy()?, number)?;
     Ok(())

@@ -1,11 +1,11 @@
 -- A valid program has what lockstep asks of it.
-use Rattle.std.proofs.Common.{◌≡◌, ◌⊎◌, inl, inr, ℤ, List, [], ◌∷◌, true, Option, Some, None, IsTrue, option_map, All, refl, sym, ap, ◌∙◌, subst}
+use Rattle.std.proofs.Common.{◌≡◌, ◌⊎◌, inl, inr, ℤ, List, [], ◌∷◌, true, Option, Some, None, IsTrue, option_map, All, refl, sym, ap, ◌∙◌, subst, bytes_eq}
 use Rattle.std.specs.List.{list_any}
 use Rattle.std.specs.Ordering.{int_eq}
 use Rattle.std.proofs.lemmas.List.Elements.{All-nil, All-cons}
 use Rattle.csub_semantics.specs.declared.label.EndRule.{EndRule}
 use Rattle.csub_objects.specs.Types.{Name}
-use Rattle.csub_semantics.specs.Types.{name_eq, GlobalTree}
+use Rattle.csub_semantics.specs.Types.{GlobalTree}
 use Rattle.csub_semantics.specs.Globals.{global_of, globals_of, found_first, ordered, label_names}
 use Rattle.csub_semantics.specs.Labels.{exits, CallTree, call_of, PointLabel}
 use Rattle.csub_semantics.specs.Syntax.{FunctionTree, ProgramTree}
@@ -28,7 +28,7 @@ IsNamed globals g = global_of globals g.name ≡ Some g
 
 -- what is found by a name is the global of that name
 found_named : (globals : List GlobalTree) (a : Name) (g : GlobalTree) → global_of globals a ≡ Some g → IsNamed globals g
-found_named globals a g e = subst (λ n. global_of globals n ≡ Some g) (sym (same_name g.name a (passes_found (λ (h : GlobalTree). name_eq h.name a) globals g e))) e
+found_named globals a g e = subst (λ n. global_of globals n ≡ Some g) (sym (same_name g.name a (passes_found (λ (h : GlobalTree). bytes_eq h.name a) globals g e))) e
 
 named_are : (globals : List GlobalTree) (names : List Name) → All (IsNamed globals) (globals_of globals names)
 named_are globals [] = All-nil (IsNamed globals)

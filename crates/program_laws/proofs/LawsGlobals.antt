@@ -1,5 +1,5 @@
 -- A label has each global that its tree names, where the program declares it; and equal declarations.
-use Rattle.std.proofs.Common.{◌≡◌, ◌⊎◌, inl, inr, List, [], ◌∷◌, ◌++◌, Bool, true, false, ◌||◌, Option, Some, None, IsTrue, refl, ap, sym, subst, ◌∙◌}
+use Rattle.std.proofs.Common.{◌≡◌, ◌⊎◌, inl, inr, List, [], ◌∷◌, ◌++◌, Bool, true, false, ◌||◌, Option, Some, None, IsTrue, refl, ap, sym, subst, ◌∙◌, bytes_eq}
 use Rattle.std.specs.List.{list_any}
 use Rattle.std.specs.declared.cmp.Ordering.{Ordering}
 use Rattle.std.specs.declared.cmp.Ordering.TheVariants.{Less, Equal, Greater}
@@ -9,7 +9,7 @@ use Rattle.std.specs.FinMap.{nat_cmp-IsAntisymmetric, slice_cmp-IsAntisymmetric}
 use Rattle.std.specs.BTreeSet.{insert_key}
 use Rattle.csub_objects.specs.Types.{Name, TypeTree, type_eq}
 use Rattle.csub_objects.proofs.LawsTypes.{type_eq-Decides}
-use Rattle.csub_semantics.specs.Types.{name_eq, GlobalTree}
+use Rattle.csub_semantics.specs.Types.{GlobalTree}
 use Rattle.csub_semantics.specs.Labels.{LabelTree}
 use Rattle.csub_semantics.specs.Globals.{ordered, global_of, found_first, globals_of, label_names, named_globals}
 use Rattle.program_laws.proofs.Lists.{passes_found}
@@ -62,12 +62,12 @@ ordered_all (b ∷ names) before a (inr h) = ordered_all names (insert_key order
 
 -- the global of a name is listed
 abbrev Listed : List GlobalTree → Name → Type 0
-Listed gs a = IsTrue (list_any (λ (g : GlobalTree). name_eq g.name a) gs)
+Listed gs a = IsTrue (list_any (λ (g : GlobalTree). bytes_eq g.name a) gs)
 
 listed_later : (g : GlobalTree) (gs : List GlobalTree) (a : Name) → Listed gs a → Listed (g ∷ gs) a
-listed_later g gs a h = pick (name_eq g.name a) h
+listed_later g gs a h = pick (bytes_eq g.name a) h
   where
-    pick : (b : Bool) → Listed gs a → IsTrue (b || list_any (λ (g : GlobalTree). name_eq g.name a) gs)
+    pick : (b : Bool) → Listed gs a → IsTrue (b || list_any (λ (g : GlobalTree). bytes_eq g.name a) gs)
     pick true h = refl
     pick false h = h
 
@@ -75,8 +75,8 @@ found_is_listed : (globals : List GlobalTree) (names : List Name) (a : Name) (g 
 found_is_listed globals [] a g e h = absurd h
 found_is_listed globals (b ∷ names) a g e (inl same) =
     let here : global_of globals b ≡ Some g = ap (global_of globals) same ∙ e in
-    let name = passes_found (λ (h : GlobalTree). name_eq h.name a) globals g e in
-    subst (λ o. Listed (found_first o (globals_of globals names)) a) (sym here) (ap (λ t. t || list_any (λ (h : GlobalTree). name_eq h.name a) (globals_of globals names)) name)
+    let name = passes_found (λ (h : GlobalTree). bytes_eq h.name a) globals g e in
+    subst (λ o. Listed (found_first o (globals_of globals names)) a) (sym here) (ap (λ t. t || list_any (λ (h : GlobalTree). bytes_eq h.name a) (globals_of globals names)) name)
 found_is_listed globals (b ∷ names) a g e (inr h) = pick (global_of globals b) (found_is_listed globals names a g e h)
   where
     pick : (o : Option GlobalTree) → Listed (globals_of globals names) a → Listed (found_first o (globals_of globals names)) a

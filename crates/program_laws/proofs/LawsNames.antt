@@ -1,18 +1,17 @@
 -- The tests of names, of points and of exit labels decide equality.
-use Rattle.std.proofs.Common.{◌≡◌, true, refl, ap, nat_eq, ◌&&◌}
+use Rattle.std.proofs.Common.{◌≡◌, true, refl, ap, nat_eq, ◌&&◌, bytes_eq}
 use Rattle.std.specs.Cmp.{signed_Decides}
 use Rattle.std.specs.Cmp.Rules.{signed_items}
 use Rattle.std.specs.Cmp.Lexicographic.{pointwise, bytes_decides}
 use Rattle.std.proofs.lemmas.Bool.{eqb-true, eq-eqb, and_parts, and_from}
 use Rattle.csub_objects.specs.Types.{Name}
-use Rattle.csub_semantics.specs.Types.{name_eq}
 use Rattle.csub_semantics.specs.Points.{PointTree, entry, exit, at, point_eq, ExitTree, next, on_true, on_false, on_case, on_default, exit_eq}
 
 -- names
-pub same_name : (a b : Name) → name_eq a b ≡ true → a ≡ b
+pub same_name : (a b : Name) → bytes_eq a b ≡ true → a ≡ b
 same_name a b e = (bytes_decides a b).0 e
 
-pub name_itself : (a : Name) → name_eq a a ≡ true
+pub name_itself : (a : Name) → bytes_eq a a ≡ true
 name_itself a = (bytes_decides a a).1 refl
 
 -- points

@@ -1,12 +1,11 @@
 -- What a point of a valid program may be: the entry, the exit, a test, a `switch`, a `goto`, an end of the run, or a stage
 -- that control leaves along Next alone.
-use Rattle.std.proofs.Common.{◌≡◌, ◌≤◌, ℕ, ◌+◌, sym, subst, cond, ℤ, List, [], ◌∷◌, ◌++◌, length, Option, Some, None, Bool, true, false, All, IsTrue, arith}
+use Rattle.std.proofs.Common.{◌≡◌, ◌≤◌, ℕ, ◌+◌, sym, subst, cond, ℤ, List, [], ◌∷◌, ◌++◌, length, Option, Some, None, Bool, true, false, All, IsTrue, arith, bytes_eq}
 use Rattle.std.specs.List.{AllByRecursion}
 use Rattle.std.proofs.lemmas.List.Elements.{All-head, All-tail, All-weaker}
 use Rattle.csub_semantics.specs.Trees.{NamedExpr}
 use Rattle.csub_semantics.specs.Labels.{LabelTree, enters, exits, evaluates, initialises, returns, jumps, halts, calls}
 use Rattle.csub_objects.specs.Types.{Name}
-use Rattle.csub_semantics.specs.Types.{name_eq}
 use Rattle.csub_semantics.specs.Syntax.{Stage, PartTree, StmtTree, StmtTrees, ElseTree, parts, block, conditional, while_loop, do_loop, for_loop, switch_on, case_label, default_label, breaks, continues, goes_to, marked, no_stmt, more_stmts, no_else, else_stmt, FunctionTree, ProgramTree}
 use Rattle.csub_semantics.specs.Points.{PointTree, entry, exit, at, ExitTree, next}
 use Rattle.csub_semantics.specs.Successors.{Way, Node, Around, Mark, way, leaving, looping, switching, enter_part, enter_parts, enter, enter_list, enter_else, own_ways, test_ways, case_of, case_way, case_ways, is_default, default_to, switch_ways, in_while, in_for, marks, marks_list, marks_else, target, part_nodes, last_ways, parts_nodes, nodes, nodes_list, nodes_else}
@@ -466,7 +465,7 @@ module _ (T : PointTree → Type 0) where
     -- a `goto` leads to one of its function's labelled statements
     target_in : (ms : List (Mark PointTree)) (other : PointTree) (a : Name) → AllByRecursion (λ (m : Mark PointTree). T m.to) ms → T other → T (target ms other a)
     target_in [] other a h out = out
-    target_in (m ∷ rest) other a h out = pick (name_eq m.name a) (target_in rest other a h.1 out)
+    target_in (m ∷ rest) other a h out = pick (bytes_eq m.name a) (target_in rest other a h.1 out)
       where
         pick : (b : Bool) → T (target rest other a) → T (cond b m.to (target rest other a))
         pick true later = h.0

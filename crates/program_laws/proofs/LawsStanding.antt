@@ -1,9 +1,8 @@
 -- Where a frame may stand: at a point of a function of the program.
-use Rattle.std.proofs.Common.{◌≡◌, List, [], ◌∷◌, Bool, true, false, cond, Option, Some, None, option_map, refl, ap, ◌∙◌}
+use Rattle.std.proofs.Common.{◌≡◌, List, [], ◌∷◌, Bool, true, false, cond, Option, Some, None, option_map, refl, ap, ◌∙◌, bytes_eq}
 use Rattle.std.specs.List.{AllByRecursion}
 use Rattle.std.proofs.lemmas.List.Elements.{recursion_from_All}
 use Rattle.csub_objects.specs.Types.{Name}
-use Rattle.csub_semantics.specs.Types.{name_eq}
 use Rattle.csub_semantics.specs.Labels.{enters, CallTree}
 use Rattle.csub_semantics.specs.Syntax.{FunctionTree, ProgramTree}
 use Rattle.csub_semantics.specs.Points.{PointTree, entry, at, point_eq, ExitTree, next}
@@ -69,7 +68,7 @@ module _ (P : ProgramTree) (g : Name) (p : PointTree) where
 
     -- the function that stands there has the name, and the point is this point
     pub name_is : (s : Stands P g p) → s.function.name ≡ g
-    name_is s = same_name s.function.name g (found_each (λ (f : FunctionTree). name_eq f.name g) HasValidBody P.functions s.function s.defined bodies).1
+    name_is s = same_name s.function.name g (found_each (λ (f : FunctionTree). bytes_eq f.name g) HasValidBody P.functions s.function s.defined bodies).1
 
     pub point_is : (s : Stands P g p) → s.node.point ≡ p
     point_is s = same_point s.node.point p (found_each (λ (n : Node PointTree). point_eq n.point p) (λ (n : Node PointTree). IsPoint (function_nodes s.function) n.point) (function_nodes s.function) s.node s.found (each_found (function_nodes s.function))).1
@@ -77,7 +76,7 @@ module _ (P : ProgramTree) (g : Name) (p : PointTree) where
     -- what the point may be
     pub node_is : (s : Stands P g p) → IsNode P s.function (IsPoint (function_nodes s.function)) s.node.point s.node.label s.node.ways
     node_is s =
-        let body = (found_each (λ (f : FunctionTree). name_eq f.name g) HasValidBody P.functions s.function s.defined bodies).0 in
+        let body = (found_each (λ (f : FunctionTree). bytes_eq f.name g) HasValidBody P.functions s.function s.defined bodies).0 in
         let each = function_are (IsPoint (function_nodes s.function)) P s.function body (each_found (function_nodes s.function)) in
         (found_each (λ (n : Node PointTree). point_eq n.point p) (λ n. IsNode P s.function (IsPoint (function_nodes s.function)) n.point n.label n.ways) (function_nodes s.function) s.node s.found each).0
 
@@ -106,4 +105,4 @@ module _ (P : ProgramTree) (g : Name) where
 
 pub start_defined : (fs : List FunctionTree) → BeginsWithStart fs → (f : FunctionTree) × (function_in fs start_name ≡ Some f)
 start_defined [] h = absurd h
-start_defined (f ∷ rest) h = (f, ap (λ n. cond (name_eq n start_name) (Some f) (function_in rest start_name)) h.name)
+start_defined (f ∷ rest) h = (f, ap (λ n. cond (bytes_eq n start_name) (Some f) (function_in rest start_name)) h.name)

@@ -1,9 +1,8 @@
 -- Where a point leads on along a way out, that is an edge of the program's list.
-use Rattle.std.proofs.Common.{◌≡◌, ℕ, zero, suc, List, [], ◌∷◌, ◌++◌, ◌⊎◌, inl, inr, map, Bool, true, false, cond, Option, Some, None, find, refl, ap, sym, subst}
+use Rattle.std.proofs.Common.{◌≡◌, ℕ, zero, suc, List, [], ◌∷◌, ◌++◌, ◌⊎◌, inl, inr, map, Bool, true, false, cond, Option, Some, None, find, refl, ap, sym, subst, bytes_eq}
 use Rattle.std.specs.Option.{option_map}
 use Rattle.std.specs.List.{slice_get, flat_map}
 use Rattle.csub_objects.specs.Types.{Name}
-use Rattle.csub_semantics.specs.Types.{name_eq}
 use Rattle.csub_semantics.specs.Points.{PointTree, point_eq, ExitTree, exit_eq}
 use Rattle.csub_semantics.specs.Syntax.{FunctionTree, ProgramTree}
 use Rattle.csub_semantics.specs.Successors.{Way, Node}
@@ -90,7 +89,7 @@ from_node P g (Some n) f p q x e to h s =
 from_function : (P : ProgramTree) (o : Option FunctionTree) (f : Name) (p q : PointTree) (x : ExitTree) → function_of P f ≡ o → leads_to (way_of (node_of o p) x) ≡ Some q → Has (edge_list P) (edge f p x)
 from_function P None f p q x e to = cc
 from_function P (Some g) f p q x e to =
-    let found = has_found (λ (g : FunctionTree). name_eq g.name f) P.functions g e in
+    let found = has_found (λ (g : FunctionTree). bytes_eq g.name f) P.functions g e in
     from_node P g (node_in (function_nodes g) p) f p q x refl to found.0 (same_name g.name f found.1)
 
 pub edges_have_numbers : (P : ProgramTree) → EdgesHaveNumbers P

@@ -9,7 +9,7 @@ use Rattle.csub_text.specs.declared.operator.BinOp.TheVariants.{Shl, Shr}
 use Rattle.csub_types.specs.declared.kind.IntKind.{IntKind}
 use Rattle.csub_types.specs.declared.kind.IntKind.TheVariants.{Int, Unsigned}
 use Rattle.csub_types.specs.Kinds.{IsOf, promote, common}
-use Rattle.csub_types.specs.Arithmetic.{unary_kind, binary_kind}
+use Rattle.csub_types.specs.Arithmetic.{unary_kind, binary_kind, operation_kind}
 use Rattle.csub_tree.specs.declared.name.Name.{Name as NameAt}
 use Rattle.csub_tree.specs.Expressions.{Expr, Exprs, Node, Number, Char, Text, Named, Paren, Unary, Cast, Step, Binary, And, Or}
 use Rattle.csub_tree.specs.Expressions.{Choose, Assign, Call, Index, Member, NoExprs, MoreExprs}
@@ -38,11 +38,6 @@ use Rattle.program_validity.proofs.Agreeing.{Agrees, IsKnown, IsMeant}
 use Rattle.program_validity.proofs.Printing.{Few, few_left, few_right, format_counts, is_printed}
 
 -- ---- kinds
-
-same_kind : (op : BinOp) (a b : IntKind) → sorts.operation_kind op a b ≡ valid.operation_kind op a b
-same_kind Shl a b = refl
-same_kind Shr a b = refl
-same_kind op a b = refl
 
 below : (m n : ℕ) → nat_lt m n ≡ false → n ≤ m
 below m n h = grind (arith, nat_tests)
@@ -162,8 +157,7 @@ module _ (sc : valid.Scope) (number : ℕ) where
       record {
         kind = a.kind;
         valid = (
-          same_kind op (the_kind s) (the_kind t) ∙ ap (λ k. valid.operation_kind op k (the_kind t)) (sym a.kind)
-              ∙ ap (λ k. valid.operation_kind op (place_kind p) k) (sym b.kind),
+          ap (λ k. operation_kind op k (the_kind t)) (sym a.kind) ∙ ap (λ k. operation_kind op (place_kind p) k) (sym b.kind),
           a.modifiable,
           a.valid,
           b.valid,
@@ -277,11 +271,10 @@ module _ (defined : List Defined) (scope : Scope) (sc : valid.Scope) (agrees : A
         let h = pair k a b (λ h. made false k a f.0 x.0 h) (λ h. made false (k + count scope a) b f.1 x.1 h) g in
         let m = number_made k a f.2 h.left in
         let n = number_made (k + count scope a) b f.3 h.right in
-        if_value sc number (is_number (sort_of scope a) && is_number (sort_of scope b)) (binary_kind o (sorts.operation_kind o (the_kind (sort_of scope a)) (the_kind (sort_of scope b)))) no_place
-        (operation o (sorts.operation_kind o (the_kind (sort_of scope a)) (the_kind (sort_of scope b))) (value scope k a) (value scope (k + count scope a) b)) refl (
-          same_kind o (the_kind (sort_of scope a)) (the_kind (sort_of scope b))
-              ∙ ap (λ j. valid.operation_kind o j (the_kind (sort_of scope b))) (sym m.kind)
-              ∙ ap (λ j. valid.operation_kind o (kind_of (value scope k a)) j) (sym n.kind),
+        if_value sc number (is_number (sort_of scope a) && is_number (sort_of scope b)) (binary_kind o (operation_kind o (the_kind (sort_of scope a)) (the_kind (sort_of scope b)))) no_place
+        (operation o (operation_kind o (the_kind (sort_of scope a)) (the_kind (sort_of scope b))) (value scope k a) (value scope (k + count scope a) b)) refl (
+          ap (λ j. operation_kind o j (the_kind (sort_of scope b))) (sym m.kind)
+              ∙ ap (λ j. operation_kind o (kind_of (value scope k a)) j) (sym n.kind),
           m.valid,
           n.valid,
         )

@@ -13,7 +13,7 @@ use Rattle.csub_tree.specs.Expressions.{Expr}
 use Rattle.csub_tree.specs.Declarations.{Declarator, Head}
 use Rattle.csub_tree.specs.Units.{Constant, Item, Struct, Enum, Object, Prototype, Function}
 use Rattle.csub_objects.specs.Types.{Name, TypeTree}
-use Rattle.csub_semantics.specs.Types.{name_eq, GlobalTree}
+use Rattle.csub_semantics.specs.Types.{GlobalTree}
 use Rattle.csub_scopes.specs.Scopes.{Scope, Declared, Meaning, global_object, local_object, enum_constant, a_function, untyped, find as find_name}
 use Rattle.csub_rules.specs.Faults.{fault_if}
 use Rattle.csub_rules.specs.Here.{is_reserved}
@@ -111,7 +111,7 @@ abbrev found : Option GlobalTree → Option TypeTree
 found o = option_map (λ (g : GlobalTree). g.ctype) o
 
 abbrev Is : Name → GlobalTree → Bool
-Is x = λ (g : GlobalTree). name_eq g.name x
+Is x = λ (g : GlobalTree). bytes_eq g.name x
 
 left_step : (b : Bool) (g : GlobalTree) (p q : Option GlobalTree) (t : TypeTree) → (found p ≡ Some t → found q ≡ Some t) → found (cond b (Some g) p) ≡ Some t
     → found (cond b (Some g) q) ≡ Some t
@@ -120,7 +120,7 @@ left_step false g p q t rest h = rest h
 
 global_left : (gs more : List GlobalTree) (x : Name) (t : TypeTree) → global_type gs x ≡ Some t → global_type (gs ++ more) x ≡ Some t
 global_left [] more x t h = absurd (cc)
-global_left (g ∷ gs) more x t h = left_step (name_eq g.name x) g (find (Is x) gs) (find (Is x) (gs ++ more)) t (λ e. global_left gs more x t e) h
+global_left (g ∷ gs) more x t h = left_step (bytes_eq g.name x) g (find (Is x) gs) (find (Is x) (gs ++ more)) t (λ e. global_left gs more x t e) h
 
 here_step : (b : Bool) (g : GlobalTree) → IsTrue b → found (cond b (Some g) None) ≡ Some g.ctype
 here_step true g h = refl
@@ -132,19 +132,19 @@ new_step true g p q t rest h = absurd (cc)
 new_step false g p q t rest h = rest h
 
 global_new : (gs : List GlobalTree) (g : GlobalTree) → global_type gs g.name ≡ None → global_type (gs ++ g ∷ []) g.name ≡ Some g.ctype
-global_new [] g h = here_step (name_eq g.name g.name) g ((bytes_eq-Decides g.name g.name).1 refl)
+global_new [] g h = here_step (bytes_eq g.name g.name) g ((bytes_eq-Decides g.name g.name).1 refl)
 global_new (k ∷ gs) g h =
-    new_step (name_eq k.name g.name) k (find (Is g.name) gs) (find (Is g.name) (gs ++ g ∷ [])) g.ctype (λ e. global_new gs g e) h
+    new_step (bytes_eq k.name g.name) k (find (Is g.name) gs) (find (Is g.name) (gs ++ g ∷ [])) g.ctype (λ e. global_new gs g e) h
 
 none_step : (b : Bool) (g : GlobalTree) (t : TypeTree) → b ≡ false → found (cond b (Some g) None) ≡ Some t → None ≡ Some t
 none_step true g t e h = absurd (cc)
 none_step false g t e h = h
 
-global_other : (gs : List GlobalTree) (g : GlobalTree) (x : Name) (t : TypeTree) → name_eq g.name x ≡ false → global_type (gs ++ g ∷ []) x ≡ Some t
+global_other : (gs : List GlobalTree) (g : GlobalTree) (x : Name) (t : TypeTree) → bytes_eq g.name x ≡ false → global_type (gs ++ g ∷ []) x ≡ Some t
     → global_type gs x ≡ Some t
-global_other [] g x t e h = none_step (name_eq g.name x) g t e h
+global_other [] g x t e h = none_step (bytes_eq g.name x) g t e h
 global_other (k ∷ gs) g x t e h =
-    left_step (name_eq k.name x) k (find (Is x) (gs ++ g ∷ [])) (find (Is x) gs) t (λ q. global_other gs g x t e q) h
+    left_step (bytes_eq k.name x) k (find (Is x) (gs ++ g ∷ [])) (find (Is x) gs) t (λ q. global_other gs g x t e q) h
 
 -- the objects so far are those that a scope knows
 pub record Holds (gs : List GlobalTree) (scope : Scope) : Type 0 where

@@ -11,7 +11,8 @@ use Rattle.csub_rules.specs.Labels.{stands_in}
 use Rattle.csub_rules.proofs.LawsEarlier.{neither}
 use Rattle.csub_rules.proofs.LawsServed.{holds}
 use Rattle.csub_units.specs.Files.{no_file}
-use Rattle.csub_units.specs.Items.{main_name, past_items, items_fault}
+use Rattle.csub_units.specs.Items.{past_items, items_fault}
+use Rattle.csub_objects.specs.Types.{main_name}
 use Rattle.csub_units.specs.Units.{all_defined, undefineds_fault, placed_fault, main_fault, no_place, unit_fault}
 use Rattle.csub_units.proofs.LawsFineItems.{fine_unit}
 use Rattle.csub_resolution.specs.Values.{Defined}

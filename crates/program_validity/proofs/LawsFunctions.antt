@@ -9,10 +9,9 @@ use Rattle.csub_types.specs.declared.kind.IntKind.TheVariants.{Char, Int, Unsign
 use Rattle.csub_tree.specs.Declarations.{Param, Head}
 use Rattle.csub_tree.specs.Statements.{Stmts}
 use Rattle.csub_tree.specs.Units.{Item, Struct, Enum, Object, Prototype, Function, Source}
-use Rattle.csub_objects.specs.Types.{Name}
-use Rattle.csub_semantics.specs.Types.{name_eq}
+use Rattle.csub_objects.specs.Types.{Name, main_name}
 use Rattle.csub_semantics.specs.Syntax.{FunctionTree}
-use Rattle.csub_semantics.specs.Flows.{start_name, main_name, function_of}
+use Rattle.csub_semantics.specs.Flows.{start_name, function_of}
 use Rattle.csub_validity.specs.Valid.{BeginsWithStart, IsMain}
 use Rattle.csub_rules.specs.ExprSorts.{number_of}
 use Rattle.csub_rules.specs.declared.fault.Fault.{Fault}
@@ -134,8 +133,8 @@ module _ (defined : List Defined) where
       )
 
   by_name : (f : FunctionTree) (rest : List FunctionTree) (b : Bool) → (IsTrue b → IsMain (Some f))
-      → (IsTrue (not b) → IsMain (find (λ (g : FunctionTree). name_eq g.name main_name) rest))
-      → IsMain (if b then Some f else find (λ (g : FunctionTree). name_eq g.name main_name) rest)
+      → (IsTrue (not b) → IsMain (find (λ (g : FunctionTree). bytes_eq g.name main_name) rest))
+      → IsMain (if b then Some f else find (λ (g : FunctionTree). bytes_eq g.name main_name) rest)
   by_name f rest true here later = here refl
   by_name f rest false here later = later refl
 
@@ -145,7 +144,7 @@ module _ (defined : List Defined) where
 
   is_main : (file : File) (items : List Item) → FineItems file items → IsTrue (not (stands_in main_name file.defined))
       → IsTrue (stands_in main_name (past_items file items).defined)
-      → IsMain (find (λ (g : FunctionTree). name_eq g.name main_name) (functions_in defined file items))
+      → IsMain (find (λ (g : FunctionTree). bytes_eq g.name main_name) (functions_in defined file items))
   is_main file [] fine n s = absurd (contrary (stands_in main_name file.defined) n s)
   is_main file (Struct tag ds ∷ rest) fine n s = is_main (past_item file (Struct tag ds)) rest fine.1 n s
   is_main file (Enum tag cs ∷ rest) fine n s = is_main (past_item file (Enum tag cs)) rest fine.1 n s

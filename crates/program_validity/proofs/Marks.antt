@@ -12,7 +12,6 @@ use Rattle.csub_tree.specs.declared.name.Name.{Name as NameAt}
 use Rattle.csub_tree.specs.Statements.{Stmt, Perhaps, Stmts, Line, Declared, Eval, Empty, Block, If, While, Do, For, Switch}
 use Rattle.csub_tree.specs.Statements.{Case, Default, Break, Continue, Goto, Label, Return, NoStmt, OneStmt, NoStmts, MoreStmts}
 use Rattle.csub_objects.specs.Types.{Name}
-use Rattle.csub_semantics.specs.Types.{name_eq}
 use Rattle.csub_semantics.specs.Syntax.{StmtTrees}
 use Rattle.csub_semantics.specs.Successors.{Around, Mark, marks, marks_list, marks_else, in_while, in_for, switching, leaving, enter_list}
 use Rattle.csub_rules.specs.Here.{Here, entering}
@@ -116,7 +115,7 @@ or_none : (a : Bool) → IsTrue (a || false) → IsTrue a
 or_none true h = refl
 or_none false h = absurd (cc)
 
-pub label_stands : (x : Name) (xs : List NameAt) → IsTrue (list_any (λ l. bytes_eq l x) (past_names [] xs)) → IsTrue (list_any (λ l. name_eq l x) (texts xs))
+pub label_stands : (x : Name) (xs : List NameAt) → IsTrue (list_any (λ l. bytes_eq l x) (past_names [] xs)) → IsTrue (list_any (λ l. bytes_eq l x) (texts xs))
 label_stands x xs h = or_none (list_any (λ l. bytes_eq l x) (texts xs)) (any_past (λ l. bytes_eq l x) [] xs h)
 
 -- ---- labels that differ

@@ -11,11 +11,10 @@ use Rattle.csub_types.specs.declared.kind.IntKind.TheVariants.{Int}
 use Rattle.csub_tree.specs.Declarations.{Head}
 use Rattle.csub_tree.specs.Statements.{Stmts}
 use Rattle.csub_tree.specs.Units.{Item, Struct, Enum, Object, Prototype, Function}
-use Rattle.csub_objects.specs.Types.{Name, TypeTree}
-use Rattle.csub_semantics.specs.Types.{name_eq}
+use Rattle.csub_objects.specs.Types.{Name, TypeTree, main_name}
 use Rattle.csub_semantics.specs.Points.{at}
 use Rattle.csub_semantics.specs.Syntax.{FunctionTree, ProgramTree}
-use Rattle.csub_semantics.specs.Flows.{start_name, main_name, function_in, function_of, to_exit}
+use Rattle.csub_semantics.specs.Flows.{start_name, function_in, function_of, to_exit}
 use Rattle.csub_scopes.specs.Scopes.{Scope, Declared, Meaning, global_object, local_object, enum_constant, a_function, untyped, find as find_name}
 use Rattle.csub_rules.specs.Faults.{fault_if}
 use Rattle.csub_rules.specs.ExprSorts.{number_of}
@@ -89,7 +88,7 @@ module _ (P : ProgramTree) (D : List Defined) where
         breaks = λ b. absurd (cc);
         continues = λ b. absurd (cc);
         labels = λ x b.
-            subst (λ xs. IsTrue (list_any (λ l. name_eq l x) xs))
+            subst (λ xs. IsTrue (list_any (λ l. bytes_eq l x) xs))
             (sym (marked_lines D (number_of h.result) false Int (in_function scope h) body 0 at to_exit written))
             (label_stands x (labels_of_lines body) b);
         given = refl;
@@ -153,7 +152,7 @@ module _ (D : List Defined) where
 -- ---- the functions that can be called
 
 -- a function that is defined isn't `#start`
-not_start : (all : List Name) (x : Name) → IsTrue (not (stands_in start_name all)) → IsTrue (stands_in x all) → name_eq start_name x ≡ false
+not_start : (all : List Name) (x : Name) → IsTrue (not (stands_in start_name all)) → IsTrue (stands_in x all) → bytes_eq start_name x ≡ false
 not_start all x none h = by (bytes_eq start_name x) refl
   where
     not_both : {A : Type 0} (b : Bool) → IsTrue b → IsTrue (not b) → A

@@ -9,7 +9,7 @@ use Rattle.csub_tree.specs.Declarations.{Declarator}
 use Rattle.csub_tree.specs.Statements.{Stmt, Perhaps, Stmts, Line, Declared as DeclaredLine, Eval, Empty, Block, If, While, Do, For, Switch}
 use Rattle.csub_tree.specs.Statements.{Case, Default, Break, Continue, Goto, Label, Return, NoStmt, OneStmt, NoStmts, MoreStmts}
 use Rattle.csub_objects.specs.Types.{Name, TypeTree, IsSized}
-use Rattle.csub_semantics.specs.Types.{name_eq, GlobalTree}
+use Rattle.csub_semantics.specs.Types.{GlobalTree}
 use Rattle.csub_semantics.specs.Syntax.{LocalTree, FunctionTree, ProgramTree}
 use Rattle.csub_scopes.specs.Scopes.{Scope, Declared, Meaning, global_object, local_object, enum_constant, a_function, untyped, find as find_name}
 use Rattle.csub_rules.specs.Sizes.{is_sized}
@@ -33,7 +33,7 @@ use Rattle.program_validity.proofs.Parts.{Stands}
 -- ---- objects of a list
 
 abbrev Is : Name → ℕ → LocalTree → Bool
-Is x n = λ (o : LocalTree). name_eq o.name x && nat_eq o.number n
+Is x n = λ (o : LocalTree). bytes_eq o.name x && nat_eq o.number n
 
 abbrev found : Option LocalTree → Option TypeTree
 found o = option_map (λ (o : LocalTree). o.ctype) o
@@ -68,7 +68,7 @@ here_step false o p h = absurd (cc)
 pub type_new : (os more : List LocalTree) (o : LocalTree) → type_in os o.name o.number ≡ None → type_in (os ++ o ∷ more) o.name o.number ≡ Some o.ctype
 type_new [] more o h =
     here_step (Is o.name o.number o) o (find (Is o.name o.number) more)
-    (both_true (name_eq o.name o.name) (nat_eq o.number o.number) ((bytes_eq-Decides o.name o.name).1 refl) (same_number o.number))
+    (both_true (bytes_eq o.name o.name) (nat_eq o.number o.number) ((bytes_eq-Decides o.name o.name).1 refl) (same_number o.number))
 type_new (p ∷ os) more o h =
     new_step (Is o.name o.number p) p (find (Is o.name o.number) os) (find (Is o.name o.number) (os ++ o ∷ more)) o.ctype (λ e. type_new os more o e) h
 

@@ -1,5 +1,5 @@
 -- Statements that break no rule are those of valid programs.
-use Rattle.std.proofs.Common.{◌≡◌, ◌∙◌, refl, sym, ap, subst, arith, ℕ, ◌+◌, ◌≤◌, max, List, [], ◌∷◌, ◌++◌, length, map, inl, inr, All, append_assoc, ◌||◌}
+use Rattle.std.proofs.Common.{◌≡◌, ◌∙◌, refl, sym, ap, subst, arith, ℕ, ◌+◌, ◌≤◌, max, List, [], ◌∷◌, ◌++◌, length, map, inl, inr, All, append_assoc, ◌||◌, bytes_eq}
 use Rattle.std.proofs.Common.{Option, Some, None, Bool, true, false, IsTrue, is_some, not}
 use Rattle.std.specs.List.{list_any}
 use Rattle.std.proofs.lemmas.Int.{ints}
@@ -13,7 +13,6 @@ use Rattle.csub_tree.specs.Declarations.{Init, Declarator, Declare}
 use Rattle.csub_tree.specs.Statements.{Stmt, Perhaps, Stmts, Line, Declared, Eval, Empty, Block, If, While, Do, For, Switch as Switched}
 use Rattle.csub_tree.specs.Statements.{Case, Default, Break, Continue, Goto, Label, Return, NoStmt, OneStmt, NoStmts, MoreStmts}
 use Rattle.csub_objects.specs.Types.{Name, TypeTree}
-use Rattle.csub_semantics.specs.Types.{name_eq}
 use Rattle.csub_semantics.specs.Trees.{OwnerTree, local_owner}
 use Rattle.csub_semantics.specs.Labels.{LabelTree, InitTree, initialises, branches, switches, returns}
 use Rattle.csub_semantics.specs.Syntax.{Stage, PartTree, LocalTree, FunctionTree, ProgramTree}
@@ -85,7 +84,7 @@ module _ (P : ProgramTree) (f : FunctionTree) (defined : List Defined) (result :
   pub record Around (s : Surroundings) (to : Targets) : Type 0 where
     pub breaks : IsTrue s.can_break → IsTrue to.of_break
     pub continues : IsTrue s.can_continue → IsTrue to.of_continue
-    pub labels : (x : Name) → IsTrue (is_label s.labels x) → IsTrue (list_any (λ b. name_eq b x) (labels_of f))
+    pub labels : (x : Name) → IsTrue (is_label s.labels x) → IsTrue (list_any (λ b. bytes_eq b x) (labels_of f))
     pub given : s.result ≡ result
     pub whole : s.statement ≡ as_statement
 

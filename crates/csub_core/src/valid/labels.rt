@@ -1,10 +1,9 @@
 //! The labelled statements of a function: which names they have, and that these differ.
 //!
 //! They are looked for by a pass over the function's statements, which takes no memory.
-ghost use Rattle.std.specs.Prelude.{◌≡◌, ◌≢◌, ◌↔◌, ◌≤◌, ◌-◌, ◌∷◌, [], AllPairs, IsTrue, sum_by};
+ghost use Rattle.std.specs.Prelude.{◌≡◌, ◌≢◌, ◌↔◌, ◌≤◌, ◌-◌, ◌∷◌, [], AllPairs, IsTrue, sum_by, bytes_eq};
 ghost use Rattle.std.specs.List.{list_any, list_all};
 ghost use Rattle.std.specs.Option.{SomeIff, option_map};
-ghost use Rattle.csub_semantics.specs.Types.{name_eq};
 ghost use Rattle.csub_semantics.specs.Labels.{label_tree};
 ghost use Rattle.csub_semantics.specs.Syntax.{part_tree, stmt_tree, function_tree};
 ghost use Rattle.csub_validity.specs.Valid.{IsJump, labels_of};
@@ -31,7 +30,7 @@ fn is_goto(main: &Option<Label>) -> bool
 
 /// Whether a function has a label of a name.
 pub(crate) fn has_label(function: &Function, name: &Text) -> bool
-    ensures { result ≡ list_any (λ b. name_eq b name.now) (labels_of (function_tree function.now)) }
+    ensures { result ≡ list_any (λ b. bytes_eq b name.now) (labels_of (function_tree function.now)) }
 {
     room_after_labels(&function.body, name.bytes(), 0).is_none()
 }

@@ -3,7 +3,8 @@ ghost use Rattle.std.specs.Prelude.{◌≡◌, ◌↔◌, [], ◌∷◌, Some, N
 ghost use Rattle.csub_types.specs.declared.kind.IntKind.TheVariants.{Int};
 ghost use Rattle.csub_semantics.specs.Labels.{calls, call_tree, label_tree};
 ghost use Rattle.csub_semantics.specs.Syntax.{part_tree, stmt_tree, stmts_of, function_tree};
-ghost use Rattle.csub_semantics.specs.Flows.{start_name, main_name, function_in};
+ghost use Rattle.csub_semantics.specs.Flows.{start_name, function_in};
+ghost use Rattle.csub_objects.specs.Types.{main_name};
 ghost use Rattle.csub_validity.specs.Valid.{BeginsWithStart, IsStart, IsStartBody, IsStartPart, IsMain, start_call};
 
 use csub_semantics::{CallLabel, Function, Label, RPart, RStmt};

@@ -1,13 +1,12 @@
-use Rattle.std.proofs.Common.{◌≡◌, ◌∙◌, ℕ, ◌+◌, ◌-◌, ◌<◌, Bool, cond, length, Option, Some, sym, ap, arith}
+use Rattle.std.proofs.Common.{◌≡◌, ◌∙◌, ℕ, ◌+◌, ◌-◌, ◌<◌, Bool, cond, length, Option, Some, sym, ap, arith, bytes_eq}
 use Rattle.csub_objects.specs.Types.{Name}
-use Rattle.csub_semantics.specs.Types.{name_eq}
 use Rattle.flow_graph.specs.declared.node.GraphFunction.{GraphFunction}
 use Rattle.flow_graph.specs.Names.{number_of}
 use Rattle.flow_graph.proofs.FirstPlaces.{found_more, within_more}
 use Rattle.flow_graph.proofs.names.list_names.Goals as goal
 
 abbrev has_name : Name → GraphFunction → Bool
-has_name a f = name_eq f.name a
+has_name a f = bytes_eq f.name a
 
 pub loop-i-preserved : goal.loop-i-preserved
 loop-i-preserved c = record {
