@@ -146,12 +146,12 @@ pub(crate) fn cast<'t>(name: &TypeName, a: Checked, span: Span) -> Checked<'t>
 /// `++` or `--` and its place (C11 6.5.2.4 and 6.5.3.1).
 pub(crate) fn step<'t>(a: Checked, span: Span) -> Checked<'t>
     ensures sort { the_sort result.sort ≡ step_sort (the_sort a.entry.sort) }
-    ensures fault { result.fault ≡ a.entry.fault or_earlier fault_if (lacks_place (the_sort a.entry.sort)) 8 a.entry.span }
+    ensures fault { result.fault ≡ a.entry.fault or_earlier fault_if (lacks_number (the_sort a.entry.sort)) 7 a.entry.span or_earlier fault_if (lacks_place (the_sort a.entry.sort)) 8 a.entry.span }
     ensures span { result.span ≡ span }
 {
     Checked {
         sort: value_if(is_number_place(a.sort), the_kind(a.sort)),
-        fault: earlier(a.fault, place_fault(a)),
+        fault: earlier(operand_fault(a), place_fault(a)),
         span,
     }
 }
@@ -205,14 +205,14 @@ pub(crate) fn choice<'t>(c: Checked, a: Checked, b: Checked, span: Span) -> Chec
 /// An assignment (C11 6.5.16).
 pub(crate) fn assign<'t>(a: Checked, b: Checked, span: Span) -> Checked<'t>
     ensures sort { the_sort result.sort ≡ assign_sort (the_sort a.entry.sort) (the_sort b.entry.sort) }
-    ensures fault { result.fault ≡ a.entry.fault or_earlier b.entry.fault or_earlier fault_if (lacks_place (the_sort a.entry.sort)) 8 a.entry.span or_earlier fault_if (lacks_number (the_sort b.entry.sort)) 7 b.entry.span }
+    ensures fault { result.fault ≡ a.entry.fault or_earlier b.entry.fault or_earlier fault_if (lacks_number (the_sort a.entry.sort)) 7 a.entry.span or_earlier fault_if (lacks_place (the_sort a.entry.sort)) 8 a.entry.span or_earlier fault_if (lacks_number (the_sort b.entry.sort)) 7 b.entry.span }
     ensures span { result.span ≡ span }
 {
     let serves = is_number_place(a.sort) && is_number(b.sort);
-    let parts = earlier(a.fault, b.fault);
+    let target = earlier(earlier(a.fault, b.fault), number_fault(a));
     Checked {
         sort: value_if(serves, the_kind(a.sort)),
-        fault: earlier(earlier(parts, place_fault(a)), number_fault(b)),
+        fault: earlier(earlier(target, place_fault(a)), number_fault(b)),
         span,
     }
 }

@@ -38,12 +38,19 @@ four_none a b c d h =
     let q = three_none a b c p.0 in
     (q.0, q.1, q.2, p.1)
 
+pub five_none : (a b c d e : Option Fault) → (a or_earlier b or_earlier c or_earlier d or_earlier e) ≡ None
+    → (a ≡ None) × (b ≡ None) × (c ≡ None) × (d ≡ None) × (e ≡ None)
+five_none a b c d e h =
+    let p = neither (a or_earlier b or_earlier c or_earlier d) e h in
+    let q = four_none a b c d p.0 in
+    (q.0, q.1, q.2, q.3, p.1)
+
 pub six_none : (a b c d e f : Option Fault) → (a or_earlier b or_earlier c or_earlier d or_earlier e or_earlier f) ≡ None
     → (a ≡ None) × (b ≡ None) × (c ≡ None) × (d ≡ None) × (e ≡ None) × (f ≡ None)
 six_none a b c d e f h =
-    let p = three_none (a or_earlier b or_earlier c or_earlier d) e f h in
-    let q = four_none a b c d p.0 in
-    (q.0, q.1, q.2, q.3, p.1, p.2)
+    let p = neither (a or_earlier b or_earlier c or_earlier d or_earlier e) f h in
+    let q = five_none a b c d e p.0 in
+    (q.0, q.1, q.2, q.3, q.4, p.1)
 
 before_true : (f g : Fault) → is_before g f ≡ true → IsFirst g f
 before_true f g h = grind (arith, nat_tests)

@@ -12,7 +12,7 @@ use Rattle.csub_rules.specs.ExprSorts.{sort_of, sorts_of, sort_of_meaning, sort_
 use Rattle.csub_rules.specs.ExprFaults.{Standing, later_operand, below, is_whole}
 use Rattle.csub_rules.specs.ExprFaults.{lacks_number, lacks_array, lacks_member, number_fault, place_fault}
 use Rattle.csub_rules.specs.ExprFaults.{fault, args_fault, numbers_fault, printf_fault, call_fault}
-use Rattle.csub_rules.proofs.LawsEarlier.{neither, three_none, four_none, six_none}
+use Rattle.csub_rules.proofs.LawsEarlier.{neither, three_none, four_none, five_none, six_none}
 use Rattle.csub_rules.proofs.LawsServed.{both, has, holds, valued, sorted, chosen}
 use Rattle.csub_rules.proofs.LawsCalls.{Found, AllFound, NumbersFound, RestFound, is_part, number, place, call_found}
 
@@ -54,9 +54,9 @@ module _ (scope : Scope) (types : HasTypes scope) where
         let m = number scope a x q.1 in
         record { fine = (x.fine, m); has_sort = λ n. valued (is_number (sort_of scope a)) _ m }
     found h (Node (Step o a) s) p =
-        let q = neither (fault scope (below h) a) (place_fault scope a) p in
+        let q = three_none (fault scope (below h) a) (number_fault scope a) (place_fault scope a) p in
         let x = is_part scope h a (found (below h) a q.0) in
-        let m = place scope a x q.1 in
+        let m = place scope a x q.2 in
         record { fine = (x.fine, m); has_sort = λ n. valued (is_number_place (sort_of scope a)) _ m }
     found h (Node (Binary o a b) s) p =
         let q = four_none (fault scope (below h) a) (fault scope (below h) b) (number_fault scope a) (number_fault scope b) p in
@@ -98,11 +98,11 @@ module _ (scope : Scope) (types : HasTypes scope) where
           has_sort = λ n. valued (is_number (sort_of scope c) && (is_number (sort_of scope a) && is_number (sort_of scope b))) _ u;
         }
     found h (Node (Assign o a b) s) p =
-        let q = four_none (fault scope (below h) a) (fault scope (below h) b) (place_fault scope a) (number_fault scope b) p in
+        let q = five_none (fault scope (below h) a) (fault scope (below h) b) (number_fault scope a) (place_fault scope a) (number_fault scope b) p in
         let x = is_part scope h a (found (below h) a q.0) in
         let y = is_part scope h b (found (below h) b q.1) in
-        let m = place scope a x q.2 in
-        let k = number scope b y q.3 in
+        let m = place scope a x q.3 in
+        let k = number scope b y q.4 in
         let t = both (is_number_place (sort_of scope a)) (is_number (sort_of scope b)) m k in
         record {
           fine = (x.fine, y.fine, m, k);

@@ -19,7 +19,7 @@ use Rattle.csub_rules.specs.Within.{Within, itself, in_paren, in_unary, in_cast,
 use Rattle.csub_rules.specs.Within.{in_or_left, in_or_right, in_test, in_then, in_else, in_target, in_source, in_array, in_index, in_struct}
 use Rattle.csub_rules.specs.Within.{in_args, in_first, in_printed, Among, this, next, IsArg, this_arg, next_arg}
 use Rattle.csub_rules.specs.Within.{NumberAsked, of_unary, of_cast, of_left, of_right, of_and_left, of_and_right, of_or_left, of_or_right}
-use Rattle.csub_rules.specs.Within.{of_test, of_then, of_else, of_source, of_printed, PlaceAsked, of_step, of_target}
+use Rattle.csub_rules.specs.Within.{of_test, of_then, of_else, of_stepped, of_assigned, of_source, of_printed, PlaceAsked, of_step, of_target}
 use Rattle.csub_rules.specs.Broken.{CallBreaks, m12, m13, m14, m20_exit, m20_nothing, m20_no_string, m20_format}
 use Rattle.csub_rules.specs.Broken.{Breaks, m1, m5, m6_array, m6_index, m7, m8, by_call, m20_string, Broken}
 use Rattle.csub_rules.proofs.LawsEarlier.{on_left, on_right, tested}
@@ -100,6 +100,8 @@ module _ (scope : Scope) where
   asked h x e (of_test c a b s) p = search (on_left, on_right, tested)
   asked h x e (of_then c a b s) p = search (on_left, on_right, tested)
   asked h x e (of_else c a b s) p = search (on_left, on_right, tested)
+  asked h x e (of_stepped o a s) p = search (on_left, on_right, tested)
+  asked h x e (of_assigned o a b s) p = search (on_left, on_right, tested)
   asked h x e (of_source o a b s) p = search (on_left, on_right, tested)
   asked h x e (of_printed f args s y i) p = search (on_right, on_true, asked_first (below h) args x i p)
 

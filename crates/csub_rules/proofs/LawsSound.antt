@@ -21,7 +21,7 @@ use Rattle.csub_rules.specs.Within.{Within, itself, in_paren, in_unary, in_cast,
 use Rattle.csub_rules.specs.Within.{in_or_left, in_or_right, in_test, in_then, in_else, in_target, in_source, in_array, in_index, in_struct}
 use Rattle.csub_rules.specs.Within.{in_args, in_first, in_printed, Among, this, next, IsArg, this_arg, next_arg}
 use Rattle.csub_rules.specs.Within.{of_unary, of_cast, of_left, of_right, of_and_left, of_and_right, of_or_left, of_or_right}
-use Rattle.csub_rules.specs.Within.{of_test, of_then, of_else, of_source, of_printed, of_step, of_target}
+use Rattle.csub_rules.specs.Within.{of_test, of_then, of_else, of_stepped, of_assigned, of_source, of_printed, of_step, of_target}
 use Rattle.csub_rules.specs.Broken.{CallBreaks, m12, m13, m14, m20_exit, m20_nothing, m20_no_string, m20_format}
 use Rattle.csub_rules.specs.Broken.{Breaks, m1, m5, m6_array, m6_index, m7, m8, by_call, m20_string, Broken}
 use Rattle.csub_rules.proofs.LawsEarlier.{either, is_test}
@@ -113,7 +113,8 @@ module _ (scope : Scope) where
     sound h (Node (Cast t a) s) =
         join (part (sound (below h) a) (λ m x w. in_cast t s w)) (test (λ p. m7 h a (Node (Cast t a) s) (of_cast t a s) p))
     sound h (Node (Step o a) s) =
-        join (part (sound (below h) a) (λ m x w. in_step o s w)) (test (λ p. m8 h a (Node (Step o a) s) (of_step o a s) p))
+        join (join (part (sound (below h) a) (λ m x w. in_step o s w)) (test (λ p. m7 h a (Node (Step o a) s) (of_stepped o a s) p)))
+        (test (λ p. m8 h a (Node (Step o a) s) (of_step o a s) p))
     sound h (Node (Binary o a b) s) =
         join (join (join (part (sound (below h) a) (λ m x w. in_left o b s w)) (part (sound (below h) b) (λ m x w. in_right o a s w)))
         (test (λ p. m7 h a (Node (Binary o a b) s) (of_left o a b s) p))) (test (λ p. m7 h b (Node (Binary o a b) s) (of_right o a b s) p))
@@ -128,8 +129,9 @@ module _ (scope : Scope) where
         (part (sound later_operand b) (λ m x w. in_else c a s w))) (test (λ p. m7 h c (Node (Choose c a b) s) (of_test c a b s) p)))
         (test (λ p. m7 h a (Node (Choose c a b) s) (of_then c a b s) p))) (test (λ p. m7 h b (Node (Choose c a b) s) (of_else c a b s) p))
     sound h (Node (Assign o a b) s) =
-        join (join (join (part (sound (below h) a) (λ m x w. in_target o b s w)) (part (sound (below h) b) (λ m x w. in_source o a s w)))
-        (test (λ p. m8 h a (Node (Assign o a b) s) (of_target o a b s) p))) (test (λ p. m7 h b (Node (Assign o a b) s) (of_source o a b s) p))
+        join (join (join (join (part (sound (below h) a) (λ m x w. in_target o b s w)) (part (sound (below h) b) (λ m x w. in_source o a s w)))
+        (test (λ p. m7 h a (Node (Assign o a b) s) (of_assigned o a b s) p))) (test (λ p. m8 h a (Node (Assign o a b) s) (of_target o a b s) p)))
+        (test (λ p. m7 h b (Node (Assign o a b) s) (of_source o a b s) p))
     sound h (Node (Index a i) s) =
         join (join (join (part (sound (below h) a) (λ m x w. in_array i s w)) (part (sound (below h) i) (λ m x w. in_index a s w)))
         (test (λ p. m6_array h a i s p))) (test (λ p. m6_index h a i s p))

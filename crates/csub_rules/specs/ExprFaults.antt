@@ -60,7 +60,7 @@ lacks_place s = lacks s (is_number_place s)
 abbrev pub number_fault : Scope → Expr → Option Fault
 number_fault scope e = fault_if (lacks_number (sort_of scope e)) 7 (span_of e)
 
--- M8 at an expression of which a place is asked for
+-- M8 at an expression of which a place is asked for; a number is asked for there as well
 abbrev pub place_fault : Scope → Expr → Option Fault
 place_fault scope e = fault_if (lacks_place (sort_of scope e)) 8 (span_of e)
 
@@ -98,7 +98,7 @@ abbrev mutual
   kind_fault scope h (Paren e) s = fault scope h e
   kind_fault scope h (Unary o a) s = fault scope (below h) a or_earlier number_fault scope a
   kind_fault scope h (Cast t a) s = fault scope (below h) a or_earlier number_fault scope a
-  kind_fault scope h (Step o a) s = fault scope (below h) a or_earlier place_fault scope a
+  kind_fault scope h (Step o a) s = fault scope (below h) a or_earlier number_fault scope a or_earlier place_fault scope a
   kind_fault scope h (Binary o a b) s =
       fault scope (below h) a or_earlier fault scope (below h) b or_earlier number_fault scope a or_earlier number_fault scope b
   kind_fault scope h (And a b) s =
@@ -109,7 +109,8 @@ abbrev mutual
       fault scope (below h) c or_earlier fault scope later_operand a or_earlier fault scope later_operand b
       or_earlier number_fault scope c or_earlier number_fault scope a or_earlier number_fault scope b
   kind_fault scope h (Assign o a b) s =
-      fault scope (below h) a or_earlier fault scope (below h) b or_earlier place_fault scope a or_earlier number_fault scope b
+      fault scope (below h) a or_earlier fault scope (below h) b
+      or_earlier number_fault scope a or_earlier place_fault scope a or_earlier number_fault scope b
   kind_fault scope h (Call f args) s =
       call_fault h f.span (callee_of scope f.text) args (sorts_of scope args)
       or_earlier (if is_printf (callee_of scope f.text) then printf_fault scope (below h) args else args_fault scope (below h) args)

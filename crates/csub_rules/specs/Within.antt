@@ -74,11 +74,13 @@ pub data NumberAsked (scope : Scope) : Expr → Expr → Type 0 where
   of_test : (c a b : Expr) (s : Span) → NumberAsked scope c (Node (Choose c a b) s)
   of_then : (c a b : Expr) (s : Span) → NumberAsked scope a (Node (Choose c a b) s)
   of_else : (c a b : Expr) (s : Span) → NumberAsked scope b (Node (Choose c a b) s)
+  of_stepped : (o : StepOp) (a : Expr) (s : Span) → NumberAsked scope a (Node (Step o a) s)
+  of_assigned : (o : Option BinOp) (a b : Expr) (s : Span) → NumberAsked scope a (Node (Assign o a b) s)
   of_source : (o : Option BinOp) (a b : Expr) (s : Span) → NumberAsked scope b (Node (Assign o a b) s)
   of_printed : {x : Expr} (f : Name) (args : Exprs) (s : Span) → IsTrue (is_printf (callee_of scope f.text)) → IsArg x args
       → NumberAsked scope x (Node (Call f args) s)
 
--- a place of a number is asked for of x, a part of e
+-- a place of a number, and so a number, is asked for of x, a part of e
 pub data PlaceAsked : Expr → Expr → Type 0 where
   of_step : (o : StepOp) (a : Expr) (s : Span) → PlaceAsked a (Node (Step o a) s)
   of_target : (o : Option BinOp) (a b : Expr) (s : Span) → PlaceAsked a (Node (Assign o a b) s)

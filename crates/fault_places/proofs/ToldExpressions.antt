@@ -62,7 +62,7 @@ module _ (n : ℕ) where
       expr_told h (Node (Paren a) s) w = expr_told h a w.0
       expr_told h (Node (Unary o a) s) w = join (expr_told (below h) a w.0) (number_told a w.0)
       expr_told h (Node (Cast t a) s) w = join (expr_told (below h) a w.0.1) (number_told a w.0.1)
-      expr_told h (Node (Step o a) s) w = join (expr_told (below h) a w.0) (place_told a w.0)
+      expr_told h (Node (Step o a) s) w = join (join (expr_told (below h) a w.0) (number_told a w.0)) (place_told a w.0)
       expr_told h (Node (Binary o a b) s) w =
           join (join (join (expr_told (below h) a w.0.0) (expr_told (below h) b w.0.1)) (number_told a w.0.0)) (number_told b w.0.1)
       expr_told h (Node (And a b) s) w =
@@ -73,7 +73,8 @@ module _ (n : ℕ) where
           join (join (join (join (join (expr_told (below h) c w.0.0) (expr_told later_operand a w.0.1)) (expr_told later_operand b w.0.2))
           (number_told c w.0.0)) (number_told a w.0.1)) (number_told b w.0.2)
       expr_told h (Node (Assign o a b) s) w =
-          join (join (join (expr_told (below h) a w.0.0) (expr_told (below h) b w.0.1)) (place_told a w.0.0)) (number_told b w.0.1)
+          join (join (join (join (expr_told (below h) a w.0.0) (expr_told (below h) b w.0.1)) (number_told a w.0.0)) (place_told a w.0.0))
+          (number_told b w.0.1)
       expr_told h (Node (Call f args) s) w =
           join (call_told h f.span (callee_of scope f.text) args _ w.0.0 w.0.1)
           (choose (is_printf (callee_of scope f.text)) (λ y. printf_told (below h) args w.0.1) (λ y. args_told (below h) args w.0.1))

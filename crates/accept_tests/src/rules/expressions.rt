@@ -61,7 +61,8 @@ fn numbers_are_asked_for(rt: HostRuntime) -> Result<(), Fail> {
     )
 }
 
-// C11 6.5.16p2, 6.5.2.4p1 and 6.5.3.1p1; structs aren't assigned as wholes.
+// C11 6.5.16p2, 6.5.2.4p1 and 6.5.3.1p1; a number is asked for there too, which is told first of an array, a struct or a
+// call without a value.
 #[test]
 fn places_of_numbers_are_assigned(rt: HostRuntime) -> Result<(), Fail> {
     agrees(
@@ -75,9 +76,16 @@ fn places_of_numbers_are_assigned(rt: HostRuntime) -> Result<(), Fail> {
             ("@(p + 1)++;", 8, "(p + 1)"),
             ("(p)++;", 0, ""),
             ("++@p++;", 8, "p++"),
-            ("int a[2]; @a += 1;", 8, "a"),
+            ("int a[2]; @a = 3;", 7, "a"),
+            ("int a[2]; @(a) = 3;", 7, "(a)"),
+            ("int a[2]; @a += 1;", 7, "a"),
+            ("int a[2]; @a++;", 7, "a"),
+            ("int a[2]; ++@a;", 7, "a"),
             ("int a[2]; a[1] += 1;", 0, ""),
-            ("struct point s, t; @s = t;", 8, "s"),
+            ("struct point s, t; @s = t;", 7, "s"),
+            ("@work() = 1;", 7, "work()"),
+            ("@nothing = 1;", 1, "nothing"),
+            ("@nothing++;", 1, "nothing"),
             ("p = @work();", 7, "work()"),
         ],
     )
