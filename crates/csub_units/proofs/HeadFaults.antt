@@ -7,17 +7,12 @@ use Rattle.csub_rules.specs.declared.fault.Fault.{Fault}
 use Rattle.csub_rules.specs.Faults.{◌or_earlier◌}
 use Rattle.csub_rules.specs.ExprSorts.{number_of}
 use Rattle.csub_units.specs.Files.{is_known, naming}
-use Rattle.csub_units.specs.HeadNames.{head_name_fault}
-use Rattle.csub_units.specs.Heads.{at_params, are_typed, head_fault, param_types, params_fault, past_head}
+use Rattle.csub_units.specs.Heads.{at_params, head_fault, head_name_fault, param_types, params_fault, past_head}
 
-pub head_told : (scope left : Scope) (h : Head) (ts : List TypeTree) (named params told : Option Fault) → left ≡ scope
-    → ts ≡ param_types (at_params scope) h.params → named ≡ head_name_fault left h.name (are_typed left h.params) ts (number_of h.result)
+pub head_told : (scope left : Scope) (h : Head) (named params told : Option Fault) → left ≡ scope → named ≡ head_name_fault left h
     → params ≡ params_fault (at_params scope) h.params → told ≡ (named or_earlier params) → told ≡ head_fault scope h
-head_told scope left h ts named params told l t n p f =
-    f ∙ ap (λ o. o or_earlier params)
-    (n ∙ ap (λ (s : Scope). head_name_fault s h.name (are_typed s h.params) ts (number_of h.result)) l
-    ∙ ap (λ us. head_name_fault scope h.name (are_typed scope h.params) us (number_of h.result)) t)
-    ∙ ap (λ o. head_name_fault scope h.name (are_typed scope h.params) (param_types (at_params scope) h.params) (number_of h.result) or_earlier o) p
+head_told scope left h named params told l n p f =
+    f ∙ ap (λ o. o or_earlier params) (n ∙ ap (λ (s : Scope). head_name_fault s h) l) ∙ ap (λ o. head_name_fault scope h or_earlier o) p
 
 pub head_declared : (scope left new : Scope) (h : Head) (ts : List TypeTree) → left ≡ scope → ts ≡ param_types (at_params scope) h.params
     → new ≡ (if is_known left h.name.text then left else naming left h.name.text (a_function ts (number_of h.result))) → new ≡ past_head scope h

@@ -28,7 +28,7 @@ pub data BrokenHead (scope : Scope) (h : Head) : Fault → Type 0 where
   -- its name is declared before, and not as a function
   m2_head : IsTrue (is_taken (find h.name.text scope.names)) → BrokenHead scope h (record { rule = 2; span = h.name.span })
   m3_head : IsTrue (is_reserved h.name.text) → BrokenHead scope h (record { rule = 3; span = h.name.span })
-  -- it is declared before as a function with other types
+  -- it is declared before as a function with other types, as far as its own break no rule
   m19_other : IsTrue (contradicts scope h) → BrokenHead scope h (record { rule = 19; span = h.name.span })
   -- two parameters have one name
   m2_param : (k : Here) (p : Param) (x : NameAt) → ParamAt (at_params scope) h.params k p → p.name ≡ Some x
@@ -67,7 +67,9 @@ pub data BrokenPlaced (items : List Item) : Fault → Type 0 where
   m19_undefined : (h : Head) → IsIn (Prototype h) items → IsTrue (not (stands_in h.name.text (all_defined items)))
       → BrokenPlaced items (record { rule = 19; span = h.name.span })
 
--- `main` is defined nowhere, which has no place in the source
+-- A rule that a source breaks: exact for whether one is broken, and which comes first (`UnitLaws`). Of the others those are
+-- left out that ask for a type or a value which a broken rule leaves unknown.
 pub data BrokenUnit (items : List Item) : Fault → Type 0 where
   placed : (f : Fault) → BrokenPlaced items f → BrokenUnit items f
+  -- `main` is defined nowhere, which has no place in the source
   m19_missing : IsTrue (not (stands_in main_name (all_defined items))) → BrokenUnit items (record { rule = 19; span = no_place })

@@ -1,5 +1,5 @@
 -- Declared functions (C11 6.7.6.3), and the rules on them.
-use Rattle.std.specs.Prelude.{List, [], ◌∷◌, Bool, true, false, Option, Some, None, not, is_some, ◌&&◌, if◌then◌else◌}
+use Rattle.std.specs.Prelude.{List, [], ◌∷◌, Bool, true, false, Option, Some, None, not, ◌&&◌, if◌then◌else◌}
 use Rattle.csub_types.specs.declared.kind.IntKind.{IntKind}
 use Rattle.csub_types.specs.declared.kind.IntKind.TheVariants.{Int}
 use Rattle.csub_tree.specs.declared.name.Name.{Name as NameAt}
@@ -51,12 +51,17 @@ param_types here (p ∷ ps) = sure_type (param_type here.scope p) ∷ param_type
 abbrev pub signature : Scope → Head → Meaning
 signature scope h = a_function (param_types (at_params scope) h.params) (number_of h.result)
 
--- two declarations of a function agree: the types of its result and of its parameters are the same (C11 6.7.6.3p15)
-abbrev pub types_eq : List TypeTree → List TypeTree → Bool
-types_eq [] [] = true
-types_eq [] (t ∷ ts) = false
-types_eq (s ∷ ss) [] = false
-types_eq (s ∷ ss) (t ∷ ts) = type_eq s t && types_eq ss ts
+-- Two declarations of a function agree: they have as many parameters, each with the same type, and results of the same type
+-- (C11 6.7.6.3p15). A parameter whose declaration breaks a rule has no type, and agrees with every other.
+abbrev pub agrees : TypeTree → Option TypeTree → Bool
+agrees t None = true
+agrees t (Some u) = type_eq t u
+
+abbrev pub params_agree : Scope → List TypeTree → List Param → Bool
+params_agree scope [] [] = true
+params_agree scope [] (p ∷ ps) = false
+params_agree scope (t ∷ ts) [] = false
+params_agree scope (t ∷ ts) (p ∷ ps) = agrees t (param_type scope p) && params_agree scope ts ps
 
 abbrev pub results_eq : Option IntKind → Option IntKind → Bool
 results_eq None None = true
@@ -76,36 +81,32 @@ abbrev pub is_taken : Option Declared → Bool
 is_taken None = false
 is_taken (Some d) = is_other d.means
 
--- a name is declared before as a function with other types
-abbrev pub disagrees : Meaning → List TypeTree → Option IntKind → Bool
-disagrees (global_object t) qs s = false
-disagrees (local_object n t) qs s = false
-disagrees (enum_constant v) qs s = false
-disagrees (a_function ps r) qs s = not (types_eq ps qs && results_eq r s)
-disagrees untyped qs s = false
+-- a name is declared before as a function with which the head disagrees
+abbrev pub disagrees : Meaning → Scope → Head → Bool
+disagrees (global_object t) scope h = false
+disagrees (local_object n t) scope h = false
+disagrees (enum_constant v) scope h = false
+disagrees (a_function ts r) scope h = not (params_agree scope ts h.params && results_eq r (number_of h.result))
+disagrees untyped scope h = false
 
-abbrev pub is_declared_otherwise : Option Declared → List TypeTree → Option IntKind → Bool
-is_declared_otherwise None qs s = false
-is_declared_otherwise (Some d) qs s = disagrees d.means qs s
+abbrev pub is_declared_otherwise : Option Declared → Scope → Head → Bool
+is_declared_otherwise None scope h = false
+is_declared_otherwise (Some d) scope h = disagrees d.means scope h
 
--- each parameter has a type, where none of their types breaks a rule
-abbrev pub are_typed : Scope → List Param → Bool
-are_typed scope [] = true
-are_typed scope (p ∷ ps) = is_some (param_type scope p) && are_typed scope ps
-
--- M19: the function is declared before, with other types (C11 6.7p4); nothing is said where a type breaks a rule
+-- M19: the function is declared before, with other types (C11 6.7p4)
 abbrev pub contradicts : Scope → Head → Bool
-contradicts scope h =
-    are_typed scope h.params
-    && is_declared_otherwise (find h.name.text scope.names) (param_types (at_params scope) h.params) (number_of h.result)
+contradicts scope h = is_declared_otherwise (find h.name.text scope.names) scope h
 
--- the earliest fault of a head; M2: its name is declared before, and not as a function, and M3: it is one of the library's
-abbrev pub head_fault : Scope → Head → Option Fault
-head_fault scope h =
+-- the earliest fault of a head's name; M2: it is declared before, and not as a function, and M3: it is one of the library's
+abbrev pub head_name_fault : Scope → Head → Option Fault
+head_name_fault scope h =
     fault_if (is_taken (find h.name.text scope.names)) 2 h.name.span
     or_earlier fault_if (is_reserved h.name.text) 3 h.name.span
     or_earlier fault_if (contradicts scope h) 19 h.name.span
-    or_earlier params_fault (at_params scope) h.params
+
+-- the earliest fault of a head
+abbrev pub head_fault : Scope → Head → Option Fault
+head_fault scope h = head_name_fault scope h or_earlier params_fault (at_params scope) h.params
 
 -- a name counts from the end of its declarator on (C11 6.2.1p7); what it meant before, it means on
 abbrev pub past_head : Scope → Head → Scope

@@ -10,5 +10,4 @@ pub mod BrokenItem
 pub mod FineItems
 pub mod UnitLaws
 pub mod Views
-pub mod HeadNames
 pub mod Gathered

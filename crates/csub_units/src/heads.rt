@@ -8,18 +8,18 @@ ghost use Rattle.csub_scopes.specs.Scopes.{a_function, find};
 ghost use Rattle.csub_tree.specs.Declarations.{head_tree, param_tree};
 ghost use Rattle.csub_bodies.specs.Views.{closed, here_of};
 ghost use Rattle.csub_units.specs.Files.{is_known, naming};
-ghost use Rattle.csub_units.specs.HeadNames.{head_name_fault};
-ghost use Rattle.csub_units.specs.Heads.{are_typed, at_params, disagrees, head_fault, is_declared_otherwise, is_other, is_taken, past_head, results_eq, types_eq};
+ghost use Rattle.csub_rules.specs.Params.{param_type};
+ghost use Rattle.csub_units.specs.Heads.{agrees, at_params, contradicts, disagrees, head_fault, head_name_fault, is_other, is_taken, params_agree, past_head, results_eq};
 
 use crate::file::{declare_name, is_known};
-use crate::params::{are_typed, check_params};
+use crate::params::{check_params, param_type};
 use csub_bodies::Here;
 use csub_check::is_reserved;
 use csub_objects::{CType, same_type};
 use csub_rules::{Fault, earlier, fault_if};
 use csub_scopes::{Counts, Meaning, Scope, Signature};
 use csub_text::Text;
-use csub_tree::{Head, TypeName};
+use csub_tree::{Head, Param, TypeName};
 use csub_types::IntKind;
 use std::alloc::{AllocError, Global};
 
@@ -81,20 +81,34 @@ fn is_same(a: &CType, b: &CType) -> bool
     same_type(a, b)
 }
 
-/// Whether types are the same, in order.
-fn same_types(a: &[CType], b: &[CType]) -> bool
-    ensures { result ≡ types_eq (map type_tree a.now) (map type_tree b.now) }
+/// Whether a parameter's type is this one; where its declaration breaks a rule, it agrees with every type. An `Err` is want
+/// of memory.
+fn agrees(alloc: Global, scope: &Scope, before: &CType, p: &Param) -> Result<bool, AllocError>
+    ensures { IfOk result (λ agree. agree ≡ agrees (type_tree before.now) (param_type (scope_of scope.now) (param_tree p.now))) }
 {
-    if a.len() != b.len() {
-        return false;
+    match param_type(alloc, scope, p)? {
+        None => Ok(true),
+        Some(own) => Ok(is_same(before, &own)),
     }
-    let mut same = true;
-    let mut i = a.len();
-    while i > 0 {
-        i -= 1;
-        same = is_same(&a[i], &b[i]) && same;
+}
+
+/// Whether parameters agree with the types of those of an earlier declaration. An `Err` is want of memory.
+fn params_agree(
+    alloc: Global,
+    scope: &Scope,
+    before: &[CType],
+    params: &[Param],
+) -> Result<bool, AllocError>
+    ensures { IfOk result (λ agree. agree ≡ params_agree (scope_of scope.now) (map type_tree before.now) (map param_tree params.now)) }
+{
+    if before.len() != params.len() {
+        return Ok(false);
     }
-    same
+    let mut agree = true;
+    for i in (0..params.len()).rev() {
+        agree = agrees(alloc, scope, &before[i], &params[i])? && agree;
+    }
+    Ok(agree)
 }
 
 fn same_results(a: Option<IntKind>, b: Option<IntKind>) -> bool
@@ -109,44 +123,41 @@ fn same_results(a: Option<IntKind>, b: Option<IntKind>) -> bool
     }
 }
 
-/// Whether a meaning is that of a function with other types.
-fn disagrees(meaning: &Meaning, types: &[CType], kind: Option<IntKind>) -> bool
-    ensures { result ≡ disagrees (meaning_of meaning.now) (map type_tree types.now) kind }
+/// Whether a meaning is that of a function with which a head disagrees. An `Err` is want of memory.
+fn disagrees(alloc: Global, meaning: &Meaning, scope: &Scope, h: &Head) -> Result<bool, AllocError>
+    ensures { IfOk result (λ other. other ≡ disagrees (meaning_of meaning.now) (scope_of scope.now) (head_tree h.now)) }
 {
     match meaning {
-        Meaning::Global(_) => false,
-        Meaning::Local(_, _) => false,
-        Meaning::Constant(_) => false,
+        Meaning::Global(_) => Ok(false),
+        Meaning::Local(_, _) => Ok(false),
+        Meaning::Constant(_) => Ok(false),
         Meaning::Function(f) => {
-            !(same_types(f.params.as_slice(), types) && same_results(f.result, kind))
+            let agree = params_agree(alloc, scope, f.params.as_slice(), h.params.as_slice())?;
+            Ok(!(agree && same_results(f.result, number_of(&h.result))))
         }
-        Meaning::Untyped => false,
+        Meaning::Untyped => Ok(false),
     }
 }
 
-/// Whether a name is declared as a function with other types.
-fn is_declared_otherwise(scope: &Scope, name: &[u8], types: &[CType], kind: Option<IntKind>) -> bool
-    ensures { result ≡ is_declared_otherwise (find name.now scope.now.names) (map type_tree types.now) kind }
+/// Whether a head disagrees with an earlier declaration of its function. An `Err` is want of memory.
+fn contradicts(alloc: Global, scope: &Scope, h: &Head) -> Result<bool, AllocError>
+    ensures { IfOk result (λ other. other ≡ contradicts (scope_of scope.now) (head_tree h.now)) }
 {
-    match scope.names.find(name) {
-        None => false,
-        Some(declared) => disagrees(&declared.meaning, types, kind),
+    match scope.names.find(h.name.text.bytes()) {
+        None => Ok(false),
+        Some(declared) => disagrees(alloc, &declared.meaning, scope, h),
     }
 }
 
-/// M2, M3 and M19 of a head with parameters of these types; nothing is said of types where one breaks a rule.
-fn check_head_name(scope: &Scope, h: &Head, types: &[CType]) -> Option<Fault>
-    ensures { result ≡ head_name_fault (scope_of scope.now) h.now.name (are_typed (scope_of scope.now) (map param_tree h.now.params.items)) (map type_tree types.now) (number_of h.now.result) }
+/// M2, M3 and M19 of a head. An `Err` is want of memory.
+fn check_head_name(alloc: Global, scope: &Scope, h: &Head) -> Result<Option<Fault>, AllocError>
+    ensures { IfOk result (λ fault. fault ≡ head_name_fault (scope_of scope.now) (head_tree h.now)) }
 {
     let name = h.name.text.bytes();
     let taken = fault_if(is_taken(scope, name), 2, h.name.span);
     let reserved = fault_if(is_reserved(name), 3, h.name.span);
-    let typed = are_typed(scope, h.params.as_slice());
-    let otherwise = is_declared_otherwise(scope, name, types, number_of(&h.result));
-    earlier(
-        earlier(taken, reserved),
-        fault_if(typed && otherwise, 19, h.name.span),
-    )
+    let other = contradicts(alloc, scope, h)?;
+    Ok(earlier(earlier(taken, reserved), fault_if(other, 19, h.name.span)))
 }
 
 /// Declares a function, where nothing of its name is declared.
@@ -178,7 +189,7 @@ pub fn check_head(alloc: Global, here: &mut Here, h: &Head) -> Result<Option<Fau
     enter_params(alloc, here);
     let params = check_params(alloc, here, h.params.as_slice())?;
     leave_params(here, mark);
-    let named = check_head_name(&here.scope, h, params.types.as_slice());
+    let named = check_head_name(alloc, &here.scope, h)?;
     declare_head(
         &mut here.scope,
         &h.name.text,

@@ -7,7 +7,8 @@
 //!
 //! [`check_unit`] gives the fault of a whole source as `unit_fault` says, and [`check_item`] that of an item in what is declared
 //! before it, a [`File`]. They take time in proportion to the source and the types that it compares, save for a hash of each
-//! name; an `Err` is want of memory, or a full count.
+//! name. An `Err` is want of memory, or a full count; [`File::new`], `heads::{number_of, enter_params, leave_params}`,
+//! `params::check_param` and those of [`laws`] have none, every other call has one.
 //!
 //! Proofs above cite the laws of each kind of item, `proofs/LawsNames` (names and tags of file scope), `LawsObjects`, `LawsStructs`,
 //! `LawsEnums` and `LawsHeads` (declared functions); of any item, `LawsItems`; of a whole source, `LawsUnits`, and `LawsFineItems`

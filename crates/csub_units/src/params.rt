@@ -1,5 +1,5 @@
 //! Parameters (C11 6.7.6.3).
-ghost use Rattle.std.specs.Prelude.{◌≡◌, ◌++◌, ◌∷◌, [], IfOk, OnOk, is_some, map, option_map};
+ghost use Rattle.std.specs.Prelude.{◌≡◌, ◌++◌, ◌∷◌, [], IfOk, OnOk, map, option_map};
 ghost use Rattle.csub_objects.specs.Meaning.{type_tree};
 ghost use Rattle.csub_objects.specs.Types.{loose_type};
 ghost use Rattle.csub_rules.specs.Declarators.{number_base};
@@ -9,7 +9,7 @@ ghost use Rattle.csub_scopes.specs.Meanings.{scope_of};
 ghost use Rattle.csub_tree.specs.Declarations.{param_tree};
 ghost use Rattle.csub_tree.specs.Expressions.{expr_tree};
 ghost use Rattle.csub_bodies.specs.Views.{here_of};
-ghost use Rattle.csub_units.specs.Heads.{are_typed, param_name_fault, param_types, params_fault, past_name, past_param, past_params, sure_type};
+ghost use Rattle.csub_units.specs.Heads.{param_name_fault, param_types, params_fault, past_name, past_param, past_params, sure_type};
 
 use csub_bodies::{Here, declare, is_declared};
 use csub_check::{Use, check_use, is_reserved};
@@ -86,27 +86,6 @@ pub fn check_param(scope: &Scope, p: &Param) -> Option<Fault>
         check_param_base(scope, p.array, &p.base),
         check_length(scope, &p.length),
     )
-}
-
-/// Whether a parameter's type is known: it breaks no rule.
-fn has_type(scope: &Scope, p: &Param) -> bool
-    ensures { result ≡ is_some (param_type (scope_of scope.now) (param_tree p.now)) }
-{
-    match p.base {
-        TypeName::Struct(_) => p.array && check_base(scope, &p.base).is_none(),
-        TypeName::Void | TypeName::Char | TypeName::Int | TypeName::Unsigned => true,
-    }
-}
-
-/// Whether the types of all parameters are known.
-pub fn are_typed(scope: &Scope, params: &[Param]) -> bool
-    ensures { result ≡ are_typed (scope_of scope.now) (map param_tree params.now) }
-{
-    let mut typed = true;
-    for i in (0..params.len()).rev() {
-        typed = has_type(scope, &params[i]) && typed;
-    }
-    typed
 }
 
 /// M2 and M3 of a parameter's name.

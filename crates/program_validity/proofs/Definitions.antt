@@ -11,7 +11,7 @@ use Rattle.csub_tree.specs.declared.name.TypeName.TheVariants as names
 use Rattle.csub_tree.specs.Declarations.{Param, Head}
 use Rattle.csub_tree.specs.Statements.{Stmts}
 use Rattle.csub_tree.specs.Units.{Item, Struct, Enum, Object, Prototype, Function}
-use Rattle.csub_objects.specs.Types.{Name, TypeTree, type_eq, kind_eq, loose_type, MemberTree}
+use Rattle.csub_objects.specs.Types.{Name, TypeTree, type_eq, kind_eq, loose_type, MemberTree, main_name}
 use Rattle.csub_objects.proofs.LawsTypes.{type_eq-Decides}
 use Rattle.csub_semantics.specs.Syntax.{FunctionTree}
 use Rattle.csub_semantics.specs.Flows.{function_in}
@@ -26,8 +26,8 @@ use Rattle.csub_rules.specs.Bodies.{body_fault}
 use Rattle.csub_rules.proofs.LawsEarlier.{neither, three_none, no_test}
 use Rattle.csub_rules.proofs.LawsServed.{both, both_parts, neither_holds, no_not}
 use Rattle.csub_units.specs.Files.{File, naming, is_known}
-use Rattle.csub_units.specs.Heads.{at_params, past_name, past_param, sure_type, param_types, signature, types_eq, results_eq, is_other, is_taken, disagrees, is_declared_otherwise, are_typed, past_head, head_fault}
-use Rattle.csub_units.specs.Items.{main_name, past_item, past_items, item_fault, items_fault, is_misdefined, is_other_main, lacks_names, has_none, in_function}
+use Rattle.csub_units.specs.Heads.{at_params, past_name, past_param, sure_type, param_types, signature, agrees, params_agree, results_eq, is_other, is_taken, disagrees, is_declared_otherwise, past_head, head_fault}
+use Rattle.csub_units.specs.Items.{past_item, past_items, item_fault, items_fault, is_misdefined, is_other_main, lacks_names, has_none, in_function}
 use Rattle.csub_units.specs.Items as items
 use Rattle.csub_units.specs.FineItems.{FineHead, FineParams, FineItems}
 use Rattle.csub_resolution.specs.Values.{Defined, params_in, params_or}
@@ -77,14 +77,21 @@ defined_types scope h = params_types (at_params (past_head scope h)) (at_params 
 
 -- ---- declarations of a function agree
 
-same_types : (ss ts : List TypeTree) → IsTrue (types_eq ss ts) → ss ≡ ts
-same_types [] [] h = refl
-same_types [] (t ∷ ts) h = absurd (cc)
-same_types (s ∷ ss) [] h = absurd (cc)
-same_types (s ∷ ss) (t ∷ ts) h =
-    let p = both_parts (type_eq s t) (types_eq ss ts) h in
-    let one : s ≡ t = (type_eq-Decides s t).0 p.0 in
-    let rest : ss ≡ ts = same_types ss ts p.1 in
+same_sure : (t : TypeTree) (o : Option TypeTree) → IsTrue (is_some o) → IsTrue (agrees t o) → t ≡ sure_type o
+same_sure t None s h = absurd (cc)
+same_sure t (Some u) s h = (type_eq-Decides t u).0 h
+
+-- parameters that can be resolved have the types with which they agree
+same_types : (here : Here) (scope : Scope) (ts : List TypeTree) (ps : List Param) → here.scope.tags ≡ scope.tags → FineParams here ps
+    → IsTrue (params_agree scope ts ps) → ts ≡ param_types here ps
+same_types here scope [] [] e f h = refl
+same_types here scope [] (p ∷ ps) e f h = absurd (cc)
+same_types here scope (t ∷ ts) [] e f h = absurd (cc)
+same_types here scope (t ∷ ts) (p ∷ ps) e f h =
+    let q = both_parts (agrees t (param_type scope p)) (params_agree scope ts ps) h in
+    let one : t ≡ sure_type (param_type here.scope p) =
+    same_sure t (param_type here.scope p) f.0 (subst (λ o. IsTrue (agrees t o)) (sym (same_type here.scope scope p e)) q.0) in
+    let rest : ts ≡ param_types (past_param here p) ps = same_types (past_param here p) scope ts ps (param_keeps_tags here p ∙ e) f.2 q.1 in
     cc
 
 same_kind : (j k : IntKind) → IsTrue (kind_eq j k) → j ≡ k
@@ -107,30 +114,26 @@ same_result (Some j) (Some k) h = ap Some (same_kind j k h)
 abbrev pub Means : Name → Scope → List TypeTree → Option IntKind → Type 0
 Means x scope ts r = option_map (λ (d : Declared). d.means) (find_name x scope.names) ≡ Some (a_function ts r)
 
-typed_params : (here : Here) (scope : Scope) (ps : List Param) → here.scope.tags ≡ scope.tags → FineParams here ps → IsTrue (are_typed scope ps)
-typed_params here scope [] e f = refl
-typed_params here scope (p ∷ ps) e f =
-    both (is_some (param_type scope p)) (are_typed scope ps) (subst (λ o. IsTrue (is_some o)) (same_type here.scope scope p e) f.0)
-    (typed_params (past_param here p) scope ps (param_keeps_tags here p ∙ e) f.2)
+not_not : (b : Bool) → IsTrue (not (not b)) → IsTrue b
+not_not true h = refl
+not_not false h = absurd (cc)
 
-no_contradiction : (typed other : Bool) → IsTrue typed → IsTrue (not (typed && other)) → other ≡ false
-no_contradiction true true t h = absurd (cc)
-no_contradiction true false t h = refl
-no_contradiction false other t h = absurd (cc)
-
-agreed : (o : Option Declared) (qs : List TypeTree) (s : Option IntKind) → IsTrue (is_some o) → IsTrue (not (is_taken o))
-    → is_declared_otherwise o qs s ≡ false → option_map (λ (d : Declared). d.means) o ≡ Some (a_function qs s)
-agreed None qs s some taken other = absurd (cc)
-agreed (Some d) qs s some taken other = by d.means taken other
+agreed : (o : Option Declared) (scope : Scope) (h : Head) → IsTrue (is_some o) → IsTrue (not (is_taken o)) → FineParams (at_params scope) h.params
+    → IsTrue (not (is_declared_otherwise o scope h))
+    → option_map (λ (d : Declared). d.means) o ≡ Some (a_function (param_types (at_params scope) h.params) (number_of h.result))
+agreed None scope h some taken f other = absurd (cc)
+agreed (Some d) scope h some taken f other = by d.means taken other
   where
-    by : (m : Meaning) → IsTrue (not (is_other m)) → disagrees m qs s ≡ false → Some m ≡ Some (a_function qs s)
+    by : (m : Meaning) → IsTrue (not (is_other m)) → IsTrue (not (disagrees m scope h))
+        → Some m ≡ Some (a_function (param_types (at_params scope) h.params) (number_of h.result))
     by (global_object t) taken other = absurd (cc)
     by (local_object n t) taken other = absurd (cc)
     by (enum_constant v) taken other = absurd (cc)
-    by (a_function ps r) taken other =
-        let p = both_parts (types_eq ps qs) (results_eq r s) (no_not (types_eq ps qs && results_eq r s) other) in
-        let types : ps ≡ qs = same_types ps qs p.0 in
-        let results : r ≡ s = same_result r s p.1 in
+    by (a_function ts r) taken other =
+        let p = both_parts (params_agree scope ts h.params) (results_eq r (number_of h.result))
+        (not_not (params_agree scope ts h.params && results_eq r (number_of h.result)) other) in
+        let types : ts ≡ param_types (at_params scope) h.params = same_types (at_params scope) scope ts h.params refl f p.0 in
+        let results : r ≡ number_of h.result = same_result r (number_of h.result) p.1 in
         cc
     by untyped taken other = absurd (cc)
 
@@ -149,8 +152,7 @@ head_means scope h f = by (is_known scope h.name.text) refl
     by : (b : Bool) → is_known scope h.name.text ≡ b
         → Means h.name.text (if b then scope else naming scope h.name.text (signature scope h)) (param_types (at_params scope) h.params) (number_of h.result)
     by true known =
-        agreed (find_name h.name.text scope.names) (param_types (at_params scope) h.params) (number_of h.result) known f.0
-        (no_contradiction (are_typed scope h.params) _ (typed_params (at_params scope) scope h.params refl f.3) f.2)
+        agreed (find_name h.name.text scope.names) scope h known f.0 f.3 f.2
     by false new = first (bytes_eq h.name.text h.name.text) (record { name = h.name.text; depth = 0; means = signature scope h }) (find_name h.name.text scope.names) mine
 
 -- ---- definitions

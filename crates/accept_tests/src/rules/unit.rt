@@ -241,6 +241,26 @@ fn declarations_of_a_function_agree(rt: HostRuntime) -> Result<(), Fail> {
                 "",
             ),
             ("int f(int); int @f(void) { return 0; }", 19, "f"),
+            (
+                "int f(void); char @f(struct none a[]) { return 0; }",
+                19,
+                "f",
+            ),
+            (
+                "int f(int a[]); char @f(struct none a[]) { return 0; }",
+                19,
+                "f",
+            ),
+            (
+                "int f(int, char); int @f(struct none, int a) { return 0; }",
+                19,
+                "f",
+            ),
+            (
+                "int f(int); int f(struct @none a[]) { return 0; }",
+                4,
+                "none",
+            ),
             ("int f(int); int @f(char a) { return 0; }", 19, "f"),
             ("int f(int); char @f(int a) { return 0; }", 19, "f"),
             ("void f(void); int @f(void) { return 0; }", 19, "f"),

@@ -21,12 +21,8 @@ returns-clause-fault c =
     params_closed scope (scope_of c.leave_params.new.here.scope) enter (here_of c.check_params.new.here) ps c.count-mark.result c.count-mark.ensures
     c.enter_params.ensures (c.in_ok-params.ensures.past ∙ ap (λ qs. past_params enter (map param_tree qs)) c.as_slice.ensures.value)
     c.leave_params.ensures in
-    let types : map type_tree c.in_ok-params.params.types.items ≡ param_types (at_params scope) ps =
-    c.in_ok-params.ensures.types ∙ ap (λ qs. param_types enter (map param_tree qs)) c.as_slice.ensures.value
-    ∙ ap (λ (h : Here). param_types h ps) c.enter_params.ensures in
-    head_told scope (scope_of c.leave_params.new.here.scope) (head_tree c.args.h.now) (map type_tree c.as_slice-2.result.now)
-    c.check_head_name-named.result c.in_ok-params.params.fault c.earlier.result left
-    (ap (λ ts. map type_tree ts) c.as_slice-2.ensures.value ∙ types) c.check_head_name-named.ensures
+    head_told scope (scope_of c.leave_params.new.here.scope) (head_tree c.args.h.now) c.in_ok-named.named c.in_ok-params.params.fault
+    c.earlier.result left c.in_ok-named.ensures
     (c.in_ok-params.ensures.fault ∙ ap (λ qs. params_fault enter (map param_tree qs)) c.as_slice.ensures.value
     ∙ ap (λ (h : Here). params_fault h ps) c.enter_params.ensures) c.earlier.ensures
 
