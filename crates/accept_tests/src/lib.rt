@@ -18,6 +18,8 @@ mod objects;
 #[cfg(test)]
 mod operators;
 #[cfg(test)]
+mod parts;
+#[cfg(test)]
 mod refusals;
 #[cfg(test)]
 mod rules;

@@ -13,7 +13,7 @@ use Rattle.csub_validity.specs.Valid.{switch_kind, IsJump}
 use Rattle.csub_core.specs.Checks.{AreOtherCases, own_kind, IsOwnJump}
 
 -- the kind of a `switch` is that of its own point
-pub switch_kind-own : (cs : List RCall) (span : Span) (own : Option LabelTree) → switch_kind (map call_stage cs ++ own_stage span own) ≡ own_kind own
+pub switch_kind-own : (cs : List RCall) (span : Span) (own : Option LabelTree) → switch_kind (map (call_stage span) cs ++ own_stage span own) ≡ own_kind own
 switch_kind-own [] span None = refl
 switch_kind-own [] span (Some label) = refl
 switch_kind-own (c ∷ []) span None = refl
@@ -28,7 +28,7 @@ some_more : (n : ℕ) → (suc n == 0) ≡ false
 some_more n = grind (arith, nat_tests)
 
 -- a `goto` is its own point
-pub IsJump-own : (cs : List RCall) (span : Span) (own : Option LabelTree) (none : Bool) → none ≡ (length cs == 0) → IsJump (map call_stage cs ++ own_stage span own) ↔ (IsTrue none × IsOwnJump own)
+pub IsJump-own : (cs : List RCall) (span : Span) (own : Option LabelTree) (none : Bool) → none ≡ (length cs == 0) → IsJump (map (call_stage span) cs ++ own_stage span own) ↔ (IsTrue none × IsOwnJump own)
 IsJump-own [] span None none is = (λ h. absurd h, λ h. absurd h.1)
 IsJump-own [] span (Some label) none is = (λ h. (is, h), λ h. h.1)
 IsJump-own (c ∷ []) span None none is = (λ h. cc, λ h. absurd h.1)

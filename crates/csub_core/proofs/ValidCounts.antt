@@ -51,7 +51,7 @@ count-Switch m p stmts =
     ap (count m) (stmt_tree-Switch p stmts) ∙ ap (λ n. count_stages m (part_tree p) (way_count stmts.items) + n) (count_list-sum_by m stmts.items)
 
 -- the last stage of a part is its own point, where it has one, and else a call
-pub last_count-own : (cs : List RCall) (span : Span) (own : Option LabelTree) → end_count own ≡ last_count (map call_stage cs ++ own_stage span own)
+pub last_count-own : (cs : List RCall) (span : Span) (own : Option LabelTree) → end_count own ≡ last_count (map (call_stage span) cs ++ own_stage span own)
 last_count-own [] span None = refl
 last_count-own [] span (Some label) = refl
 last_count-own (c ∷ []) span None = refl

@@ -34,55 +34,55 @@ module _ (P : ProgramTree) (f : FunctionTree) (sc : Scope) where
   FitFrom-calls cs = (FitFrom-at 1 cs, FitFrom-all 1 cs)
 
   -- a call before the last stage
-  AreStages-more : (role : Role) (k : ℕ) (c : RCall) (cs : List RCall) (s : Stage) → AreStages P f sc role k (call_stage c ∷ (map call_stage cs ++ s ∷ [])) ↔ (IsCall P sc f.temps k (call_tree c.label) × AreStages P f sc role (k + 1) (map call_stage cs ++ s ∷ []))
-  AreStages-more role k c [] s = (λ h. h, λ h. h)
-  AreStages-more role k c (d ∷ cs) s = (λ h. h, λ h. h)
+  AreStages-more : (span : Span) (role : Role) (k : ℕ) (c : RCall) (cs : List RCall) (s : Stage) → AreStages P f sc role k (call_stage span c ∷ (map (call_stage span) cs ++ s ∷ [])) ↔ (IsCall P sc f.temps k (call_tree c.label) × AreStages P f sc role (k + 1) (map (call_stage span) cs ++ s ∷ []))
+  AreStages-more span role k c [] s = (λ h. h, λ h. h)
+  AreStages-more span role k c (d ∷ cs) s = (λ h. h, λ h. h)
 
-  AreStages-own : (role : Role) (k : ℕ) (cs : List RCall) (s : Stage) → AreStages P f sc role k (map call_stage cs ++ s ∷ []) ↔ (FitFrom k cs × IsLast P f sc role (length cs + k) s.label)
-  AreStages-own role k [] s =
+  AreStages-own : (span : Span) (role : Role) (k : ℕ) (cs : List RCall) (s : Stage) → AreStages P f sc role k (map (call_stage span) cs ++ s ∷ []) ↔ (FitFrom k cs × IsLast P f sc role (length cs + k) s.label)
+  AreStages-own span role k [] s =
       let same : 0 + k ≡ k = omega arith in
       (λ h. (tt, subst (λ n. IsLast P f sc role n s.label) (sym same) h), λ h. subst (λ n. IsLast P f sc role n s.label) same h.1)
-  AreStages-own role k (c ∷ cs) s =
-      let more = AreStages-more role k c cs s in
-      let rest = AreStages-own role (k + 1) cs s in
+  AreStages-own span role k (c ∷ cs) s =
+      let more = AreStages-more span role k c cs s in
+      let rest = AreStages-own span role (k + 1) cs s in
       let same : length cs + (k + 1) ≡ suc (length cs) + k = omega arith in (
         λ h. let both = more.0 h in let others = rest.0 both.1 in ((both.0, others.0), subst (λ n. IsLast P f sc role n s.label) same others.1),
         λ h. more.1 (h.0.0, rest.1 (h.0.1, subst (λ n. IsLast P f sc role n s.label) (sym same) h.1)),
       )
 
-  AreStages-calls : (k : ℕ) (c : RCall) (cs : List RCall) → AreStages P f sc Whole k (map call_stage (c ∷ cs) ++ []) ↔ FitFrom k (c ∷ cs)
-  AreStages-calls k c [] = (λ h. (h, tt), λ h. h.0)
-  AreStages-calls k c (d ∷ cs) = let rest = AreStages-calls (k + 1) d cs in (λ h. (h.0, rest.0 h.1), λ h. (h.0, rest.1 h.1))
+  AreStages-calls : (span : Span) (k : ℕ) (c : RCall) (cs : List RCall) → AreStages P f sc Whole k (map (call_stage span) (c ∷ cs) ++ []) ↔ FitFrom k (c ∷ cs)
+  AreStages-calls span k c [] = (λ h. (h, tt), λ h. h.0)
+  AreStages-calls span k c (d ∷ cs) = let rest = AreStages-calls span (k + 1) d cs in (λ h. (h.0, rest.0 h.1), λ h. (h.0, rest.1 h.1))
 
-  AreStages-effects : (k : ℕ) (c : RCall) (cs : List RCall) → AreStages P f sc Effect k (map call_stage (c ∷ cs) ++ []) ↔ FitFrom k (c ∷ cs)
-  AreStages-effects k c [] = (λ h. (h, tt), λ h. h.0)
-  AreStages-effects k c (d ∷ cs) = let rest = AreStages-effects (k + 1) d cs in (λ h. (h.0, rest.0 h.1), λ h. (h.0, rest.1 h.1))
+  AreStages-effects : (span : Span) (k : ℕ) (c : RCall) (cs : List RCall) → AreStages P f sc Effect k (map (call_stage span) (c ∷ cs) ++ []) ↔ FitFrom k (c ∷ cs)
+  AreStages-effects span k c [] = (λ h. (h, tt), λ h. h.0)
+  AreStages-effects span k c (d ∷ cs) = let rest = AreStages-effects span (k + 1) d cs in (λ h. (h.0, rest.0 h.1), λ h. (h.0, rest.1 h.1))
 
-  AreStages-test : (k : ℕ) (cs : List RCall) → AreStages P f sc Test k (map call_stage cs ++ []) → ⊥
-  AreStages-test k [] h = h
-  AreStages-test k (c ∷ []) h = h
-  AreStages-test k (c ∷ d ∷ cs) h = AreStages-test (k + 1) (d ∷ cs) h.1
+  AreStages-test : (span : Span) (k : ℕ) (cs : List RCall) → AreStages P f sc Test k (map (call_stage span) cs ++ []) → ⊥
+  AreStages-test span k [] h = h
+  AreStages-test span k (c ∷ []) h = h
+  AreStages-test span k (c ∷ d ∷ cs) h = AreStages-test span (k + 1) (d ∷ cs) h.1
 
-  AreStages-switch : (k : ℕ) (cs : List RCall) → AreStages P f sc Switch k (map call_stage cs ++ []) → ⊥
-  AreStages-switch k [] h = h
-  AreStages-switch k (c ∷ []) h = h
-  AreStages-switch k (c ∷ d ∷ cs) h = AreStages-switch (k + 1) (d ∷ cs) h.1
+  AreStages-switch : (span : Span) (k : ℕ) (cs : List RCall) → AreStages P f sc Switch k (map (call_stage span) cs ++ []) → ⊥
+  AreStages-switch span k [] h = h
+  AreStages-switch span k (c ∷ []) h = h
+  AreStages-switch span k (c ∷ d ∷ cs) h = AreStages-switch span (k + 1) (d ∷ cs) h.1
 
   -- a part has calls that fit, and then what may stand last
-  pub AreStages-split : (role : Role) (cs : List RCall) (span : Span) (own : Option LabelTree) → AreStages P f sc role 1 (map call_stage cs ++ own_stage span own) ↔ (AreCalls P sc f.temps cs × IsEnd P f sc role (length cs) own)
+  pub AreStages-split : (role : Role) (cs : List RCall) (span : Span) (own : Option LabelTree) → AreStages P f sc role 1 (map (call_stage span) cs ++ own_stage span own) ↔ (AreCalls P sc f.temps cs × IsEnd P f sc role (length cs) own)
   AreStages-split role cs span (Some label) =
-      let parts = AreStages-own role 1 cs (record { label = label; span = span }) in
+      let parts = AreStages-own span role 1 cs (record { label = label; span = span; part = span }) in
       let fit = FitFrom-calls cs in
       (λ h. let both = parts.0 h in (fit.0 both.0, both.1), λ h. parts.1 (fit.1 h.0, h.1))
   AreStages-split Whole [] span None = (λ h. absurd h, λ h. absurd (omega (arith, h.1)))
   AreStages-split Whole (c ∷ cs) span None =
-      let parts = AreStages-calls 1 c cs in
+      let parts = AreStages-calls span 1 c cs in
       let fit = FitFrom-calls (c ∷ cs) in
       (λ h. (fit.0 (parts.0 h), omega arith), λ h. parts.1 (fit.1 h.0))
   AreStages-split Effect [] span None = (λ h. absurd h, λ h. absurd (omega (arith, h.1)))
   AreStages-split Effect (c ∷ cs) span None =
-      let parts = AreStages-effects 1 c cs in
+      let parts = AreStages-effects span 1 c cs in
       let fit = FitFrom-calls (c ∷ cs) in
       (λ h. (fit.0 (parts.0 h), omega arith), λ h. parts.1 (fit.1 h.0))
-  AreStages-split Test cs span None = (λ h. absurd (AreStages-test 1 cs h), λ h. absurd h.1)
-  AreStages-split Switch cs span None = (λ h. absurd (AreStages-switch 1 cs h), λ h. absurd h.1)
+  AreStages-split Test cs span None = (λ h. absurd (AreStages-test span 1 cs h), λ h. absurd h.1)
+  AreStages-split Switch cs span None = (λ h. absurd (AreStages-switch span 1 cs h), λ h. absurd h.1)

@@ -73,7 +73,7 @@ pub undeclared_of_map : (ps : List RPart) → All (λ p. declares p ≡ false) (
 undeclared_of_map ps = All-of_map (λ p. declares p ≡ false) part_tree ps
 
 -- a part declares what its own point declares
-pub declares_own : (cs : List RCall) (span : Span) (own : Option LabelTree) → declared_own own ≡ declares (map call_stage cs ++ own_stage span own)
+pub declares_own : (cs : List RCall) (span : Span) (own : Option LabelTree) → declared_own own ≡ declares (map (call_stage span) cs ++ own_stage span own)
 declares_own [] span None = refl
 declares_own [] span (Some label) = or_none (is_declared label)
   where

@@ -37,7 +37,7 @@ fn span_of_main(functions: &[Function]) -> Span
 
 /// The call of `main` into the temporary 1, named by a place.
 fn start_part(alloc: Global, at: Span) -> Result<Box<RPart>, AllocError>
-    ensures { IfOk result (λ made. part_tree made.value ≡ record { label = start_call; span = at } ∷ []) }
+    ensures { IfOk result (λ made. part_tree made.value ≡ record { label = start_call; span = at; part = at } ∷ []) }
 {
     let label = CallLabel {
         callee: Text::new(alloc, b"main")?,
@@ -60,7 +60,7 @@ fn start_part(alloc: Global, at: Span) -> Result<Box<RPart>, AllocError>
 
 /// The parts of the one line of `#start`.
 fn start_row(alloc: Global, at: Span) -> Result<Vec<RPart>, AllocError>
-    ensures { IfOk result (λ made. map part_tree made.items ≡ (record { label = start_call; span = at } ∷ []) ∷ []) }
+    ensures { IfOk result (λ made. map part_tree made.items ≡ (record { label = start_call; span = at; part = at } ∷ []) ∷ []) }
 {
     let part = start_part(alloc, at)?;
     let mut row = Vec::new(alloc);
@@ -70,14 +70,14 @@ fn start_row(alloc: Global, at: Span) -> Result<Vec<RPart>, AllocError>
 
 /// The one line of `#start`.
 fn start_line(alloc: Global, at: Span) -> Result<Box<RStmt>, AllocError>
-    ensures { IfOk result (λ made. stmt_tree made.value ≡ parts ((record { label = start_call; span = at } ∷ []) ∷ [])) }
+    ensures { IfOk result (λ made. stmt_tree made.value ≡ parts ((record { label = start_call; span = at; part = at } ∷ []) ∷ [])) }
 {
     parts_node(alloc, start_row(alloc, at)?)
 }
 
 /// The body of `#start`.
 fn start_body(alloc: Global, at: Span) -> Result<Vec<RStmt>, AllocError>
-    ensures { IfOk result (λ made. stmts_of (map stmt_tree made.items) ≡ more_stmts (parts ((record { label = start_call; span = at } ∷ []) ∷ [])) no_stmt) }
+    ensures { IfOk result (λ made. stmts_of (map stmt_tree made.items) ≡ more_stmts (parts ((record { label = start_call; span = at; part = at } ∷ []) ∷ [])) no_stmt) }
 {
     let line = start_line(alloc, at)?;
     let mut body = Vec::new(alloc);

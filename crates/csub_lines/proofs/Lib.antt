@@ -2,3 +2,4 @@ mod Zeros
 mod Numbers
 mod Objects
 mod Effects
+mod Placed

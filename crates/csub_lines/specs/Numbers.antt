@@ -1,12 +1,12 @@
 -- Initialisers of objects of functions, whatever the types of the objects. No definition of what a source stands for needs
 -- this file.
-use Rattle.std.specs.Prelude.{ℕ, ◌+◌, false, List, [], ◌∷◌, ◌++◌, Option, Some, None, IsTrue}
+use Rattle.std.specs.Prelude.{ℕ, ◌+◌, false, List, [], ◌∷◌, ◌++◌, map, Option, Some, None, IsTrue}
 use Rattle.csub_tree.specs.Declarations.{Init, Inits, One, Listed, NoInits, MoreInits}
 use Rattle.csub_tree.specs.declared.name.Name.{Name as NameAt}
 use Rattle.csub_objects.specs.Types.{TypeTree}
 use Rattle.csub_semantics.specs.Trees.{local_owner}
 use Rattle.csub_semantics.specs.Labels.{InitTree, initialises}
-use Rattle.csub_semantics.specs.Syntax.{PartTree}
+use Rattle.csub_semantics.specs.Syntax.{PartTree, in_part}
 use Rattle.csub_scopes.specs.Scopes.{Scope}
 use Rattle.csub_rules.specs.Sorts.{is_number}
 use Rattle.csub_rules.specs.ExprSorts.{sort_of}
@@ -36,7 +36,8 @@ value_list scope k (MoreInits x rest) = init_value scope k x ∷ value_list scop
 
 -- the part of a declared object, where it has an initialiser
 abbrev pub part_of_object : List Defined → Scope → NameAt → ℕ → TypeTree → Init → PartTree
-part_of_object defined scope x n t i = init_calls defined scope 0 i ++ own (initialises (local_owner x.text n) t (init_value scope 0 i)) x.span
+part_of_object defined scope x n t i =
+    map (in_part x.span) (init_calls defined scope 0 i) ++ own (initialises (local_owner x.text n) t (init_value scope 0 i)) x.span
 
 abbrev pub parts_of_object : List Defined → Scope → NameAt → ℕ → TypeTree → Option Init → List PartTree
 parts_of_object defined scope x n t None = []

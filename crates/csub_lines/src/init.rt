@@ -2,7 +2,7 @@
 ghost use Rattle.std.specs.Prelude.{◌≡◌, ◌+◌, ◌++◌, IfOk, OnOk, length, map};
 ghost use Rattle.csub_scopes.specs.Meanings.{scope_of};
 ghost use Rattle.csub_semantics.specs.Labels.{init_tree as made_tree, inits_of as made_list, listed, one_value};
-ghost use Rattle.csub_semantics.specs.Syntax.{call_stage};
+ghost use Rattle.csub_semantics.specs.Syntax.{call_at};
 ghost use Rattle.csub_semantics.specs.Trees.{expr_tree as value_tree};
 ghost use Rattle.csub_tree.specs.Declarations.{Listed, init_tree, inits_of};
 ghost use Rattle.csub_resolution.specs.Contents.{init_calls, init_count, init_value, init_values, inits_calls, inits_count};
@@ -50,7 +50,7 @@ pub(crate) fn lower_init(
 ) -> Result<Box<RInit>, AllocError>
     requires { AreNumbers (scope_of known.scope.now) (init_tree init.now) }
     ensures tree { IfOk result (λ value. made_tree value.value ≡ init_value (scope_of known.entry.scope.now) (length made.old.items) (init_tree init.now)) }
-    ensures calls { OnOk result (map call_stage made.new.items ≡ map call_stage made.old.items ++ init_calls known.entry.definitions.now (scope_of known.entry.scope.now) (length made.old.items) (init_tree init.now)) }
+    ensures calls { OnOk result (map call_at made.new.items ≡ map call_at made.old.items ++ init_calls known.entry.definitions.now (scope_of known.entry.scope.now) (length made.old.items) (init_tree init.now)) }
     ensures count { OnOk result (length made.new.items ≡ length made.old.items + init_count (scope_of known.entry.scope.now) (init_tree init.now)) }
 {
     match init {
@@ -72,7 +72,7 @@ fn lower_entries(
 ) -> Result<Vec<RInit>, AllocError>
     requires { AllNumbers (scope_of known.scope.now) (inits_of (map init_tree entries.now)) }
     ensures trees { IfOk result (λ values. made_list (map made_tree values.items) ≡ init_values (scope_of known.entry.scope.now) (length made.old.items) (inits_of (map init_tree entries.now))) }
-    ensures calls { OnOk result (map call_stage made.new.items ≡ map call_stage made.old.items ++ inits_calls known.entry.definitions.now (scope_of known.entry.scope.now) (length made.old.items) (inits_of (map init_tree entries.now))) }
+    ensures calls { OnOk result (map call_at made.new.items ≡ map call_at made.old.items ++ inits_calls known.entry.definitions.now (scope_of known.entry.scope.now) (length made.old.items) (inits_of (map init_tree entries.now))) }
     ensures count { OnOk result (length made.new.items ≡ length made.old.items + inits_count (scope_of known.entry.scope.now) (inits_of (map init_tree entries.now))) }
 {
     let mut values = Vec::new(alloc);

@@ -4,7 +4,7 @@ ghost use Rattle.csub_types.specs.declared.kind.IntKind.TheVariants.{Int};
 ghost use Rattle.csub_objects.specs.Meaning.{type_tree};
 ghost use Rattle.csub_scopes.specs.Meanings.{scope_of};
 ghost use Rattle.csub_semantics.specs.Labels.{answer_tree, branches, evaluates, halts, init_tree as made_tree, initialises, jumps, label_tree, returns, switches};
-ghost use Rattle.csub_semantics.specs.Syntax.{call_stage, part_tree};
+ghost use Rattle.csub_semantics.specs.Syntax.{call_at, in_part, part_tree};
 ghost use Rattle.csub_semantics.specs.Trees.{constant, expr_tree as value_tree, local_owner};
 ghost use Rattle.csub_tree.specs.Declarations.{init_tree};
 ghost use Rattle.csub_tree.specs.Expressions.{expr_tree};
@@ -42,7 +42,7 @@ struct Number {
 fn first_number(alloc: Global, known: Known, e: &Expr) -> Result<Number, AllocError>
     requires fine { Fine (scope_of known.scope.now) false (expr_tree e.now) }
     requires number { IsTrue (is_number (sort_of (scope_of known.scope.now) (expr_tree e.now))) }
-    ensures calls { IfOk result (λ n. map call_stage n.calls.items ≡ calls_in known.entry.definitions.now (scope_of known.entry.scope.now) (expr_tree e.now)) }
+    ensures calls { IfOk result (λ n. map call_at n.calls.items ≡ calls_in known.entry.definitions.now (scope_of known.entry.scope.now) (expr_tree e.now)) }
     ensures value { IfOk result (λ n. value_tree n.value.value ≡ value (scope_of known.entry.scope.now) (expr_tree e.now)) }
 {
     let mut calls = Vec::new(alloc);
@@ -51,21 +51,23 @@ fn first_number(alloc: Global, known: Known, e: &Expr) -> Result<Number, AllocEr
 }
 
 /// The part of calls and of a point of its own at a place.
+#[tactic(auto, using(crate::proofs::Placed::placed))]
 fn own_part(
     alloc: Global,
     calls: Vec<RCall>,
     label: Box<Label>,
     span: Span,
 ) -> Result<Box<RPart>, AllocError>
-    ensures { IfOk result (λ part. part_tree part.value ≡ map call_stage calls.items ++ own (label_tree label.value) span) }
+    ensures { IfOk result (λ part. part_tree part.value ≡ map (in_part span) (map call_at calls.items) ++ own (label_tree label.value) span) }
 {
     let main = Some(Box::into_inner(label));
     boxed_part(alloc, RPart { calls, main, span })
 }
 
-/// The part of calls alone.
+/// The part of calls alone, at a place.
+#[tactic(auto, using(crate::proofs::Placed::placed, crate::proofs::Placed::alone))]
 fn calls_part(alloc: Global, calls: Vec<RCall>, span: Span) -> Result<Box<RPart>, AllocError>
-    ensures { IfOk result (λ part. part_tree part.value ≡ map call_stage calls.items) }
+    ensures { IfOk result (λ part. part_tree part.value ≡ map (in_part span) (map call_at calls.items)) }
 {
     let main = None;
     boxed_part(alloc, RPart { calls, main, span })
@@ -137,10 +139,11 @@ fn init_label(
     boxed_label(alloc, Label::Init(owner, ctype, Box::into_inner(value)))
 }
 
-/// The part of an expression that is itself a call of one of the source's functions, which has no point of its own beside it.
+/// The part of an expression that is itself a call of one of the source's functions, which has no point of its own beside it
+/// and stands at the expression's first token.
 fn call_part(alloc: Global, known: Known, e: &Expr) -> Result<Box<RPart>, AllocError>
     requires { Fine (scope_of known.scope.now) false (expr_tree e.now) }
-    ensures { IfOk result (λ part. part_tree part.value ≡ calls_in known.entry.definitions.now (scope_of known.entry.scope.now) (expr_tree e.now)) }
+    ensures { IfOk result (λ part. part_tree part.value ≡ map (in_part (first_token (expr_tree e.now))) (calls_in known.entry.definitions.now (scope_of known.entry.scope.now) (expr_tree e.now))) }
 {
     let mut calls = Vec::new(alloc);
     let _given = lower(alloc, known, e, &mut calls)?;
@@ -151,7 +154,7 @@ fn call_part(alloc: Global, known: Known, e: &Expr) -> Result<Box<RPart>, AllocE
 fn value_part(alloc: Global, known: Known, e: &Expr) -> Result<Box<RPart>, AllocError>
     requires fine { Fine (scope_of known.scope.now) false (expr_tree e.now) }
     requires number { IsTrue (is_number (sort_of (scope_of known.scope.now) (expr_tree e.now))) }
-    ensures { IfOk result (λ part. part_tree part.value ≡ calls_in known.entry.definitions.now (scope_of known.entry.scope.now) (expr_tree e.now) ++ own (evaluates (value (scope_of known.entry.scope.now) (expr_tree e.now))) (first_token (expr_tree e.now))) }
+    ensures { IfOk result (λ part. part_tree part.value ≡ map (in_part (first_token (expr_tree e.now))) (calls_in known.entry.definitions.now (scope_of known.entry.scope.now) (expr_tree e.now)) ++ own (evaluates (value (scope_of known.entry.scope.now) (expr_tree e.now))) (first_token (expr_tree e.now))) }
 {
     let number = first_number(alloc, known, e)?;
     let label = eval_label(alloc, number.value)?;

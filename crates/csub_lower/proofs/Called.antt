@@ -11,7 +11,7 @@ use Rattle.csub_tree.specs.Expressions.{Choose, Assign, Call, Index, Member, NoE
 use Rattle.csub_objects.specs.Types.{number_type}
 use Rattle.csub_scopes.specs.Scopes.{Scope}
 use Rattle.csub_semantics.specs.declared.expression.Piece.{Piece}
-use Rattle.csub_semantics.specs.Syntax.{Stage}
+use Rattle.csub_semantics.specs.Syntax.{CallAt}
 use Rattle.csub_semantics.specs.Trees.{NamedPlace, NamedExpr, more_exprs, exprs_of, input_byte, output_byte, formatted}
 use Rattle.csub_rules.specs.Sorts.{Sort, a_value, sort_if}
 use Rattle.csub_rules.specs.Callees.{Callee, getchar_function, putchar_function, printf_function, callee_of, take_all, are_numbers}
@@ -62,7 +62,7 @@ made_by scope k f es s c m callee sort_is place_is value_is =
     }
 
 -- a call of the library makes no call of its own
-pub no_own_calls : (defined : List Defined) (scope : Scope) (k : ℕ) (f : NameAt) (es : Exprs) (c : Callee) (old new : List Stage)
+pub no_own_calls : (defined : List Defined) (scope : Scope) (k : ℕ) (f : NameAt) (es : Exprs) (c : Callee) (old new : List CallAt)
     → c ≡ callee_of scope f.text → own_call defined scope f es k (k + count_all scope es + 1) c ≡ [] → new ≡ old ++ calls_in_all defined scope k es
     → new ≡ old ++ calls_in_kind defined scope k (Call f es)
 no_own_calls defined scope k f es c old new callee none made =
@@ -85,7 +85,7 @@ input_made scope k f es s m callee fine sort_is place_is value_is =
     made_by scope k f es s getchar_function m callee (ap (λ xs. call_sort getchar_function xs (sorts_of scope xs)) none ∙ sym sort_is) (sym place_is)
     (sym value_is)
 
-pub input_calls : (defined : List Defined) (scope : Scope) (k : ℕ) (f : NameAt) (es : Exprs) (old : List Stage) → getchar_function ≡ callee_of scope f.text
+pub input_calls : (defined : List Defined) (scope : Scope) (k : ℕ) (f : NameAt) (es : Exprs) (old : List CallAt) → getchar_function ≡ callee_of scope f.text
     → FineKind scope false (Call f es) → old ≡ old ++ calls_in_kind defined scope k (Call f es)
 input_calls defined scope k f es old callee fine =
     let none : es ≡ NoExprs = input_fits scope (callee_of scope f.text) es (sym callee) fine in
@@ -180,7 +180,7 @@ printed_made defined scope k f args s m ps vs callee fine pieces made sort_is pl
     made_by scope k f (trees args) s printf_function m callee (b.sort_is ∙ sym sort_is) (sym place_is)
     (ap (λ xs. formatted (format_of (trees args)) xs) (b.values_is ∙ ap exprs_of (sym made)) ∙ ap (λ xs. formatted xs (exprs_of vs)) (sym pieces) ∙ sym value_is)
 
-pub printed_calls : (defined : List Defined) (scope : Scope) (k : ℕ) (f : NameAt) (args : List CodeExpr) (old new : List Stage)
+pub printed_calls : (defined : List Defined) (scope : Scope) (k : ℕ) (f : NameAt) (args : List CodeExpr) (old new : List CallAt)
     → printf_function ≡ callee_of scope f.text → FineKind scope false (Call f (trees args))
     → new ≡ old ++ calls_in_all defined scope k (trees (drop 1 args)) → new ≡ old ++ calls_in_kind defined scope k (Call f (trees args))
 printed_calls defined scope k f args old new callee fine made =

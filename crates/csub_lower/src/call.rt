@@ -5,7 +5,7 @@ ghost use Rattle.csub_objects.specs.Meaning.{member_tree};
 ghost use Rattle.csub_scopes.specs.Meanings.{scope_of};
 ghost use Rattle.csub_semantics.specs.Trees.{arg_tree};
 ghost use Rattle.csub_semantics.specs.Labels.{calls, call_tree};
-ghost use Rattle.csub_semantics.specs.Syntax.{call_stage};
+ghost use Rattle.csub_semantics.specs.Syntax.{call_at};
 ghost use Rattle.csub_validity.specs.Valid.{temp_of};
 ghost use Rattle.csub_rules.specs.Callees.{result_sort};
 ghost use Rattle.csub_check.specs.Seen.{the_callee};
@@ -146,7 +146,7 @@ pub(crate) fn make_call<'t>(
     ensures sort { IfOk result (λ m. made_sort m ≡ result_sort gives) }
     ensures place { IfOk result (λ m. made_place m ≡ no_place) }
     ensures value { IfOk result (λ m. made_value m ≡ result_value gives (length made.old.items + 1)) }
-    ensures calls { OnOk result (map call_stage made.new.items ≡ map call_stage made.old.items
+    ensures calls { OnOk result (map call_at made.new.items ≡ map call_at made.old.items
         ++ record { label = calls (record { callee = f.now.text; params = params_in definitions.now f.now.text; result = gives; args = map arg_tree args.items; temp = temp_of gives (length made.old.items + 1) }); span = f.now.span } ∷ []) }
     ensures count { OnOk result (length made.new.items ≡ length made.old.items + 1) }
 {

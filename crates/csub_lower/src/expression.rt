@@ -4,7 +4,7 @@ ghost use Rattle.csub_tree.specs.Expressions.{Call, Node, expr_tree, exprs_of};
 ghost use Rattle.csub_objects.specs.Meaning.{type_tree};
 ghost use Rattle.csub_scopes.specs.Meanings.{scope_of};
 ghost use Rattle.csub_semantics.specs.Trees.{arg_tree, expr_tree as value_tree};
-ghost use Rattle.csub_semantics.specs.Syntax.{call_stage};
+ghost use Rattle.csub_semantics.specs.Syntax.{call_at};
 ghost use Rattle.csub_rules.specs.Sorts.{is_number};
 ghost use Rattle.csub_rules.specs.Callees.{take_all};
 ghost use Rattle.csub_rules.specs.ExprSorts.{sort_of, sorts_of};
@@ -43,7 +43,7 @@ pub fn lower<'t>(
 ) -> Result<Made<'t>, AllocError>
     requires { Fine (scope_of known.scope.now) false (expr_tree e.now) }
     ensures made { IfOk result (λ m. IsMade (scope_of known.entry.scope.now) (length made.old.items) (expr_tree e.now) m) }
-    ensures calls { OnOk result (map call_stage made.new.items ≡ map call_stage made.old.items ++ calls_in known.entry.definitions.now (scope_of known.entry.scope.now) (length made.old.items) (expr_tree e.now)) }
+    ensures calls { OnOk result (map call_at made.new.items ≡ map call_at made.old.items ++ calls_in known.entry.definitions.now (scope_of known.entry.scope.now) (length made.old.items) (expr_tree e.now)) }
     ensures count { OnOk result (length made.new.items ≡ length made.old.items + count (scope_of known.entry.scope.now) (expr_tree e.now)) }
 {
     match &e.kind {
@@ -96,7 +96,7 @@ fn number_of(
     requires fine { Fine (scope_of known.scope.now) false (expr_tree e.now) }
     requires number { IsTrue (is_number (sort_of (scope_of known.scope.now) (expr_tree e.now))) }
     ensures number { IfOk result (λ n. IsNumber (scope_of known.entry.scope.now) (length made.old.items) (expr_tree e.now) n) }
-    ensures calls { OnOk result (map call_stage made.new.items ≡ map call_stage made.old.items ++ calls_in known.entry.definitions.now (scope_of known.entry.scope.now) (length made.old.items) (expr_tree e.now)) }
+    ensures calls { OnOk result (map call_at made.new.items ≡ map call_at made.old.items ++ calls_in known.entry.definitions.now (scope_of known.entry.scope.now) (length made.old.items) (expr_tree e.now)) }
     ensures count { OnOk result (length made.new.items ≡ length made.old.items + count (scope_of known.entry.scope.now) (expr_tree e.now)) }
 {
     to_number(alloc, lower(alloc, known, e, made)?)
@@ -117,7 +117,7 @@ fn two_numbers(
     requires second_number { IsTrue (is_number (sort_of (scope_of known.scope.now) (expr_tree b.now))) }
     ensures first { IfOk result (λ p. IsNumber (scope_of known.entry.scope.now) (length made.old.items) (expr_tree a.now) p.0) }
     ensures second { IfOk result (λ p. IsNumber (scope_of known.entry.scope.now) (length made.old.items + count (scope_of known.entry.scope.now) (expr_tree a.now)) (expr_tree b.now) p.1) }
-    ensures calls { OnOk result (map call_stage made.new.items ≡ map call_stage made.old.items ++ (calls_in known.entry.definitions.now (scope_of known.entry.scope.now) (length made.old.items) (expr_tree a.now)
+    ensures calls { OnOk result (map call_at made.new.items ≡ map call_at made.old.items ++ (calls_in known.entry.definitions.now (scope_of known.entry.scope.now) (length made.old.items) (expr_tree a.now)
         ++ calls_in known.entry.definitions.now (scope_of known.entry.scope.now) (length made.old.items + count (scope_of known.entry.scope.now) (expr_tree a.now)) (expr_tree b.now))) }
     ensures count { OnOk result (length made.new.items ≡ length made.old.items + (count (scope_of known.entry.scope.now) (expr_tree a.now) + count (scope_of known.entry.scope.now) (expr_tree b.now))) }
 {
@@ -141,7 +141,7 @@ fn made_and_number<'t>(
     requires second_number { IsTrue (is_number (sort_of (scope_of known.scope.now) (expr_tree b.now))) }
     ensures first { IfOk result (λ p. IsMade (scope_of known.entry.scope.now) (length made.old.items) (expr_tree a.now) p.0) }
     ensures second { IfOk result (λ p. IsNumber (scope_of known.entry.scope.now) (length made.old.items + count (scope_of known.entry.scope.now) (expr_tree a.now)) (expr_tree b.now) p.1) }
-    ensures calls { OnOk result (map call_stage made.new.items ≡ map call_stage made.old.items ++ (calls_in known.entry.definitions.now (scope_of known.entry.scope.now) (length made.old.items) (expr_tree a.now)
+    ensures calls { OnOk result (map call_at made.new.items ≡ map call_at made.old.items ++ (calls_in known.entry.definitions.now (scope_of known.entry.scope.now) (length made.old.items) (expr_tree a.now)
         ++ calls_in known.entry.definitions.now (scope_of known.entry.scope.now) (length made.old.items + count (scope_of known.entry.scope.now) (expr_tree a.now)) (expr_tree b.now))) }
     ensures count { OnOk result (length made.new.items ≡ length made.old.items + (count (scope_of known.entry.scope.now) (expr_tree a.now) + count (scope_of known.entry.scope.now) (expr_tree b.now))) }
 {
@@ -161,7 +161,7 @@ fn call<'t>(
 ) -> Result<Made<'t>, AllocError>
     requires { FineKind (scope_of known.scope.now) false (Call f.now (exprs_of (map expr_tree args.now))) }
     ensures made { IfOk result (λ m. IsMade (scope_of known.entry.scope.now) (length made.old.items) (Node (Call f.now (exprs_of (map expr_tree args.now))) f.now.span) m) }
-    ensures calls { OnOk result (map call_stage made.new.items ≡ map call_stage made.old.items ++ calls_in_kind known.entry.definitions.now (scope_of known.entry.scope.now) (length made.old.items) (Call f.now (exprs_of (map expr_tree args.now)))) }
+    ensures calls { OnOk result (map call_at made.new.items ≡ map call_at made.old.items ++ calls_in_kind known.entry.definitions.now (scope_of known.entry.scope.now) (length made.old.items) (Call f.now (exprs_of (map expr_tree args.now)))) }
     ensures count { OnOk result (length made.new.items ≡ length made.old.items + count_kind (scope_of known.entry.scope.now) (Call f.now (exprs_of (map expr_tree args.now)))) }
 {
     match callee_of(known.scope, f.text.bytes()) {
@@ -197,7 +197,7 @@ fn arguments(
     requires fine { FineEach (scope_of known.scope.now) (exprs_of (map expr_tree args.now)) }
     requires taken { IsTrue (take_all (map type_tree types.now) (sorts_of (scope_of known.scope.now) (exprs_of (map expr_tree args.now)))) }
     ensures args { IfOk result (λ v. map arg_tree v.items ≡ arguments (scope_of known.entry.scope.now) (length made.old.items) (map type_tree types.now) (exprs_of (map expr_tree args.now))) }
-    ensures calls { OnOk result (map call_stage made.new.items ≡ map call_stage made.old.items ++ calls_in_all known.entry.definitions.now (scope_of known.entry.scope.now) (length made.old.items) (exprs_of (map expr_tree args.now))) }
+    ensures calls { OnOk result (map call_at made.new.items ≡ map call_at made.old.items ++ calls_in_all known.entry.definitions.now (scope_of known.entry.scope.now) (length made.old.items) (exprs_of (map expr_tree args.now))) }
     ensures count { OnOk result (length made.new.items ≡ length made.old.items + count_all (scope_of known.entry.scope.now) (exprs_of (map expr_tree args.now))) }
 {
     let mut values = Vec::new(alloc);
@@ -221,7 +221,7 @@ fn numbers(
 ) -> Result<Vec<RExpr>, AllocError>
     requires { FineNumbers (scope_of known.scope.now) (exprs_of (map expr_tree args.now)) }
     ensures values { IfOk result (λ v. map value_tree v.items ≡ value_list (scope_of known.entry.scope.now) (length made.old.items) (exprs_of (map expr_tree args.now))) }
-    ensures calls { OnOk result (map call_stage made.new.items ≡ map call_stage made.old.items ++ calls_in_all known.entry.definitions.now (scope_of known.entry.scope.now) (length made.old.items) (exprs_of (map expr_tree args.now))) }
+    ensures calls { OnOk result (map call_at made.new.items ≡ map call_at made.old.items ++ calls_in_all known.entry.definitions.now (scope_of known.entry.scope.now) (length made.old.items) (exprs_of (map expr_tree args.now))) }
     ensures count { OnOk result (length made.new.items ≡ length made.old.items + count_all (scope_of known.entry.scope.now) (exprs_of (map expr_tree args.now))) }
 {
     let mut values = Vec::new(alloc);
@@ -243,7 +243,7 @@ pub fn lower_number(
     requires fine { Fine (scope_of known.scope.now) false (expr_tree e.now) }
     requires number { IsTrue (is_number (sort_of (scope_of known.scope.now) (expr_tree e.now))) }
     ensures value { IfOk result (λ v. value_tree v.value ≡ value (scope_of known.entry.scope.now) (length made.old.items) (expr_tree e.now)) }
-    ensures calls { OnOk result (map call_stage made.new.items ≡ map call_stage made.old.items ++ calls_in known.entry.definitions.now (scope_of known.entry.scope.now) (length made.old.items) (expr_tree e.now)) }
+    ensures calls { OnOk result (map call_at made.new.items ≡ map call_at made.old.items ++ calls_in known.entry.definitions.now (scope_of known.entry.scope.now) (length made.old.items) (expr_tree e.now)) }
     ensures count { OnOk result (length made.new.items ≡ length made.old.items + count (scope_of known.entry.scope.now) (expr_tree e.now)) }
 {
     Ok(number_of(alloc, known, e, made)?.value)

@@ -7,7 +7,7 @@ use Rattle.csub_tree.specs.Declarations.{Init, Inits, One, Listed, NoInits, More
 use Rattle.csub_objects.specs.Types.{TypeTree, number_type, array_type, struct_type, loose_type, MemberTrees, no_member, more_members}
 use Rattle.csub_objects.specs.Types.{number_kind, kinds}
 use Rattle.csub_semantics.specs.Labels.{InitTree, one_value, listed, InitTrees, no_init, more_inits}
-use Rattle.csub_semantics.specs.Syntax.{Stage}
+use Rattle.csub_semantics.specs.Syntax.{CallAt}
 use Rattle.csub_scopes.specs.Scopes.{Scope}
 use Rattle.csub_rules.specs.Constants.{constant}
 use Rattle.csub_resolution.specs.Values.{Defined, count, value, calls_in}
@@ -35,11 +35,11 @@ abbrev mutual
 -- and its calls
 module _ (defined : List Defined) where
   abbrev mutual
-    pub init_calls : Scope → ℕ → Init → List Stage
+    pub init_calls : Scope → ℕ → Init → List CallAt
     init_calls scope k (One e) = calls_in defined scope k e
     init_calls scope k (Listed xs s) = inits_calls scope k xs
 
-    pub inits_calls : Scope → ℕ → Inits → List Stage
+    pub inits_calls : Scope → ℕ → Inits → List CallAt
     inits_calls scope k NoInits = []
     inits_calls scope k (MoreInits x rest) = init_calls scope k x ++ inits_calls scope (k + init_count scope x) rest
 

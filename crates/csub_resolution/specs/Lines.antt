@@ -1,5 +1,5 @@
 -- What statements stand for: their parts, and the objects that they declare.
-use Rattle.std.specs.Prelude.{ℕ, ℤ, pos, List, [], ◌∷◌, ◌++◌, Bool, true, false, Option, Some, None, if◌then◌else◌}
+use Rattle.std.specs.Prelude.{ℕ, ℤ, pos, List, [], ◌∷◌, ◌++◌, map, Bool, true, false, Option, Some, None, if◌then◌else◌}
 use Rattle.std.specs.Option.{unwrap_or}
 use Rattle.csub_text.specs.declared.span.Span.{Span}
 use Rattle.csub_types.specs.declared.kind.IntKind.{IntKind}
@@ -12,8 +12,8 @@ use Rattle.csub_tree.specs.Statements.{Case, Default, Break, Continue, Goto, Lab
 use Rattle.csub_objects.specs.Types.{TypeTree}
 use Rattle.csub_semantics.specs.Trees.{local_owner, constant, NamedExpr}
 use Rattle.csub_semantics.specs.Labels.{LabelTree, AnswerTree, evaluates, initialises, branches, switches, returns, jumps, halts}
-use Rattle.csub_semantics.specs.Syntax.{Stage, PartTree, StmtTree, StmtTrees, ElseTree, parts, block, conditional, while_loop, do_loop, for_loop}
-use Rattle.csub_semantics.specs.Syntax.{switch_on, case_label, default_label, breaks, continues, goes_to, marked, no_stmt, more_stmts}
+use Rattle.csub_semantics.specs.Syntax.{CallAt, in_part, PartTree, StmtTree, StmtTrees, ElseTree, parts, block, conditional, while_loop, do_loop}
+use Rattle.csub_semantics.specs.Syntax.{for_loop, switch_on, case_label, default_label, breaks, continues, goes_to, marked, no_stmt, more_stmts}
 use Rattle.csub_semantics.specs.Syntax.{no_else, else_stmt, LocalTree}
 use Rattle.csub_scopes.specs.Scopes.{Scope}
 use Rattle.csub_rules.specs.Callees.{Callee, no_function, user_function, getchar_function, putchar_function, printf_function, exit_function}
@@ -68,7 +68,7 @@ abbrev mutual
 
 -- the own point of a part, at its place
 abbrev pub own : LabelTree → Span → PartTree
-own label at = record { label = label; span = at } ∷ []
+own label at = record { label = label; span = at; part = at } ∷ []
 
 -- the parts of an expression statement or a declaration, as the first part of a `for` is one (C11 6.8.5.3p1)
 abbrev pub own_parts : StmtTree → List PartTree
@@ -80,16 +80,18 @@ abbrev pub case_value : IntKind → Scope → Expr → ℤ
 case_value kind scope e = convert kind (unwrap_or (rules.constant scope e) (pos 0))
 
 module _ (defined : List values.Defined) where
-  abbrev pub calls_in : Scope → Expr → List Stage
+  abbrev pub calls_in : Scope → Expr → List CallAt
   calls_in scope e = values.calls_in defined scope 0 e
 
-  -- an expression that is evaluated for its effects: where it is itself a call, that has no point of its own beside it
+  -- an expression that is evaluated for its effects: where it is itself a call, that has no point of its own beside it, and
+  -- the part stands at the expression's first token
   abbrev pub effect_part : Scope → Expr → PartTree
-  effect_part scope e = calls_in scope e ++ (if is_call scope e then [] else own (evaluates (value scope e)) (first_token e))
+  effect_part scope e =
+      map (in_part (first_token e)) (calls_in scope e) ++ (if is_call scope e then [] else own (evaluates (value scope e)) (first_token e))
 
   -- an expression statement, which may be an `exit`
   abbrev pub exit_part : Scope → Expr → Expr → PartTree
-  exit_part scope e status = calls_in scope status ++ own (halts (value scope status)) (first_token e)
+  exit_part scope e status = map (in_part (first_token e)) (calls_in scope status) ++ own (halts (value scope status)) (first_token e)
 
   abbrev pub eval_part : Scope → Expr → Option Expr → PartTree
   eval_part scope e None = effect_part scope e
@@ -97,7 +99,7 @@ module _ (defined : List values.Defined) where
 
   -- the test of an `if` or a loop; where a `for` has none it is 1 (C11 6.8.5.3p2)
   abbrev pub test_part : Scope → Expr → PartTree
-  test_part scope e = calls_in scope e ++ own (branches (value scope e)) (first_token e)
+  test_part scope e = map (in_part (first_token e)) (calls_in scope e) ++ own (branches (value scope e)) (first_token e)
 
   abbrev pub for_test : Scope → Span → Option Expr → PartTree
   for_test scope s None = own (branches (constant Int (pos 1))) (word_for s)
@@ -108,7 +110,7 @@ module _ (defined : List values.Defined) where
   third_parts scope (Some e) = effect_part scope e ∷ []
 
   abbrev pub switch_part : Scope → Expr → PartTree
-  switch_part scope e = calls_in scope e ++ own (switches (value scope e)) (first_token e)
+  switch_part scope e = map (in_part (first_token e)) (calls_in scope e) ++ own (switches (value scope e)) (first_token e)
 
   -- a `return`, with the result type of its function
   abbrev pub answer : Option IntKind → Scope → Expr → Option AnswerTree
@@ -117,12 +119,14 @@ module _ (defined : List values.Defined) where
 
   abbrev pub return_part : Option IntKind → Scope → Option Expr → Span → PartTree
   return_part result scope None s = own (returns None) (word_return s)
-  return_part result scope (Some e) s = calls_in scope e ++ own (returns (answer result scope e)) (word_return s)
+  return_part result scope (Some e) s =
+      map (in_part (word_return s)) (calls_in scope e) ++ own (returns (answer result scope e)) (word_return s)
 
   -- a declared object with an initialiser has a part, which sees its name (C11 6.2.1p7)
   abbrev pub init_part : Scope → Declarator → ℕ → TypeTree → Init → PartTree
   init_part scope d n t x =
-      init_calls defined scope 0 x ++ own (initialises (local_owner d.name.text n) t (init_value scope 0 x)) d.name.span
+      map (in_part d.name.span) (init_calls defined scope 0 x)
+      ++ own (initialises (local_owner d.name.text n) t (init_value scope 0 x)) d.name.span
 
   abbrev pub var_parts : Here → Option TypeTree → Declarator → Option Init → List PartTree
   var_parts here base d None = []

@@ -132,7 +132,7 @@ start at = record {
   name = start_name;
   params = [];
   result = None;
-  body = more_stmts (parts ((record { label = start_call; span = at } ∷ []) ∷ [])) no_stmt;
+  body = more_stmts (parts ((record { label = start_call; span = at; part = at } ∷ []) ∷ [])) no_stmt;
   span = at;
   locals = [];
   temps = 1;

@@ -13,7 +13,7 @@ use Rattle.csub_semantics.specs.Trees.{NamedExpr, constant, reading, unary_opera
 use Rattle.csub_semantics.specs.Trees.{choice, assignment, update, input_byte, output_byte, formatted, NamedExprs, no_expr, more_exprs}
 use Rattle.csub_semantics.specs.Trees.{NamedArg, value_argument, array_argument}
 use Rattle.csub_semantics.specs.Labels.{calls, CallTree}
-use Rattle.csub_semantics.specs.Syntax.{Stage}
+use Rattle.csub_semantics.specs.Syntax.{CallAt}
 use Rattle.csub_validity.specs.Valid.{temp_of}
 use Rattle.csub_scopes.specs.Scopes.{Scope, Declared, Meaning, global_object, local_object, enum_constant, a_function, untyped}
 use Rattle.csub_scopes.specs.Scopes as scopes
@@ -231,8 +231,8 @@ module _ (defined : List Defined) where
     temp = temp_of result n;
   }
 
-  -- a call of one of the source's functions is a stage of its part, named by the function's name
-  abbrev pub own_call : Scope → NameAt → Exprs → ℕ → ℕ → Callee → List Stage
+  -- a call of one of the source's functions is one of its part, named by the function's name
+  abbrev pub own_call : Scope → NameAt → Exprs → ℕ → ℕ → Callee → List CallAt
   own_call scope f args k n no_function = []
   own_call scope f args k n (user_function types result) =
       record { label = calls (call_of scope f args k n types result); span = f.span } ∷ []
@@ -243,10 +243,10 @@ module _ (defined : List Defined) where
 
   -- the calls of an expression, the innermost and the leftmost first, before which its part makes k
   abbrev mutual
-    pub calls_in : Scope → ℕ → Expr → List Stage
+    pub calls_in : Scope → ℕ → Expr → List CallAt
     calls_in scope k (Node e s) = calls_in_kind scope k e
 
-    pub calls_in_kind : Scope → ℕ → Kind → List Stage
+    pub calls_in_kind : Scope → ℕ → Kind → List CallAt
     calls_in_kind scope k (Number n u) = []
     calls_in_kind scope k (Char b) = []
     calls_in_kind scope k (Text t) = []
@@ -266,6 +266,6 @@ module _ (defined : List Defined) where
     calls_in_kind scope k (Index a i) = calls_in scope k a ++ calls_in scope (k + count scope a) i
     calls_in_kind scope k (Member a m) = calls_in scope k a
 
-    pub calls_in_all : Scope → ℕ → Exprs → List Stage
+    pub calls_in_all : Scope → ℕ → Exprs → List CallAt
     calls_in_all scope k NoExprs = []
     calls_in_all scope k (MoreExprs e rest) = calls_in scope k e ++ calls_in_all scope (k + count scope e) rest

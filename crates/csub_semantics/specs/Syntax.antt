@@ -16,10 +16,17 @@ use Rattle.csub_semantics.specs.declared.function.LocalVar.{LocalVar}
 use Rattle.csub_semantics.specs.declared.function.Function.{Function}
 use Rattle.csub_semantics.specs.declared.types.GlobalVar.{GlobalVar}
 
--- one stage of a part: a call or the part's own point, with the place in the source that is named for it
+-- a call of a part: its label, and the place in the source that is named for it
+pub record CallAt : Type 0 where
+  pub label : LabelTree
+  pub span : Span
+
+-- one stage of a part: a call or the part's own point, with the place in the source that is named for it; and the part's
+-- place: that of its own point or, where it has none, that of its expression's first token
 pub record Stage : Type 0 where
   pub label : LabelTree
   pub span : Span
+  pub part : Span
 
 -- a part: an expression of a statement. Its stages are its calls in the order in which they are made, and last its
 -- own point, where it has one
@@ -76,15 +83,23 @@ pub record ProgramParts : Type 0 where
   pub functions : List Function
   pub globals : List GlobalVar
 
-abbrev pub call_stage : RCall → Stage
-call_stage c = record { label = calls (call_tree c.label); span = c.span }
+-- what the code holds, as trees
+abbrev pub call_at : RCall → CallAt
+call_at c = record { label = calls (call_tree c.label); span = c.span }
+
+-- a call as a stage of the part at a place
+abbrev pub in_part : Span → CallAt → Stage
+in_part part c = record { label = c.label; span = c.span; part = part }
+
+abbrev pub call_stage : Span → RCall → Stage
+call_stage part c = in_part part (call_at c)
 
 abbrev pub own_stage : Span → Option LabelTree → PartTree
 own_stage span None = []
-own_stage span (Some label) = record { label = label; span = span } ∷ []
+own_stage span (Some label) = record { label = label; span = span; part = span } ∷ []
 
 abbrev pub part_tree : RPart → PartTree
-part_tree p = map call_stage p.calls.items ++ own_stage p.span (option_map label_tree p.main)
+part_tree p = map (call_stage p.span) p.calls.items ++ own_stage p.span (option_map label_tree p.main)
 
 abbrev mutual
   pub stmt_tree : RStmt → StmtTree

@@ -29,9 +29,9 @@ fn some_count(result_kind: Option<IntKind>) -> u32
     }
 }
 
-/// The temporaries of calls.
-fn calls_temps(calls: &[RCall]) -> Result<u32, AllocError>
-    ensures { IfOk result (λ count. count ≡ part_temps (map call_stage calls.now)) }
+/// The temporaries of the calls of a part at a place.
+fn calls_temps(calls: &[RCall], span: Span) -> Result<u32, AllocError>
+    ensures { IfOk result (λ count. count ≡ part_temps (map (call_stage span) calls.now)) }
 {
     let mut count = 0;
     for call in calls {
@@ -54,7 +54,7 @@ fn own_temps(label: &Option<Label>, span: Span) -> u32
 pub fn part_temps(part: &RPart) -> Result<u32, AllocError>
     ensures { IfOk result (λ count. count ≡ part_temps (part_tree part.now)) }
 {
-    let calls = calls_temps(part.calls.as_slice())?;
+    let calls = calls_temps(part.calls.as_slice(), part.span)?;
     sum(calls, own_temps(&part.main, part.span))
 }
 

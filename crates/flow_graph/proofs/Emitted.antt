@@ -46,24 +46,24 @@ last_own [] s past returned = refl
 last_own (c ∷ []) s past returned = refl
 last_own (c ∷ d ∷ cs) s past returned = last_own (d ∷ cs) s past returned
 
-last_call : (c : RCall) (cs : List RCall) (past returned : ℕ) → last_ways (map call_stage (c ∷ cs)) past returned ≡ way next past ∷ []
-last_call c [] past returned = refl
-last_call c (d ∷ cs) past returned = last_call d cs past returned
+last_call : (place : Span) (c : RCall) (cs : List RCall) (past returned : ℕ) → last_ways (map (call_stage place) (c ∷ cs)) past returned ≡ way next past ∷ []
+last_call place c [] past returned = refl
+last_call place c (d ∷ cs) past returned = last_call place d cs past returned
 
-nothing_after : (cs : List RCall) → map call_stage cs ++ [] ≡ map call_stage cs
-nothing_after [] = refl
-nothing_after (c ∷ cs) = ap (λ l. call_stage c ∷ l) (nothing_after cs)
+nothing_after : (place : Span) (cs : List RCall) → map (call_stage place) cs ++ [] ≡ map (call_stage place) cs
+nothing_after place [] = refl
+nothing_after place (c ∷ cs) = ap (λ l. call_stage place c ∷ l) (nothing_after place cs)
 
-calls_ways : (cs : List RCall) (first : ℕ) (path : List ℕ) (i past returned : ℕ) → part_numbered (map call_stage cs) 0 first path i (way next past ∷ []) ≡ part_numbered (map call_stage cs) 0 first path i (last_ways (map call_stage cs) past returned)
-calls_ways [] first path i past returned = refl
-calls_ways (c ∷ cs) first path i past returned = ap (λ w. part_numbered (map call_stage (c ∷ cs)) 0 first path i w) (sym (last_call c cs past returned))
+calls_ways : (place : Span) (cs : List RCall) (first : ℕ) (path : List ℕ) (i past returned : ℕ) → part_numbered (map (call_stage place) cs) 0 first path i (way next past ∷ []) ≡ part_numbered (map (call_stage place) cs) 0 first path i (last_ways (map (call_stage place) cs) past returned)
+calls_ways place [] first path i past returned = refl
+calls_ways place (c ∷ cs) first path i past returned = ap (λ w. part_numbered (map (call_stage place) (c ∷ cs)) 0 first path i w) (sym (last_call place c cs past returned))
 
-stages_ways : (cs : List RCall) (span : Span) (main : Option LabelTree) (first : ℕ) (path : List ℕ) (i past returned : ℕ) → let p = map call_stage cs ++ own_stage span main in part_numbered p 0 first path i (main_ways main past returned) ≡ part_numbered p 0 first path i (last_ways p past returned)
+stages_ways : (cs : List RCall) (span : Span) (main : Option LabelTree) (first : ℕ) (path : List ℕ) (i past returned : ℕ) → let p = map (call_stage span) cs ++ own_stage span main in part_numbered p 0 first path i (main_ways main past returned) ≡ part_numbered p 0 first path i (last_ways p past returned)
 stages_ways cs span None first path i past returned =
-    subst (λ p. part_numbered p 0 first path i (way next past ∷ []) ≡ part_numbered p 0 first path i (last_ways p past returned)) (sym (nothing_after cs)) (calls_ways cs first path i past returned)
+    subst (λ p. part_numbered p 0 first path i (way next past ∷ []) ≡ part_numbered p 0 first path i (last_ways p past returned)) (sym (nothing_after span cs)) (calls_ways span cs first path i past returned)
 stages_ways cs span (Some label) first path i past returned =
-    let s : Stage = record { label = label; span = span } in
-    ap (λ w. part_numbered (map call_stage cs ++ s ∷ []) 0 first path i w) (sym (last_own (map call_stage cs) s past returned))
+    let s : Stage = record { label = label; span = span; part = span } in
+    ap (λ w. part_numbered (map (call_stage span) cs ++ s ∷ []) 0 first path i w) (sym (last_own (map (call_stage span) cs) s past returned))
 
 -- the points of a part that is no test
 pub part_ways : (p : RPart) (first : ℕ) (path : List ℕ) (i past returned : ℕ) → part_numbered (part_tree p) 0 first path i (main_ways (option_map label_tree p.main) past returned) ≡ part_numbered (part_tree p) 0 first path i (last_ways (part_tree p) past returned)
@@ -95,9 +95,9 @@ parts_emitted ps from j i x first onward path a begin old middle new next_is bel
           ∙ sym (ap (λ l. old ++ reverse (parts_numbered l (from + j) first path a)) split);
     }
 
-pub call_count : (cs : List RCall) → length (map call_stage cs) ≡ length cs
-call_count [] = refl
-call_count (c ∷ cs) = ap suc (call_count cs)
+pub call_count : (place : Span) (cs : List RCall) → length (map (call_stage place) cs) ≡ length cs
+call_count place [] = refl
+call_count place (c ∷ cs) = ap suc (call_count place cs)
 
 -- the points of what stands before the body of a `for`, in front of those of its body
 pub for_emitted : (begin : List PartTree) (p : PartTree) (third : List PartTree) (s : StmtTree) (first : ℕ) (path : List ℕ) (jump : Name → ℕ) (a inside : Around ℕ) (body at_body onward : ℕ) (old middle new : List Numbered) → first + count_head begin p third ≡ at_body → inside ≡ looping onward a → onward ≡ enter_parts third (first + count_parts begin + length p) (enter_part p (first + count_parts begin) a.leave) → body ≡ enter s at_body inside → middle ≡ old ++ reverse (numbered s at_body (path ++ 0 ∷ []) jump inside) → new ≡ middle ++ reverse (head_numbered begin p third first path body a) → new ≡ old ++ reverse (numbered (for_loop begin p third s) first path jump a)

@@ -13,6 +13,7 @@ use crate::jumps::{Jumps, jump};
 use crate::node::{GraphNode, GraphWay, inner_path, one_way, point_at, step, test_ways};
 use crate::onward::{Onward, looping, switching};
 use csub_semantics::{Label, RCall, RPart, RStmt, copy_call, copy_label};
+use csub_text::Span;
 use std::alloc::{AllocError, Global};
 
 /// What stands round a statement: where the `goto`s of its function lead, and where control goes from it.
@@ -46,10 +47,11 @@ struct Lines {
     cases: Cases,
 }
 
-/// Appends the calls of a part, last first; the number behind the last is `end`, and its ways out are `ways`.
+/// Appends the calls of a part at a place, last first; the number behind the last is `end`, and its ways out are `ways`.
 fn emit_calls(
     alloc: Global,
     calls: &[RCall],
+    span: Span,
     spot: Spot<'_>,
     end: u32,
     ways: Vec<GraphWay>,
@@ -57,7 +59,7 @@ fn emit_calls(
 ) -> Result<u32, AllocError>
     requires { length calls.now ≤ end }
     ensures first { IfOk result (λ first. first + length calls.now ≡ end) }
-    ensures nodes { IfOk result (λ first. map numbered_node out.new.items ≡ map numbered_node out.old.items ++ reverse (part_numbered (map call_stage calls.now) 0 first spot.entry.path.now spot.entry.part (map numbered_way ways.items))) }
+    ensures nodes { IfOk result (λ first. map numbered_node out.new.items ≡ map numbered_node out.old.items ++ reverse (part_numbered (map (call_stage span) calls.now) 0 first spot.entry.path.now spot.entry.part (map numbered_way ways.items))) }
 {
     let mut first = end;
     let mut ways = ways;
@@ -90,7 +92,7 @@ fn emit_stages(
 {
     let calls = part.calls.as_slice();
     match &part.main {
-        None => emit_calls(alloc, calls, spot, end, ways, out),
+        None => emit_calls(alloc, calls, part.span, spot, end, ways, out),
         Some(label) => {
             let own = end - 1;
             out.push(GraphNode {
@@ -100,7 +102,7 @@ fn emit_stages(
                 ways,
             })?;
             let onward = one_way(alloc, own)?;
-            let first = emit_calls(alloc, calls, spot, own, onward, out)?;
+            let first = emit_calls(alloc, calls, part.span, spot, own, onward, out)?;
             Ok(first)
         }
     }

@@ -7,7 +7,7 @@ use Rattle.csub_tree.specs.Expressions.{Expr, Exprs, Node, Number, Char, Text, N
 use Rattle.csub_tree.specs.Expressions.{Choose, Assign, Call, Index, Member, NoExprs, MoreExprs}
 use Rattle.csub_objects.specs.Types.{Name, TypeTree, number_type, array_type, struct_type, loose_type, element_type, MemberTree}
 use Rattle.csub_objects.proofs.LawsTypes.{type_eq-Decides}
-use Rattle.csub_semantics.specs.Syntax.{Stage, FunctionTree, ProgramTree}
+use Rattle.csub_semantics.specs.Syntax.{CallAt, FunctionTree, ProgramTree}
 use Rattle.csub_semantics.specs.Flows.{function_of}
 use Rattle.csub_semantics.specs.Trees.{NamedPlace, NamedExpr, NamedArg}
 use Rattle.csub_scopes.specs.Scopes.{Scope, Declared, Meaning, global_object, local_object, enum_constant, a_function, untyped, find as find_name}
@@ -18,12 +18,12 @@ use Rattle.csub_rules.specs.Callees.{callee_of, callee_by, callee_of_meaning, fi
 use Rattle.csub_rules.specs.ExprSorts.{sort_of}
 use Rattle.csub_rules.specs.Fine.{Fine, FineArgs, FineNumbers, FinePrint, FineCall}
 use Rattle.csub_resolution.specs.Values.{Defined, params_in, count, count_all, own_call, calls_in, calls_in_all, place, value, argument, arguments}
-use Rattle.csub_resolution.specs.Programs.{part_temps, some_count}
+use Rattle.csub_resolution.specs.Programs.{some_count}
 use Rattle.csub_limits.specs.Prints.{prints, prints_all, printed}
 use Rattle.csub_validity.specs.Valid as valid
 use Rattle.csub_validity.specs.Valid.{IsExpr, IsPlace, IsArg, AreArgs, IsCall, IsDefinedAs, IsEarlier, RefersTo, place_type, temp_of, stage_result}
 use Rattle.program_validity.specs.Written.{WrittenExpr, WrittenExprs}
-use Rattle.program_validity.proofs.Counted.{Stand, stand_left, stand_right, calls_length, calls_length_all, silent, temps_append, full, full_call, fit_or_print, number_given, place_given, array_given, taken_given}
+use Rattle.program_validity.proofs.Counted.{call_temps, Stand, stand_left, stand_right, calls_length, calls_length_all, silent, temps_append, full, full_call, fit_or_print, number_given, place_given, array_given, taken_given}
 use Rattle.program_validity.proofs.Agreeing.{Agrees}
 use Rattle.program_validity.proofs.Printing.{Few, few_left, few_right}
 use Rattle.program_validity.proofs.Expressions.{IsMadeOf, numeric, made, Given, given_left, given_right}
@@ -86,33 +86,33 @@ elements sc number t no_sort p v h m = absurd (cc)
 
 module _ (P : ProgramTree) (f : FunctionTree) (sc : valid.Scope) where
   -- the calls of a part from the k-th on
-  abbrev pub AreCallsFrom : ℕ → List Stage → Type 0
+  abbrev pub AreCallsFrom : ℕ → List CallAt → Type 0
   AreCallsFrom k [] = Unit {0}
   AreCallsFrom k (s ∷ rest) = IsEarlier P f sc (k + 1) s.label × AreCallsFrom (k + 1) rest
 
-  pub join_calls : (k n : ℕ) (ss ts : List Stage) → length ss ≡ n → AreCallsFrom k ss → AreCallsFrom (k + n) ts → AreCallsFrom k (ss ++ ts)
+  pub join_calls : (k n : ℕ) (ss ts : List CallAt) → length ss ≡ n → AreCallsFrom k ss → AreCallsFrom (k + n) ts → AreCallsFrom k (ss ++ ts)
   join_calls k n [] ts e h g = let none : k + n ≡ k = omega arith in subst (λ i. AreCallsFrom i ts) none g
   join_calls k n (s ∷ ss) ts e h g =
       let next : k + n ≡ (k + 1) + length ss = omega arith in
       (h.0, join_calls (k + 1) (length ss) ss ts refl h.1 (subst (λ i. AreCallsFrom i ts) next g))
 
   -- what is known of calls, before which their part makes k
-  pub record Room (k : ℕ) (ps : List ℕ) (ss : List Stage) : Type 0 where
+  pub record Room (k : ℕ) (ps : List ℕ) (ss : List CallAt) : Type 0 where
     pub few : Few ps
     pub stand : Stand sc.results k ss
-    pub room : k + part_temps ss ≤ f.temps
+    pub room : k + call_temps ss ≤ f.temps
 
-  pub room_left : (k : ℕ) (ps qs : List ℕ) (ss ts : List Stage) → Room k (ps ++ qs) (ss ++ ts) → Room k ps ss
+  pub room_left : (k : ℕ) (ps qs : List ℕ) (ss ts : List CallAt) → Room k (ps ++ qs) (ss ++ ts) → Room k ps ss
   room_left k ps qs ss ts g =
       let e = temps_append ss ts in
-      let r : k + part_temps (ss ++ ts) ≤ f.temps = g.room in
+      let r : k + call_temps (ss ++ ts) ≤ f.temps = g.room in
       record { few = few_left ps qs g.few; stand = stand_left sc.results k ss ts g.stand; room = omega arith }
 
-  pub room_right : (k n : ℕ) (ps qs : List ℕ) (ss ts : List Stage) → length ss ≡ n → part_temps ss ≡ n → Room k (ps ++ qs) (ss ++ ts)
+  pub room_right : (k n : ℕ) (ps qs : List ℕ) (ss ts : List CallAt) → length ss ≡ n → call_temps ss ≡ n → Room k (ps ++ qs) (ss ++ ts)
       → Room (k + n) qs ts
   room_right k n ps qs ss ts l t g =
       let e = temps_append ss ts in
-      let r : k + part_temps (ss ++ ts) ≤ f.temps = g.room in
+      let r : k + call_temps (ss ++ ts) ≤ f.temps = g.room in
       record { few = few_right ps qs g.few; stand = stand_right sc.results k n ss ts l g.stand; room = omega arith }
 
   module _ (defined : List Defined) (scope : Scope) (agrees : Agrees sc.globals sc.objects scope) (can : CanCall P defined scope) where
@@ -179,7 +179,7 @@ module _ (P : ProgramTree) (f : FunctionTree) (sc : valid.Scope) where
         (subst (λ ts. AreArgs sc n c.function.params (arguments scope k ts args)) c.types args_are) in
         let counted = full_call defined scope w k (user_function types result) args h in
         let joined = temps_append (calls_in_all defined scope k args) (own_call defined scope g args k n (user_function types result)) in
-        let room : k + part_temps (calls_in_all defined scope k args ++ own_call defined scope g args k n (user_function types result)) ≤ f.temps = r.room in (
+        let room : k + call_temps (calls_in_all defined scope k args ++ own_call defined scope g args k n (user_function types result)) ≤ f.temps = r.room in (
           record {
             defined = defined_as g.text types result c (function_of P g.text) c.found (arguments scope k types args) (temp_of result n);
             args = args_is;
@@ -193,7 +193,7 @@ module _ (P : ProgramTree) (f : FunctionTree) (sc : valid.Scope) where
     own_made w k g args printf_function e h x r = tt
     own_made w k g args exit_function e h x r = tt
 
-    calls_pair : (k : ℕ) (a b : Expr) → part_temps (calls_in defined scope k a) ≡ count scope a
+    calls_pair : (k : ℕ) (a b : Expr) → call_temps (calls_in defined scope k a) ≡ count scope a
         → (RoomFor k a → AreCallsFrom k (calls_in defined scope k a))
         → (RoomFor (k + count scope a) b → AreCallsFrom (k + count scope a) (calls_in defined scope (k + count scope a) b))
         → Room k (prints a ++ prints b) (calls_in defined scope k a ++ calls_in defined scope (k + count scope a) b)
@@ -204,11 +204,11 @@ module _ (P : ProgramTree) (f : FunctionTree) (sc : valid.Scope) where
         (cb (room_right k (count scope a) (prints a) (prints b) (calls_in defined scope k a) (calls_in defined scope (k + count scope a) b)
         (calls_length defined scope k a) full_a r))
 
-    args_room : (k : ℕ) (g : NameAt) (args : Exprs) (own : List Stage)
+    args_room : (k : ℕ) (g : NameAt) (args : Exprs) (own : List CallAt)
         → Room k (printed g.text args ++ prints_all args) (calls_in_all defined scope k args ++ own) → RoomAll k args
     args_room k g args own r =
         let e = temps_append (calls_in_all defined scope k args) own in
-        let room : k + part_temps (calls_in_all defined scope k args ++ own) ≤ f.temps = r.room in
+        let room : k + call_temps (calls_in_all defined scope k args ++ own) ≤ f.temps = r.room in
         record {
           few = few_right (printed g.text args) (prints_all args) r.few;
           stand = stand_left sc.results k (calls_in_all defined scope k args) own r.stand;
@@ -276,7 +276,7 @@ module _ (P : ProgramTree) (f : FunctionTree) (sc : valid.Scope) where
       calls_print k NoExprs h x r = absurd h
       calls_print k (MoreExprs e rest) h x r =
           let q = silent defined scope e rest h.0 in
-          let full_e : part_temps (calls_in defined scope k e) ≡ count scope e = ap part_temps (q.none k) ∙ sym q.counted in
+          let full_e : call_temps (calls_in defined scope k e) ≡ count scope e = ap call_temps (q.none k) ∙ sym q.counted in
           join_calls k (count scope e) (calls_in defined scope k e) (calls_in_all defined scope (k + count scope e) rest) (calls_length defined scope k e) (subst (λ ss. AreCallsFrom k ss) (sym (q.none k)) tt)
           (calls_numbers (k + count scope e) rest h.1 x.1 (room_right k (count scope e) (prints e) (prints_all rest) (calls_in defined scope k e) (calls_in_all defined scope (k + count scope e) rest)
           (calls_length defined scope k e) full_e r))

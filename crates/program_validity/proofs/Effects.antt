@@ -1,13 +1,12 @@
 -- Expressions that are evaluated for their effects.
-use Rattle.std.proofs.Common.{◌≡◌, refl, sym, subst, arith, ℕ, ◌+◌, ◌≤◌, ◌<◌, List, [], ◌∷◌, ◌++◌, Option, Some, None, Bool, true, false, IsTrue, ◌&&◌, if◌then◌else◌}
-use Rattle.std.proofs.lemmas.List.{append-nil}
+use Rattle.std.proofs.Common.{◌≡◌, refl, subst, arith, ℕ, ◌+◌, ◌≤◌, ◌<◌, List, [], ◌∷◌, ◌++◌, map, Option, Some, None, Bool, true, false, IsTrue, ◌&&◌, if◌then◌else◌}
 use Rattle.csub_types.specs.declared.kind.IntKind.{IntKind}
 use Rattle.csub_tree.specs.Expressions.{Expr, Exprs, Node, Number, Char, Text, Named, Paren, Unary, Cast, Step, Binary, And, Or}
 use Rattle.csub_tree.specs.Expressions.{Choose, Assign, Call, Index, Member, NoExprs, MoreExprs}
 use Rattle.csub_objects.specs.Types.{Name, TypeTree, element_type, member_type}
 use Rattle.csub_semantics.specs.Trees.{NamedExpr}
 use Rattle.csub_semantics.specs.Labels.{evaluates, halts}
-use Rattle.csub_semantics.specs.Syntax.{FunctionTree, ProgramTree}
+use Rattle.csub_semantics.specs.Syntax.{in_part, FunctionTree, ProgramTree}
 use Rattle.csub_scopes.specs.Scopes.{Scope, Declared, Meaning, global_object, local_object, enum_constant, a_function, untyped, find}
 use Rattle.csub_rules.specs.Library.{LibraryName, getchar, putchar, printf, exit, eof, library_name}
 use Rattle.csub_rules.specs.Sorts.{Sort, a_place, a_value, a_void, no_sort, is_sorted, is_number, is_number_place, sort_if, value_if, place_of, element_of, member_of}
@@ -241,15 +240,13 @@ module _ (scope : Scope) where
     effect_made role e m fine effect written few room = by (is_call scope e) refl room
       where
         by : (b : Bool) → is_call scope e ≡ b
-            → part_temps (calls_in defined scope 0 e ++ (if b then [] else own (evaluates (value scope 0 e)) (first_token e))) ≤ f.temps
-            → IsPart P f role (calls_in defined scope 0 e ++ (if b then [] else own (evaluates (value scope 0 e)) (first_token e)))
+            → part_temps (map (in_part (first_token e)) (calls_in defined scope 0 e) ++ (if b then [] else own (evaluates (value scope 0 e)) (first_token e))) ≤ f.temps
+            → IsPart P f role (map (in_part (first_token e)) (calls_in defined scope 0 e) ++ (if b then [] else own (evaluates (value scope 0 e)) (first_token e)))
         by true c room =
             let some = some_call e c in
             let long = calls_length defined scope 0 e in
-            subst (IsPart P f role) (sym (append-nil (calls_in defined scope 0 e)))
-            (call_part P f role (calls_in defined scope 0 e) (prints e) m (omega arith) few
-            (subst (λ ss. part_temps ss ≤ f.temps) (append-nil (calls_in defined scope 0 e)) room)
-            (λ r. calls_made P f (scope_of P f (calls_in defined scope 0 e)) defined scope stands.agrees stands.can false 0 e fine written r))
+            call_part P f role (first_token e) (calls_in defined scope 0 e) (prints e) m (omega arith) few room
+            (λ r. calls_made P f (scope_of P f (map (in_part (first_token e)) (calls_in defined scope 0 e) ++ [])) defined scope stands.agrees stands.can false 0 e fine written r)
         by false c room =
             expr_part P f defined scope stands role e (evaluates (value scope 0 e)) (first_token e) (λ sc n h. evaluated role sc n _ m h) fine
             (effect_number (sort_of scope e) effect (given e fine c)) written few room

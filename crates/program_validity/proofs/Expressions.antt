@@ -5,7 +5,6 @@ use Rattle.std.specs.Option.{option_and_then}
 use Rattle.std.proofs.lemmas.Bool.Decides.{nat_tests}
 use Rattle.std.proofs.lemmas.Int.{ints}
 use Rattle.csub_text.specs.declared.operator.BinOp.{BinOp}
-use Rattle.csub_text.specs.declared.operator.BinOp.TheVariants.{Shl, Shr}
 use Rattle.csub_types.specs.declared.kind.IntKind.{IntKind}
 use Rattle.csub_types.specs.declared.kind.IntKind.TheVariants.{Int, Unsigned}
 use Rattle.csub_types.specs.Kinds.{IsOf, promote, common}
@@ -17,7 +16,7 @@ use Rattle.csub_objects.specs.Types.{Name, TypeTree, number_type, array_type, st
 use Rattle.csub_semantics.specs.Trees.{NamedPlace, NamedExpr, element_place, member_place}
 use Rattle.csub_semantics.specs.Trees.{reading, unary_operation, conversion, stepping, operation, conjunction, disjunction, choice}
 use Rattle.csub_semantics.specs.Trees.{formatted}
-use Rattle.csub_semantics.specs.Syntax.{Stage}
+use Rattle.csub_semantics.specs.Syntax.{CallAt}
 use Rattle.csub_scopes.specs.Scopes.{Scope, Declared, Meaning, global_object, local_object, enum_constant, a_function, untyped, find}
 use Rattle.csub_rules.specs.Library.{LibraryName, getchar, putchar, printf, exit, eof, library_name}
 use Rattle.csub_rules.specs.Sorts.{Sort, a_place, a_value, a_void, no_sort, is_number, is_number_place, the_kind, sort_if, value_if, element_of, member_of, place_of}
@@ -167,17 +166,17 @@ module _ (sc : valid.Scope) (number : ℕ) where
 -- ---- what is known of an expression, before which k calls are made: its strings are short, its calls stand in the part
 -- with their results, and have been made before the stage
 
-pub record Given (sc : valid.Scope) (number k n : ℕ) (ps : List ℕ) (ss : List Stage) : Type 0 where
+pub record Given (sc : valid.Scope) (number k n : ℕ) (ps : List ℕ) (ss : List CallAt) : Type 0 where
   pub few : Few ps
   pub stand : Stand sc.results k ss
   pub before : k + n < number
 
-pub given_left : (sc : valid.Scope) (number k m n : ℕ) (ps qs : List ℕ) (ss ts : List Stage) → Given sc number k (m + n) (ps ++ qs) (ss ++ ts)
+pub given_left : (sc : valid.Scope) (number k m n : ℕ) (ps qs : List ℕ) (ss ts : List CallAt) → Given sc number k (m + n) (ps ++ qs) (ss ++ ts)
     → Given sc number k m ps ss
 given_left sc number k m n ps qs ss ts g =
     record { few = few_left ps qs g.few; stand = stand_left sc.results k ss ts g.stand; before = let b : k + (m + n) < number = g.before in omega arith }
 
-pub given_right : (sc : valid.Scope) (number k m n : ℕ) (ps qs : List ℕ) (ss ts : List Stage) → length ss ≡ m
+pub given_right : (sc : valid.Scope) (number k m n : ℕ) (ps qs : List ℕ) (ss ts : List CallAt) → length ss ≡ m
     → Given sc number k (m + n) (ps ++ qs) (ss ++ ts) → Given sc number (k + m) n qs ts
 given_right sc number k m n ps qs ss ts e g =
     record {
@@ -221,7 +220,7 @@ module _ (defined : List Defined) (scope : Scope) (sc : valid.Scope) (agrees : A
       }
 
   -- the arguments of a call
-  given_args : (k : ℕ) (f : NameAt) (args : Exprs) (n : ℕ) (own : List Stage)
+  given_args : (k : ℕ) (f : NameAt) (args : Exprs) (n : ℕ) (own : List CallAt)
       → Given sc number k (count_all scope args + n) (printed f.text args ++ prints_all args) (calls_in_all defined scope k args ++ own) → GivenAll k args
   given_args k f args n own g =
       record {

@@ -12,12 +12,11 @@ use Rattle.csub_rules.specs.ExprSorts.{sort_of}
 use Rattle.csub_rules.specs.BrokenInit.{FineInit, FineEntries, FineValue}
 use Rattle.csub_resolution.specs.Values.{Defined, count, calls_in, place, value}
 use Rattle.csub_resolution.specs.Contents.{init_count, inits_count, init_value, init_values, init_calls, inits_calls}
-use Rattle.csub_resolution.specs.Programs.{part_temps}
 use Rattle.csub_limits.specs.Prints.{prints, init_prints, inits_prints}
 use Rattle.csub_validity.specs.Valid as valid
 use Rattle.csub_validity.specs.Valid.{IsInit, AreInits, IsExpr}
 use Rattle.program_validity.specs.Written.{WrittenExpr, WrittenInit, WrittenInits, has_entry}
-use Rattle.program_validity.proofs.Counted.{calls_length, temps_append, full, number_given}
+use Rattle.program_validity.proofs.Counted.{call_temps, calls_length, temps_append, full, number_given}
 use Rattle.program_validity.proofs.Agreeing.{Agrees}
 use Rattle.program_validity.proofs.Expressions.{numeric, made, Given, given_left, given_right}
 use Rattle.program_validity.proofs.Calls.{CanCall, AreCallsFrom, Room, room_left, room_right, join_calls, calls_made}
@@ -38,18 +37,18 @@ module _ (defined : List Defined) (scope : Scope) where
         let sum = length-append (init_calls defined scope k x) (inits_calls defined scope (k + init_count scope x) rest) in
         omega arith
 
-  value_full : (k : ℕ) (o : Option TypeTree) (e : Expr) → FineValue scope false o e → part_temps (calls_in defined scope k e) ≡ count scope e
+  value_full : (k : ℕ) (o : Option TypeTree) (e : Expr) → FineValue scope false o e → call_temps (calls_in defined scope k e) ≡ count scope e
   value_full k None e h = absurd h
   value_full k (Some t) e h = full defined scope false k e h.0 (number_given (sort_of scope e) h.1)
 
   mutual
-    init_full : (k : ℕ) (o : Option TypeTree) (x : Init) → FineInit scope false o x → part_temps (init_calls defined scope k x) ≡ init_count scope x
+    init_full : (k : ℕ) (o : Option TypeTree) (x : Init) → FineInit scope false o x → call_temps (init_calls defined scope k x) ≡ init_count scope x
     init_full k o (One e) h = value_full k o e h
     init_full k None (Listed xs s) h = absurd h
     init_full k (Some t) (Listed xs s) h = inits_full k t 0 xs h
 
     inits_full : (k : ℕ) (t : TypeTree) (i : ℕ) (xs : Inits) → FineEntries scope false t i xs
-        → part_temps (inits_calls defined scope k xs) ≡ inits_count scope xs
+        → call_temps (inits_calls defined scope k xs) ≡ inits_count scope xs
     inits_full k t i NoInits h = refl
     inits_full k t i (MoreInits x rest) h =
         let p = init_full k (part_type t i) x h.1 in

@@ -227,6 +227,6 @@ module _ (P : ProgramTree) (at : Span) (items : List Item) (fine : FineItems no_
       let m = d.main refl in
       let call : IsDefinedAs (function_of P main_name) (record { callee = main_name; params = []; result = Some Int; args = []; temp = Some 1 }) =
       starts d.function m.0 m.1 (function_of P main_name) (found_in main_name d.function h d.found) in
-      let part : IsPart P (start at) Whole (record { label = start_call; span = at } ∷ []) =
+      let part : IsPart P (start at) Whole (record { label = start_call; span = at; part = at } ∷ []) =
       record { defined = call; args = tt; temp = refl; few = omega arith } in
-      (record { few = omega arith; one = inl (omega arith); each = All-cons (λ p. IsPart P (start at) Whole p) (record { label = start_call; span = at } ∷ []) [] part (All-nil (λ p. IsPart P (start at) Whole p)) }, tt)
+      (record { few = omega arith; one = inl (omega arith); each = All-cons (λ p. IsPart P (start at) Whole p) (record { label = start_call; span = at; part = at } ∷ []) [] part (All-nil (λ p. IsPart P (start at) Whole p)) }, tt)

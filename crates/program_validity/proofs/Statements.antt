@@ -15,7 +15,7 @@ use Rattle.csub_tree.specs.Statements.{Case, Default, Break, Continue, Goto, Lab
 use Rattle.csub_objects.specs.Types.{Name, TypeTree}
 use Rattle.csub_semantics.specs.Trees.{OwnerTree, local_owner}
 use Rattle.csub_semantics.specs.Labels.{LabelTree, InitTree, initialises, branches, switches, returns}
-use Rattle.csub_semantics.specs.Syntax.{Stage, PartTree, LocalTree, FunctionTree, ProgramTree}
+use Rattle.csub_semantics.specs.Syntax.{Stage, in_part, PartTree, LocalTree, FunctionTree, ProgramTree}
 use Rattle.csub_scopes.specs.Scopes.{Scope}
 use Rattle.csub_rules.specs.Uses.{Use, as_statement, as_part, as_number}
 use Rattle.csub_rules.specs.BrokenUse.{FineUse}
@@ -126,7 +126,7 @@ module _ (P : ProgramTree) (f : FunctionTree) (defined : List Defined) (result :
       let object : type_in f.locals d.name.text n ≡ Some t =
       subst (λ os. type_in os d.name.text n ≡ Some t) (sym w.is) (type_new ls w.rest new nowhere) in
       let label : LabelTree = initialises (local_owner d.name.text n) t (init_value scope 0 x) in
-      let sc : valid.Scope = scope_of P f (init_calls defined scope 0 x ++ own label d.name.span) in
+      let sc : valid.Scope = scope_of P f (map (in_part d.name.span) (init_calls defined scope 0 x) ++ own label d.name.span) in
       own_part P f role (init_calls defined scope 0 x) label d.name.span (init_prints x) (init_count scope x) (init_length defined scope 0 x) few room
       (λ r. init_calls_made defined scope sc stands.agrees P f stands.can 0 (Some t) x typed written r)
       (λ g. in_role role m sc (init_count scope x + 1) (local_owner d.name.text n) t (init_value scope 0 x)
@@ -160,7 +160,7 @@ module _ (P : ProgramTree) (f : FunctionTree) (defined : List Defined) (result :
   var_is role ls here base d (Some x) m var fine written few sees w room =
       record {
         each = All-cons (λ p. IsPart P f role p) _ [] (init_is role ls here base d x m var fine written few sees w (first_most _ [] f.temps room)) (All-nil (λ p. IsPart P f role p));
-        declared = All-cons (λ p. declares p ≡ true) _ [] (declares_own (init_calls defined (past_var here base d).scope 0 x) _ _ _ d.name.span) (All-nil (λ p. declares p ≡ true));
+        declared = All-cons (λ p. declares p ≡ true) _ [] (declares_own (map (in_part d.name.span) (init_calls defined (past_var here base d).scope 0 x)) _ _ _ d.name.span) (All-nil (λ p. declares p ≡ true));
       }
 
   vars_are : (role : Role) (ls : List LocalTree) (here : Here) (base : Option TypeTree) (ds : List Declarator) → MayCall role → FineVars here base ds
@@ -296,7 +296,7 @@ module _ (P : ProgramTree) (f : FunctionTree) (defined : List Defined) (result :
       record {
         part = expr_part P f defined scope stands Switch e (switches (value scope e)) (first_token e) (λ sc n h. h) u.0 u.1 written few room;
         kind =
-            kind_behind (calls_in defined scope e) (record { label = switches (value scope e); span = first_token e })
+            kind_behind (map (in_part (first_token e)) (calls_in defined scope e)) (record { label = switches (value scope e); span = first_token e; part = first_token e })
             ∙ ap promote (expr_kind P f defined scope stands e (switches (value scope e)) (first_token e) u.0 u.1 written few room);
       }
 

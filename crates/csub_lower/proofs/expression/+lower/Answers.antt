@@ -2,7 +2,7 @@ use Rattle.std.proofs.Common.{◌∙◌, ◌+◌, ◌++◌, ap, arith, map, leng
 use Rattle.csub_types.specs.declared.kind.IntKind.TheVariants.{Int}
 use Rattle.csub_tree.specs.Expressions.{expr_tree, exprs_of}
 use Rattle.csub_scopes.specs.Meanings.{scope_of}
-use Rattle.csub_semantics.specs.Syntax.{call_stage}
+use Rattle.csub_semantics.specs.Syntax.{call_at}
 use Rattle.csub_semantics.specs.Trees.{input_byte, output_byte, formatted}
 use Rattle.csub_semantics.specs.Trees.{expr_tree as value_tree}
 use Rattle.csub_semantics.specs.Trees.{exprs_of as values_of}
@@ -40,7 +40,7 @@ pub call-returns-in-Getchar-clause-calls : goal.call-returns-in-Getchar-clause-c
 call-returns-in-Getchar-clause-calls t c =
     on_ok c.input_node.result
     (input_calls c.args.known.definitions.now (scope_of c.args.known.scope.now) (length c.args.made.now.items) c.args.f.now
-    (exprs_of (map expr_tree c.args.args.now)) (map call_stage c.args.made.now.items) (c.in-Getchar.ensures ∙ ap (callee_of (scope_of c.args.known.scope.now)) c.bytes.ensures) c.requires)
+    (exprs_of (map expr_tree c.args.args.now)) (map call_at c.args.made.now.items) (c.in-Getchar.ensures ∙ ap (callee_of (scope_of c.args.known.scope.now)) c.bytes.ensures) c.requires)
 
 pub call-returns-in-Getchar-clause-count : goal.call-returns-in-Getchar-clause-count
 call-returns-in-Getchar-clause-count t c =
@@ -72,9 +72,9 @@ pub call-returns-in_ok-numbers-in-Printf-clause-calls : goal.call-returns-in_ok-
 call-returns-in_ok-numbers-in-Printf-clause-calls t c =
     on_ok c.formatted_node.result
     (printed_calls c.args.known.definitions.now (scope_of c.args.known.scope.now) (length c.args.made.now.items) c.args.f.now c.args.args.now
-    (map call_stage c.args.made.now.items) (map call_stage c.numbers-in-Printf.new.made.items) (c.in-Printf.ensures ∙ ap (callee_of (scope_of c.args.known.scope.now)) c.bytes.ensures) c.requires
+    (map call_at c.args.made.now.items) (map call_at c.numbers-in-Printf.new.made.items) (c.in-Printf.ensures ∙ ap (callee_of (scope_of c.args.known.scope.now)) c.bytes.ensures) c.requires
     (c.in_ok-numbers-in-Printf.ensures.calls
-    ∙ ap (λ es. map call_stage c.args.made.now.items
+    ∙ ap (λ es. map call_at c.args.made.now.items
     ++ calls_in_all c.args.known.definitions.now (scope_of c.args.known.scope.now) (length c.args.made.now.items) (exprs_of (map expr_tree es)))
     c.printed_args-args.ensures.behind))
 

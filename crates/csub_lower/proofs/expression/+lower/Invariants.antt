@@ -2,7 +2,7 @@ use Rattle.std.proofs.Common.{◌≡◌, ◌+◌, ◌*◌, ◌++◌, IsTrue, map
 use Rattle.csub_tree.specs.Expressions.{expr_tree, exprs_of}
 use Rattle.csub_objects.specs.Meaning.{type_tree}
 use Rattle.csub_scopes.specs.Meanings.{scope_of}
-use Rattle.csub_semantics.specs.Syntax.{call_stage}
+use Rattle.csub_semantics.specs.Syntax.{call_at}
 use Rattle.csub_semantics.specs.Trees.{arg_tree}
 use Rattle.csub_semantics.specs.Trees.{expr_tree as value_tree}
 use Rattle.csub_rules.specs.Callees.{take_all}
@@ -38,8 +38,8 @@ abbrev pub invariant-arguments-loop-arg : goal.invariant-arguments-loop-arg
 invariant-arguments-loop-arg l = record {
   args : map arg_tree l.values.items ++ arguments (scope_of l.known.scope.now) (length l.made.items) (map type_tree l.rest) (exprs_of (map expr_tree (drop l.arg-index l.args)))
       ≡ arguments (scope_of l.known.scope.now) (length l.fn.made.items) (map type_tree l.types) (exprs_of (map expr_tree l.args));
-  calls : map call_stage l.made.items ++ calls_in_all l.known.definitions.now (scope_of l.known.scope.now) (length l.made.items) (exprs_of (map expr_tree (drop l.arg-index l.args)))
-      ≡ map call_stage l.fn.made.items ++ calls_in_all l.known.definitions.now (scope_of l.known.scope.now) (length l.fn.made.items) (exprs_of (map expr_tree l.args));
+  calls : map call_at l.made.items ++ calls_in_all l.known.definitions.now (scope_of l.known.scope.now) (length l.made.items) (exprs_of (map expr_tree (drop l.arg-index l.args)))
+      ≡ map call_at l.fn.made.items ++ calls_in_all l.known.definitions.now (scope_of l.known.scope.now) (length l.fn.made.items) (exprs_of (map expr_tree l.args));
   counts : length l.made.items + count_all (scope_of l.known.scope.now) (exprs_of (map expr_tree (drop l.arg-index l.args)))
       ≡ length l.fn.made.items + count_all (scope_of l.known.scope.now) (exprs_of (map expr_tree l.args));
   fine : FineEach (scope_of l.known.scope.now) (exprs_of (map expr_tree (drop l.arg-index l.args)));
@@ -50,8 +50,8 @@ abbrev pub invariant-numbers-loop-arg : goal.invariant-numbers-loop-arg
 invariant-numbers-loop-arg l = record {
   values : map value_tree l.values.items ++ value_list (scope_of l.known.scope.now) (length l.made.items) (exprs_of (map expr_tree (drop l.arg-index l.args)))
       ≡ value_list (scope_of l.known.scope.now) (length l.fn.made.items) (exprs_of (map expr_tree l.args));
-  calls : map call_stage l.made.items ++ calls_in_all l.known.definitions.now (scope_of l.known.scope.now) (length l.made.items) (exprs_of (map expr_tree (drop l.arg-index l.args)))
-      ≡ map call_stage l.fn.made.items ++ calls_in_all l.known.definitions.now (scope_of l.known.scope.now) (length l.fn.made.items) (exprs_of (map expr_tree l.args));
+  calls : map call_at l.made.items ++ calls_in_all l.known.definitions.now (scope_of l.known.scope.now) (length l.made.items) (exprs_of (map expr_tree (drop l.arg-index l.args)))
+      ≡ map call_at l.fn.made.items ++ calls_in_all l.known.definitions.now (scope_of l.known.scope.now) (length l.fn.made.items) (exprs_of (map expr_tree l.args));
   counts : length l.made.items + count_all (scope_of l.known.scope.now) (exprs_of (map expr_tree (drop l.arg-index l.args)))
       ≡ length l.fn.made.items + count_all (scope_of l.known.scope.now) (exprs_of (map expr_tree l.args));
   fine : FineNumbers (scope_of l.known.scope.now) (exprs_of (map expr_tree (drop l.arg-index l.args)));

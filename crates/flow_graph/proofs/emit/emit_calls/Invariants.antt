@@ -7,6 +7,6 @@ abbrev pub invariant-loop-k : goal.invariant-loop-k
 invariant-loop-k l =
     record {
       place : l.first + length l.calls ≡ l.end + l.k;
-      onward : map numbered_way l.ways.items ≡ ways_before (map call_stage (drop l.k l.calls)) l.first (map numbered_way l.fn.ways.items);
-      points : map numbered_node l.out.items ≡ map numbered_node l.initial.out.items ++ reverse (part_numbered (map call_stage (drop l.k l.calls)) l.k l.first l.spot.path.now l.spot.part (map numbered_way l.fn.ways.items));
+      onward : map numbered_way l.ways.items ≡ ways_before (map (call_stage l.fn.span) (drop l.k l.calls)) l.first (map numbered_way l.fn.ways.items);
+      points : map numbered_node l.out.items ≡ map numbered_node l.initial.out.items ++ reverse (part_numbered (map (call_stage l.fn.span) (drop l.k l.calls)) l.k l.first l.spot.path.now l.spot.part (map numbered_way l.fn.ways.items));
     }
