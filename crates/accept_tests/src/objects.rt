@@ -119,7 +119,7 @@ fn a_place_is_found_once_and_first(rt: HostRuntime) -> Result<(), Fail> {
     )
 }
 
-// Entries are given in order, each at once, and then 0 to all others.
+// Entries are given in order, each at once, and then 0 to all others, also within each inner list before the entry behind it.
 #[test]
 fn an_entry_reads_what_entries_before_it_wrote(rt: HostRuntime) -> Result<(), Fail> {
     bodies_agree(
@@ -134,6 +134,11 @@ fn an_entry_reads_what_entries_before_it_wrote(rt: HostRuntime) -> Result<(), Fa
                 "int a[2][3] = { { 7 }, { 7 } }; return a[0][2] * 64 + a[1][0] * 8 + a[1][1];",
                 "|56",
             ),
+            (
+                "int a[2][2] = { { 5 }, { a[0][1], 7 } }; printf(\"%d %d %d %d\", a[0][0], a[0][1], a[1][0], a[1][1]);",
+                "5 0 0 7|0",
+            ),
+            ("int a[2][2] = { { a[1][0] }, { 5, 7 } };", "|unset"),
             ("struct pair a = { 1, 200 }; return a.y;", "|200"),
             ("int a[2]; a[0] = 7; return a[0];", "|7"),
             ("int a[2]; a[0] = 7; return a[1];", "|unset"),

@@ -3,8 +3,9 @@
 //! What is promised: [`base_type`] and [`check_base`] give the type that a declaration begins with and what is wrong with
 //! it, [`check_slot`] the type of a declared object and the first rule that its declarator breaks, and [`check_init`] the
 //! first rule that an initialiser breaks, exactly as `base_type`, `base_fault`, `object_type`, `slot_fault` and `init_fault`
-//! of the definitions of rules (`csub_rules`) say. Each takes time in proportion to what it looks at; an `Err` is want of
-//! memory, or a full count of those that share a type.
+//! of the definitions of rules (`csub_rules`) say. Each takes time in proportion to what it looks at. [`base_type`] and
+//! [`check_slot`] have an `Err`, which is want of memory, or a full count of those that share a type; [`check_base`] and
+//! [`check_init`] have none.
 #![tactic(auto)]
 
 pub mod base;

@@ -16,7 +16,7 @@ use Rattle.csub_rules.specs.Declarators.{base_type, is_bad_length, declared_type
 
 -- the type that a declaration begins with
 pub data BrokenBase (scope : Scope) : TypeName → Fault → Type 0 where
-  -- no struct of the tag is defined before
+  -- no struct of the tag is defined before, or its definition breaks a rule
   m4 : (tag : Name) → base_type scope (Struct tag) ≡ None → BrokenBase scope (Struct tag) (record { rule = 4; span = tag.span })
 
 -- one of the lengths

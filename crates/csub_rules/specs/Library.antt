@@ -1,4 +1,5 @@
--- The names that `<stdio.h>` and `<stdlib.h>` declare here (C11 7.21 and 7.22). None of them ever stands in a scope.
+-- The names that `<stdio.h>` and `<stdlib.h>` declare here (C11 7.21 and 7.22). A name in an expression is looked for among
+-- them first, so a declaration of one, which breaks M3, never tells what it means there.
 use Rattle.std.specs.Prelude.{Option, Some, None, bytes_eq, codes, if◌then◌else◌}
 use Rattle.csub_objects.specs.Types.{Name}
 

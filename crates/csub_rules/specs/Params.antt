@@ -36,7 +36,7 @@ param_fault scope p = param_base_fault scope p.array p.base or_earlier length_fa
 
 -- each rule by itself
 pub data BrokenParam (scope : Scope) (p : Param) : Fault → Type 0 where
-  -- no struct of the tag is defined before
+  -- no struct of the tag is defined before, or its definition breaks a rule
   m4_tag : (tag : Name) → p.base ≡ names.Struct tag → base_type scope (names.Struct tag) ≡ None
       → BrokenParam scope p (record { rule = 4; span = tag.span })
   -- a parameter that is no array has a struct type

@@ -7,7 +7,8 @@
 //! rule. What is promised, in the contracts of [`laws`]: a fault is a broken rule, no rule is broken before it, and where
 //! there is no fault, no rule is broken and what was looked at can be resolved (`Fine*`). `ExprSorts` says what an expression
 //! is (a place of a type, a value of a kind), and `Constants` what a constant expression gives; `Here` is what a statement
-//! sees, and `Past` what is declared behind one.
+//! sees, and `Past` what is declared behind one. No call ([`fault_if`], [`earlier`], those of [`laws`]) has an answer for want
+//! of memory.
 //!
 //! Proofs above cite, of an expression, `proofs/LawsSound` (its fault is a broken rule), `LawsLeast` (no rule is broken before
 //! it), `LawsFine` (without one it can be resolved), `LawsServed` (what has a sort and lacks nothing is what is asked for),

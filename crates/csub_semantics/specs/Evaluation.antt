@@ -4,7 +4,7 @@ use Rattle.std.specs.Int.RustNames.{int_lt, int_le}
 use Rattle.std.specs.Ordering.{int_eq}
 use Rattle.csub_text.specs.declared.operator.UnaryOp.{UnaryOp}
 use Rattle.csub_text.specs.declared.operator.BinOp.{BinOp}
-use Rattle.csub_text.specs.declared.operator.BinOp.TheVariants.{Shl, Shr, Add}
+use Rattle.csub_text.specs.declared.operator.BinOp.TheVariants.{Add}
 use Rattle.csub_text.specs.declared.operator.StepOp.{StepOp}
 use Rattle.csub_text.specs.declared.operator.StepOp.TheVariants.{PreUp, PreDown, PostUp, PostDown}
 use Rattle.csub_types.specs.declared.kind.IntKind.{IntKind}
