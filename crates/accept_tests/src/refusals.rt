@@ -1,6 +1,7 @@
 //! Why sources are refused: their tokens, their grammar, their rules, their limits.
 use crate::running::{refusal, refusals_agree};
-use csub_accept::accept;
+use csub_accept::{SourceError, accept};
+use csub_lex::line_column;
 use std::alloc::Global;
 use std::test::Fail;
 
@@ -48,6 +49,11 @@ fn limits_are_told_in_their_order(rt: HostRuntime) -> Result<(), Fail> {
                 "void f(int a, int b, int c, int d, int e, int g, int h, int i, int j, int k, int l, int m, int n, int o, int p, int q) { } int main(void) { return 0; }",
                 "accepted",
             ),
+            // of two functions the one that is defined first, and not the one whose prototype stands before
+            (
+                "int f(int, int, int, int, int, int, int, int, int, int, int, int, int, int, int, int, int); int g(int a, int b, int c, int d, int e, int f, int g, int h, int i, int j, int k, int l, int m, int n, int o, int p, int q, int r) { return 0; } int f(int a, int b, int c, int d, int e, int f, int g, int h, int i, int j, int k, int l, int m, int n, int o, int p, int q) { return 0; } int main(void) { return 0; }",
+                "limit 6 18",
+            ),
             (
                 "int main(void) { printf(\"%d%d%d%d%d%d%d%d%d\", 1, 2, 3, 4, 5, 6, 7, 8, 9); return 0; }",
                 "limit 7 9",
@@ -62,6 +68,59 @@ fn limits_are_told_in_their_order(rt: HostRuntime) -> Result<(), Fail> {
             ),
         ],
     )
+}
+
+/// The rule that a source breaks, with the line and the column of the place.
+fn rule_and_place(alloc: Global, source: &str) -> Result<String, Fail> {
+    match accept(alloc, source.as_bytes()) {
+        Ok(_) => Ok(format!(in alloc; "accepted")?),
+        Err(SourceError::Meaning(rule, at)) => {
+            let start = at.start as usize;
+            if start > source.len() || source.len() > 1_048_576 {
+                return Err("no place of the source")?;
+            }
+            let (line, column) = line_column(source.as_bytes(), start);
+            Ok(format!(in alloc; "M{rule} at {line}:{column}")?)
+        }
+        Err(error) => refusal(alloc, error),
+    }
+}
+
+#[test]
+fn the_place_of_a_broken_rule_has_its_line_and_its_column(rt: HostRuntime) -> Result<(), Fail> {
+    let rows: &[(&str, &str)] = &[
+        ("int a; int a; int main(void) { return 0; }", "M2 at 1:12"),
+        ("int a[0]; int main(void) { return 0; }", "M10 at 1:5"),
+        (
+            "int f(void) { return 0; } int main(void) { return g(); }",
+            "M12 at 1:51",
+        ),
+        (
+            "void f(void) { return 1; } int main(void) { return 0; }",
+            "M15 at 1:16",
+        ),
+        ("int main(void) { break; return 0; }", "M16 at 1:18"),
+        ("int main(void) { goto a; return 0; }", "M17 at 1:23"),
+        (
+            "int main(void) { switch (1) { case 2: case 2: return 0; } }",
+            "M18 at 1:44",
+        ),
+        ("int main(void) { \"x\"; return 0; }", "M20 at 1:18"),
+        (
+            "struct s { int a; }; int f(struct s x) { return 0; } int main(void) { return 0; }",
+            "M4 at 1:35",
+        ),
+        ("int a[2]; int main(void) { a; return 0; }", "M7 at 1:28"),
+        (
+            "int main(void) { switch (1u) { case -1: case 4294967295u: return 0; } }",
+            "M18 at 1:46",
+        ),
+    ];
+    for &(source, expected) in rows {
+        let found = rule_and_place(rt.alloc(), source)?;
+        assert!(rt; found.as_str() == expected, "{source} gave {found}");
+    }
+    Ok(())
 }
 
 /// A text again and again, each time with its number inside it, between two others.

@@ -1,5 +1,6 @@
 //! Walks of two versions: which edges are dangerous, and how many pairs of points are reached.
-ghost use Rattle.std.specs.Prelude.{◌≡◌, ◌<◌};
+ghost use Rattle.std.specs.Prelude.{◌≡◌, ◌+◌, ◌<◌, ◌≤◌};
+ghost use Rattle.flow_graph.specs.Graph.{edge_count, point_count};
 
 use crate::running::{listed, program_of};
 use call_walk::WalkResult;
@@ -10,6 +11,18 @@ use std::marker::Brand;
 use std::process::Abort;
 use std::sync::ledger::{Blank, Ledger};
 use std::test::Fail;
+
+/// The walk of two graphs. Where the old one has 9 edges and the new one 13 points, at most 117 questions are asked.
+fn walk_asking<L: Ledger>(
+    alloc: Global,
+    old: &Graph,
+    new: &Graph,
+    steps: &mut Steps<L>,
+) -> Result<WalkResult, AllocError>
+    ensures { edge_count old.now ≡ 9 → point_count new.now ≡ 13 → steps.new ≤ steps.old + 117 }
+{
+    call_walk::walk(alloc, old, new, steps)
+}
 
 /// The walk of two graphs, whose questions are counted in the ledger of `blank`.
 fn walk_counted<L: Ledger>(
@@ -23,7 +36,7 @@ fn walk_counted<L: Ledger>(
     requires some { 0 < blank.parts }
 {
     let mut steps: Steps<L> = Steps::new(blank);
-    call_walk::walk(alloc, old, new, &mut steps)
+    walk_asking(alloc, old, new, &mut steps)
 }
 
 /// The walk of two graphs.
@@ -93,6 +106,23 @@ fn a_changed_line_makes_the_edge_to_it_dangerous(rt: HostRuntime) -> Result<(), 
             ),
         ],
     )
+}
+
+// The 9 edges and 13 points for which `walk_asking` says that at most 117 questions are asked, and the 13 pairs.
+#[test]
+fn an_unrolled_loop_is_walked_with_117_questions_at_most(rt: HostRuntime) -> Result<(), Fail> {
+    let alloc = rt.alloc();
+    let old = graph_of(
+        alloc,
+        "int main(void) { int c; c = getchar(); while (c != -1) { putchar(c); c = getchar(); } return 0; }",
+    )?;
+    let new = graph_of(
+        alloc,
+        "int main(void) { int c; c = getchar(); if (c != -1) { putchar(c); c = getchar(); while (c != -1) { putchar(c); c = getchar(); } } return 0; }",
+    )?;
+    assert_eq!(rt; (old.edges(), new.points()), (9, 13));
+    assert_eq!(rt; walk(alloc, &old, &new)?.facts.len(), 13);
+    Ok(())
 }
 
 // The old line `putchar(67);`, point 7, has a partner in each branch of the new program. Behind the one both programs return, behind

@@ -1,4 +1,5 @@
-//! Certificates of walks, and what is found of claims. The digests of both sources were taken by Python's hashlib.
+//! Certificates of walks, and what is found of claims. The digests of sources were taken by Python's hashlib.
+use crate::carried::{LOOP, UNROLLED};
 use crate::files::{ASSIGNED, OTHER_BYTE, answer_agrees, answers_agree};
 use dejavu_cli::Status8;
 use line_text::push_hex;
@@ -40,6 +41,53 @@ fn the_certificate_of_a_walk_has_its_dangerous_edges_and_its_pairs(
     let text = certificate(alloc, CLAIM)?;
     let words = ["certify", "old", "new"];
     answer_agrees(&rt, alloc, &files, &words, Status8::Done, text.as_str())
+}
+
+/// The certificate of a loop and its unrolled form, whose sum was taken by `sha256sum`. The points 5 to 7 of the loop, its test
+/// and the two statements of its body, have two partners each: one in the round before the loop, and one in the loop behind that.
+const OF_UNROLLED: &str =
+    "dejavu certificate 1\nold e54a5706e4d9fa42af6a6c40a2026c1a4093f60a68d5ecb86dba7c2084c10cba\nnew 35465d543a348607518c6be3ab72e0fba465fba53f37bf23e2987e11b7d8c150\ndangerous 0\npairs 13\npair 0 0\npair 1 1\npair 2 2\npair 3 3\npair 4 4\npair 5 5\npair 5 8\npair 6 6\npair 6 9\npair 7 7\npair 7 10\npair 8 11\npair 9 12\nend 502e6202090ab51b419df5a84d0b92764f49a4c8cbde63e9f900a7aead2661ab\n";
+
+#[test]
+fn the_certificate_of_an_unrolled_loop_has_each_partner_of_an_old_point(
+    rt: HostRuntime,
+) -> Result<(), Fail> {
+    let files = [("old", LOOP), ("new", UNROLLED), ("claim", OF_UNROLLED)];
+    let rows: &[(&[&str], Status8, &str)] = &[
+        (&["certify", "old", "new"], Status8::Done, OF_UNROLLED),
+        (
+            &["check", "old", "new", "claim"],
+            Status8::Done,
+            "closed pairs 13 dangerous 0\n",
+        ),
+    ];
+    answers_agree(&rt, rt.alloc(), &files, rows)
+}
+
+/// A source that goes round so many equal statements for ever.
+fn ring(alloc: Global, count: u32) -> Result<String, Fail> {
+    let mut source = String::from_str(alloc, "int main(void) { ")?;
+    for place in 0..count {
+        let next = if place + 1 < count { place + 1 } else { 0 };
+        let line = format!(in alloc; "a{place}: goto a{next}; ")?;
+        source.push_str(line.as_str())?;
+    }
+    source.push('}')?;
+    Ok(source)
+}
+
+// 3,065 and 3,066 have no divisor in common, so each point of the one ring, from 4 on, comes to stand beside each of the other.
+// With 0, 1 and 3 beside themselves that is 9,397,293 pairs. Each has a line of 7 bytes and the digits of both points, and the
+// other lines have 254 bytes. The walk and its pairs take some 380 MB.
+#[test]
+fn a_certificate_of_more_than_134217728_bytes_is_too_much(rt: HostRuntime) -> Result<(), Fail> {
+    let alloc = rt.alloc();
+    let old = ring(alloc, 3065)?;
+    let new = ring(alloc, 3066)?;
+    let files = [("old", old.as_str()), ("new", new.as_str())];
+    let words = ["certify", "old", "new"];
+    let line = "refused: certificate too much 134227793\n";
+    answer_agrees(&rt, alloc, &files, &words, Status8::TooMuch, line)
 }
 
 #[test]

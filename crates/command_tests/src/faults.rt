@@ -1,5 +1,5 @@
 //! Faults of the files and of the output.
-use crate::files::{EMPTY_HISTORY, FILES, SELECTION, files_of, owned_words, shelf_of};
+use crate::files::{ASSIGNED_SELECTION, EMPTY_HISTORY, FILES, files_of, owned_words, shelf_of};
 use dejavu_cli::{Status8, dejavu};
 use dv_outside::{FailingShelf, FailingSink, MemorySink, OpenGate};
 use std::alloc::Global;
@@ -40,16 +40,32 @@ fn each_file_may_fail<R: Threads + Abort + Sync>(
     Ok(())
 }
 
+/// A selection of one test of two.
+const SELECT: &[&str] = &["select", "assigned", "other byte", "assigned history"];
+
 #[test]
 fn a_fault_at_any_of_the_files_is_a_read_fault(rt: HostRuntime) -> Result<(), Fail> {
     let alloc = rt.alloc();
     each_file_may_fail(&rt, alloc, &["record", "empty", "one"], 2, EMPTY_HISTORY)?;
-    let words = ["select", "branching", "changed", "history"];
-    each_file_may_fail(&rt, alloc, &words, 3, SELECTION)
+    each_file_may_fail(&rt, alloc, SELECT, 3, ASSIGNED_SELECTION)
 }
 
-/// An output that takes 4 bytes at a call may fail at each of the calls, so many, that take the text of a command. What was
-/// taken before is a beginning of the text.
+/// The answer and the text of a command whose output takes 4 bytes at a call and fails at one.
+fn answer_cut<R: Threads + Sync>(
+    rt: &R,
+    alloc: Global,
+    words: &[&str],
+    call: u32,
+) -> Result<(Status8, Vec<u8>), Fail> {
+    let words = owned_words(alloc, words)?;
+    let mut shelf = shelf_of(alloc, FILES)?;
+    let mut out = FailingSink::new(alloc, 1000, 4, call)?;
+    let status = dejavu(rt, alloc, &words, &mut shelf, &mut out, &OpenGate);
+    Ok((status, out.bytes().to_vec(alloc)?))
+}
+
+/// Such an output may fail at each of the calls, so many, that take the text of a command. What was taken before is a beginning
+/// of the text.
 fn each_call_of_the_output_may_fail<R: Threads + Abort + Sync>(
     rt: &R,
     alloc: Global,
@@ -57,14 +73,11 @@ fn each_call_of_the_output_may_fail<R: Threads + Abort + Sync>(
     calls: u32,
     text: &str,
 ) -> Result<(), Fail> {
-    let words = owned_words(alloc, words)?;
     for before in 0..calls {
-        let mut shelf = shelf_of(alloc, FILES)?;
-        let mut out = FailingSink::new(alloc, 1000, 4, before.wrapping_add(1))?;
-        let status = dejavu(rt, alloc, &words, &mut shelf, &mut out, &OpenGate);
+        let (status, bytes) = answer_cut(rt, alloc, words, before.wrapping_add(1))?;
         assert_eq!(rt; status, Status8::WriteFault);
-        assert_eq!(rt; out.bytes().len(), (before as usize).wrapping_mul(4));
-        assert!(rt; text.as_bytes().starts_with(out.bytes()));
+        assert_eq!(rt; bytes.len(), (before as usize).wrapping_mul(4));
+        assert!(rt; text.as_bytes().starts_with(bytes.as_slice()));
     }
     Ok(())
 }
@@ -77,18 +90,18 @@ fn a_fault_of_the_output_at_any_call_leaves_a_beginning_of_the_text(
     let alloc = rt.alloc();
     let words = ["record", "empty", "one"];
     each_call_of_the_output_may_fail(&rt, alloc, &words, 60, EMPTY_HISTORY)?;
-    let words = ["select", "branching", "changed", "history"];
-    each_call_of_the_output_may_fail(&rt, alloc, &words, 9, SELECTION)
+    each_call_of_the_output_may_fail(&rt, alloc, SELECT, 9, ASSIGNED_SELECTION)
 }
 
 #[test]
-fn a_fault_of_the_output_leaves_a_beginning_of_the_line(rt: HostRuntime) -> Result<(), Fail> {
-    let alloc = rt.alloc();
-    let mut shelf = shelf_of(alloc, FILES)?;
-    let mut out = FailingSink::new(alloc, 1000, 4, 2)?;
-    let words = Vec::new(alloc);
-    let status = dejavu(&rt, alloc, &words, &mut shelf, &mut out, &OpenGate);
-    assert_eq!(rt; status, Status8::WriteFault);
-    assert_eq!(rt; out.bytes(), b"refu".as_slice());
+fn a_fault_of_the_output_leaves_a_beginning_of_the_text_or_the_line(
+    rt: HostRuntime,
+) -> Result<(), Fail> {
+    let rows: &[(&[&str], u32, &str)] = &[(SELECT, 3, "left A\nr"), (&[], 2, "refu")];
+    for &(words, call, beginning) in rows {
+        let (status, bytes) = answer_cut(&rt, rt.alloc(), words, call)?;
+        assert_eq!(rt; status, Status8::WriteFault);
+        assert_eq!(rt; bytes.as_slice(), beginning.as_bytes());
+    }
     Ok(())
 }

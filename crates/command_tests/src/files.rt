@@ -8,7 +8,7 @@ use std::sync::atomic::{AtomicU64, Ordering};
 use std::test::Fail;
 use std::thread::Threads;
 
-pub const BRANCHING: &str =
+const BRANCHING: &str =
     "int main(void) { if (getchar() == 65) { putchar(66); } else { putchar(67); } return 0; }";
 
 // The same, but for what is written for another byte than 65.
@@ -28,17 +28,38 @@ const SPOILED_HISTORY: &str =
 /// Of `branching`, `changed` and the history: B alone crosses edge 4, which leads to the changed line.
 pub const SELECTION: &str = "left A\nrun B edge 4\nselected 1 of 2\n";
 
-/// The files that most tests name: three sources, one that breaks a rule, two suites and one that is none, two histories
+/// A source of 9 edges, of which 5 is crossed by every test whose first byte isn't 65.
+pub const ASSIGNED: &str =
+    "int main(void) { int c; c = getchar(); if (c == 65) { putchar(66); } else { putchar(67); } return 0; }";
+
+/// The same, but for what is written for another byte than 65.
+pub const OTHER_BYTE: &str =
+    "int main(void) { int c; c = getchar(); if (c == 65) { putchar(66); } else { putchar(68); } return 0; }";
+
+/// A suite of a test that reads 65 and one that reads 66.
+pub const TWO: &str = "dejavu suite 1\ntest A 100 41\ntest B 100 42\n";
+
+/// The history of `ASSIGNED` and `TWO`.
+pub const ASSIGNED_HISTORY: &str =
+    "dejavu history 3\nsource f3e7b98b7d4d95f021635d364627ee64e4acd311669841db52966ba816eaeb96\nedges 9\ntests 2\ntest A\nbudget 100\ninput 41\nstatus exit 0\nturns 9\noutput 42\ncrossed 5f01\ntest B\nbudget 100\ninput 42\nstatus exit 0\nturns 9\noutput 43\ncrossed af01\nend eac55876d49f0d1fe32a649b9e1751d299b9e79be91b030c71dd123e5014b43c\n";
+
+/// Of `ASSIGNED`, `OTHER_BYTE` and that history: B alone crosses edge 5, which leads to the changed line.
+pub const ASSIGNED_SELECTION: &str = "left A\nrun B edge 5\nselected 1 of 2\n";
+
+/// The files that most tests name: five sources, one that breaks a rule, two suites and one that is none, three histories
 /// and one that is none.
 pub const FILES: &[(&str, &str)] = &[
     ("branching", BRANCHING),
     ("changed", CHANGED),
+    ("assigned", ASSIGNED),
+    ("other byte", OTHER_BYTE),
     ("empty", "int main(void) { }"),
     ("broken", "int main(void) { return x; }"),
     ("two", "dejavu suite 1\ntest A 100 41\ntest B 100 42\n"),
     ("one", "dejavu suite 1\ntest E 9 -\n"),
     ("none", "dejavu suite 1\ntest A 100 4\n"),
     ("history", BRANCHING_HISTORY),
+    ("assigned history", ASSIGNED_HISTORY),
     ("empty history", EMPTY_HISTORY),
     ("spoiled history", SPOILED_HISTORY),
 ];
@@ -182,17 +203,6 @@ pub fn recorded<R: Threads + Sync>(
         _ => Err("not recorded".into()),
     }
 }
-
-/// A source of 9 edges, of which 5 is crossed by every test whose first byte isn't 65.
-pub const ASSIGNED: &str =
-    "int main(void) { int c; c = getchar(); if (c == 65) { putchar(66); } else { putchar(67); } return 0; }";
-
-/// The same, but for what is written for another byte than 65.
-pub const OTHER_BYTE: &str =
-    "int main(void) { int c; c = getchar(); if (c == 65) { putchar(66); } else { putchar(68); } return 0; }";
-
-/// A suite of a test that reads 65 and one that reads 66.
-pub const TWO: &str = "dejavu suite 1\ntest A 100 41\ntest B 100 42\n";
 
 /// A suite of the word counter.
 pub const COUNTED: &str =

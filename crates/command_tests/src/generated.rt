@@ -1,5 +1,5 @@
 //! What is told of generated pairs of sources.
-use crate::files::answer_about;
+use crate::files::{answer_about, answers_agree};
 use dejavu_cli::Status8;
 use std::alloc::Global;
 use std::process::Abort;
@@ -31,12 +31,19 @@ fn generated_begins<R: Threads + Abort + Sync>(
 // first pair, 95 and 1, which aren't greater than 149, and all 8 in the second.
 #[test]
 fn a_small_pair_is_measured(rt: HostRuntime) -> Result<(), Fail> {
-    let one =
-        "gen seed 1 size 1\nfunctions 2 points 16 edges 14 tests 4\ndangerous 1 selected 2 differ 2\n";
-    let two =
-        "gen seed 2 size 2\nfunctions 3 points 24 edges 22 tests 8\ndangerous 1 selected 8 differ 8\n";
-    generated_begins(&rt, rt.alloc(), ("1", "1"), one)?;
-    generated_begins(&rt, rt.alloc(), ("2", "2"), two)
+    let rows: &[(&[&str], Status8, &str)] = &[
+        (
+            &["gen", "1", "1"],
+            Status8::Done,
+            "gen seed 1 size 1\nfunctions 2 points 16 edges 14 tests 4\ndangerous 1 selected 2 differ 2\n",
+        ),
+        (
+            &["gen", "2", "2"],
+            Status8::Done,
+            "gen seed 2 size 2\nfunctions 3 points 24 edges 22 tests 8\ndangerous 1 selected 8 differ 8\n",
+        ),
+    ];
+    answers_agree(&rt, rt.alloc(), &[], rows)
 }
 
 #[test]

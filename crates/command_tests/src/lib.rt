@@ -19,6 +19,8 @@ mod generated;
 #[cfg(test)]
 mod histories;
 #[cfg(test)]
+mod long_files;
+#[cfg(test)]
 mod migrations;
 #[cfg(test)]
 mod orders;

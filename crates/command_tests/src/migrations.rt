@@ -1,16 +1,14 @@
 //! A history of an older version of the format, and the history that it becomes. Both texts are written out by hand, with sums
 //! by Python's hashlib.
-use crate::files::{ASSIGNED, OTHER_BYTE, TWO, answer_agrees, answers_agree, recorded};
+use crate::files::{
+    ASSIGNED, ASSIGNED_HISTORY, OTHER_BYTE, TWO, answer_agrees, answers_agree, recorded,
+};
 use dejavu_cli::Status8;
 use std::test::Fail;
 
-/// The history of two tests in version 2, whose crossed edges are numbers.
+/// `ASSIGNED_HISTORY` in version 2, whose crossed edges are numbers.
 const EARLIER: &str =
     "dejavu history 2\nsource f3e7b98b7d4d95f021635d364627ee64e4acd311669841db52966ba816eaeb96\nedges 9\ntests 2\ntest A\nbudget 100\ninput 41\nstatus exit 0\nturns 9\noutput 42\ncrossed 0 1 2 3 4 6 8\ntest B\nbudget 100\ninput 42\nstatus exit 0\nturns 9\noutput 43\ncrossed 0 1 2 3 5 7 8\nend 9174ede2403bebc220bab3f30412b8655668d061f0330d0457b2082fb2652a96\n";
-
-/// The same in version 3, whose crossed edges are bits.
-const TODAY: &str =
-    "dejavu history 3\nsource f3e7b98b7d4d95f021635d364627ee64e4acd311669841db52966ba816eaeb96\nedges 9\ntests 2\ntest A\nbudget 100\ninput 41\nstatus exit 0\nturns 9\noutput 42\ncrossed 5f01\ntest B\nbudget 100\ninput 42\nstatus exit 0\nturns 9\noutput 43\ncrossed af01\nend eac55876d49f0d1fe32a649b9e1751d299b9e79be91b030c71dd123e5014b43c\n";
 
 #[test]
 fn a_history_of_version_2_becomes_the_one_that_is_recorded_today(
@@ -19,8 +17,11 @@ fn a_history_of_version_2_becomes_the_one_that_is_recorded_today(
     let alloc = rt.alloc();
     let files = [("source", ASSIGNED), ("earlier", EARLIER)];
     let words = ["migrate", "source", "earlier"];
-    answer_agrees(&rt, alloc, &files, &words, Status8::Done, TODAY)?;
-    assert_eq!(rt; recorded(&rt, alloc, ASSIGNED, TWO)?.as_str(), TODAY);
+    answer_agrees(&rt, alloc, &files, &words, Status8::Done, ASSIGNED_HISTORY)?;
+    assert_eq!(rt;
+        recorded(&rt, alloc, ASSIGNED, TWO)?.as_str(),
+        ASSIGNED_HISTORY
+    );
     Ok(())
 }
 
@@ -31,7 +32,7 @@ fn each_command_takes_its_own_version_of_the_format(rt: HostRuntime) -> Result<(
         ("new", OTHER_BYTE),
         ("broken", "int main(void) { return x; }"),
         ("earlier", EARLIER),
-        ("today", TODAY),
+        ("today", ASSIGNED_HISTORY),
     ];
     let rows: &[(&[&str], Status8, &str)] = &[
         (

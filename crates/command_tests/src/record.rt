@@ -45,7 +45,7 @@ fn record_names_the_first_cause(rt: HostRuntime) -> Result<(), Fail> {
             "refused: suite line 2 rule S6\n",
         ),
         (
-            &["record", "branching", "absent"],
+            &["record", "assigned", "absent"],
             Status8::ReadFault,
             "refused: read fault\n",
         ),

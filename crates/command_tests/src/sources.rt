@@ -54,6 +54,11 @@ fn the_line_says_why_a_source_is_refused(rt: HostRuntime) -> Result<(), Fail> {
             "int g[65536]; int h[1]; int main(void) { return 0; }",
             "refused: source limit globals 65537\n",
         ),
+        // of two functions the one that is defined first, and not the one whose prototype stands before
+        (
+            "int f(int, int, int, int, int, int, int, int, int, int, int, int, int, int, int, int, int); int g(int a, int b, int c, int d, int e, int f, int g, int h, int i, int j, int k, int l, int m, int n, int o, int p, int q, int r) { return 0; } int f(int a, int b, int c, int d, int e, int f, int g, int h, int i, int j, int k, int l, int m, int n, int o, int p, int q) { return 0; } int main(void) { return 0; }",
+            "refused: source limit arguments 18\n",
+        ),
     ];
     for &(source, line) in rows {
         source_is_refused(&rt, rt.alloc(), source, line)?;

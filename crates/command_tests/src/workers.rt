@@ -1,5 +1,5 @@
 //! Any number of workers records the same history, and two of them are at work at the same time.
-use crate::files::{BRANCHING, COUNTED, TWO, answer_about, answer_counted, recorded};
+use crate::files::{ASSIGNED, COUNTED, TWO, answer_about, answer_counted, recorded};
 use crate::orders::{DEEP, OTHER_CONDITION};
 use dejavu_cli::Status8;
 use dv_outside::Gate;
@@ -31,8 +31,8 @@ fn any_number_of_workers_records_the_same(rt: HostRuntime) -> Result<(), Fail> {
     let alloc = rt.alloc();
     let rows = &[
         (WORD_COUNTER, COUNTED),
-        (WORD_COUNTER, "dejavu suite 1\n"),
-        (BRANCHING, TWO),
+        (ASSIGNED, "dejavu suite 1\n"),
+        (ASSIGNED, TWO),
     ];
     for &(source, suite) in rows {
         let one = history(&rt, alloc, source, suite, "1")?;
@@ -44,48 +44,57 @@ fn any_number_of_workers_records_the_same(rt: HostRuntime) -> Result<(), Fail> {
     Ok(())
 }
 
-/// A gate that counts who passes, and at which two workers wait a while for each other, the first time that each of them
-/// comes with its test.
+/// A gate that counts who passes, and at which two tests look for each other. The first time that a worker comes with one of
+/// them it sets the test's own mark, and then looks for the mark of the other, at most 100,000,000 times.
 #[derive(Drop)]
-struct Meeting {
+struct Marks {
     first: usize,
     second: usize,
+    first_mark: AtomicU64,
+    second_mark: AtomicU64,
     passed: AtomicU64,
-    came: AtomicU64,
-    met: AtomicU64,
+    seen: AtomicU64,
 }
 
-impl Meeting {
-    /// The two workers come with these tests.
-    fn new(first: usize, second: usize) -> Meeting {
-        Meeting {
+impl Marks {
+    /// These tests look for each other.
+    fn new(first: usize, second: usize) -> Marks {
+        Marks {
             first,
             second,
+            first_mark: AtomicU64::new(0),
+            second_mark: AtomicU64::new(0),
             passed: AtomicU64::new(0),
-            came: AtomicU64::new(0),
-            met: AtomicU64::new(0),
+            seen: AtomicU64::new(0),
         }
     }
-}
 
-impl Gate for Meeting {
-    fn enter(&self, test: usize) {
-        self.passed.fetch_add(1, Ordering::SeqCst);
-        if test == self.first || test == self.second {
-            if self.came.fetch_add(1, Ordering::SeqCst) >= 2 {
+    /// Sets the one mark and looks for the other.
+    fn look(&self, own: &AtomicU64, other: &AtomicU64) {
+        if own.fetch_add(1, Ordering::SeqCst) > 0 {
+            return;
+        }
+        for _ in 0..100_000_000u64 {
+            if other.load(Ordering::SeqCst) > 0 {
+                self.seen.fetch_add(1, Ordering::SeqCst);
                 return;
             }
-            for _ in 0..1_000_000_000u64 {
-                if self.came.load(Ordering::SeqCst) >= 2 {
-                    self.met.fetch_add(1, Ordering::SeqCst);
-                    return;
-                }
-            }
         }
     }
 }
 
-/// The words about these texts are done, two workers meet with these tests, and so many tests pass.
+impl Gate for Marks {
+    fn enter(&self, test: usize) {
+        self.passed.fetch_add(1, Ordering::SeqCst);
+        if test == self.first {
+            self.look(&self.first_mark, &self.second_mark);
+        } else if test == self.second {
+            self.look(&self.second_mark, &self.first_mark);
+        }
+    }
+}
+
+/// The words about these texts are done, both tests' marks are seen, and so many tests pass.
 fn two_workers_meet<R: Threads + Abort + Sync>(
     rt: &R,
     alloc: Global,
@@ -94,19 +103,21 @@ fn two_workers_meet<R: Threads + Abort + Sync>(
     (first, second): (usize, usize),
     passed: u64,
 ) -> Result<(), Fail> {
-    let gate = Meeting::new(first, second);
+    let gate = Marks::new(first, second);
     let (status, _) = answer_counted(rt, alloc, texts, words, &gate)?;
     assert_eq!(rt; status, Status8::Done);
     assert_eq!(rt; gate.passed.load(Ordering::SeqCst), passed);
-    assert_eq!(rt; gate.met.load(Ordering::SeqCst), 2);
+    assert_eq!(rt; gate.seen.load(Ordering::SeqCst), 2);
     Ok(())
 }
 
-// Of twelve tests the first worker has those from 0 on and the second those from 6 on.
+// Of two tests each worker has one; of twelve the first has those from 0 on and the second those from 6 on.
 #[test]
 fn two_workers_run_at_the_same_time(rt: HostRuntime) -> Result<(), Fail> {
-    let files = [("source", WORD_COUNTER), ("suite", COUNTED)];
     let words = ["record", "source", "suite", "--workers=2"];
+    let files = [("source", ASSIGNED), ("suite", TWO)];
+    two_workers_meet(&rt, rt.alloc(), &files, &words, (0, 1), 2)?;
+    let files = [("source", WORD_COUNTER), ("suite", COUNTED)];
     two_workers_meet(&rt, rt.alloc(), &files, &words, (0, 6), 12)
 }
 
