@@ -1,0 +1,69 @@
+"""Files that are read, and files that appear whole or not at all."""
+from __future__ import annotations
+
+import errno
+import os
+from contextlib import contextmanager, suppress
+from pathlib import Path
+from typing import Iterator, List, Mapping, Optional
+
+from .errors import ToolError
+
+
+@contextmanager
+def told_of(path: Path) -> Iterator[None]:
+    """Tells an error of the system within as a `ToolError` of this file."""
+    try:
+        yield
+    except OSError as error:
+        raise ToolError(f"{path}: {error.strerror}") from error
+
+
+def read_file(path: Path, most: Optional[int] = None) -> bytes:
+    """The bytes of a file, of a longer one than `most` the first `most` + 1; a `ToolError` where it can't be read."""
+    with told_of(path), path.open("rb") as file:
+        return file.read() if most is None else file.read(most + 1)
+
+
+def files_in(folder: Path, ending: str) -> List[Path]:
+    """The files of a folder whose names end so and don't begin with a dot, in the order of the bytes of their names.
+
+    Raises a `ToolError` where the folder can't be read or has none, or where one of them is no plain file.
+    """
+    with told_of(folder):
+        names = sorted(os.listdir(folder), key=os.fsencode)
+    paths = [folder / name for name in names if name.endswith(ending) and not name.startswith(".")]
+    if not paths:
+        raise ToolError(f"{folder}: there is no file *{ending}")
+    for path in paths:
+        with told_of(path):
+            if not path.is_file():
+                raise ToolError(f"{path}: this is no file")
+    return paths
+
+
+def write_whole(texts: Mapping[Path, bytes]) -> None:
+    """Writes files, each of which appears whole or not at all: all are written beside their places, then renamed.
+
+    Raises a `ToolError` of the first that can't be written. None appears where that shows before the renaming.
+    """
+    parts = {path: path.with_name(f"{path.name}.{os.getpid()}.part") for path in texts}
+    try:
+        for path, data in texts.items():
+            with told_of(path):
+                write_part(path, parts[path], data)
+        for path, part in parts.items():
+            with told_of(path):
+                part.replace(path)
+    finally:
+        for part in parts.values():
+            with suppress(OSError):  # it was renamed, or never came to be
+                part.unlink()
+
+
+def write_part(path: Path, part: Path, data: bytes) -> None:
+    """Writes a new file that is to be renamed to `path`; an `OSError` where that can't be."""
+    if path.is_dir():
+        raise IsADirectoryError(errno.EISDIR, os.strerror(errno.EISDIR))
+    with part.open("xb") as file:
+        file.write(data)
