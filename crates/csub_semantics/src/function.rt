@@ -20,7 +20,7 @@ pub struct RPart {
     pub calls: Vec<RCall>,
     /// The part's own point; none where the whole part is a user call.
     pub main: Option<Label>,
-    /// The place that is named for the own point.
+    /// The place that is named for the own point; where there is none, the first token of the part's expression.
     pub span: Span,
 }
 

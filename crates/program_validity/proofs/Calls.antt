@@ -21,7 +21,7 @@ use Rattle.csub_resolution.specs.Values.{Defined, params_in, count, count_all, o
 use Rattle.csub_resolution.specs.Programs.{some_count}
 use Rattle.csub_limits.specs.Prints.{prints, prints_all, printed}
 use Rattle.csub_validity.specs.Valid as valid
-use Rattle.csub_validity.specs.Valid.{IsExpr, IsPlace, IsArg, AreArgs, IsCall, IsDefinedAs, IsEarlier, RefersTo, place_type, temp_of, stage_result}
+use Rattle.csub_validity.specs.Valid.{IsExpr, IsPlace, IsArg, AreArgs, IsCall, IsDefinedAs, IsEarlier, RefersTo, place_type, temp_of}
 use Rattle.program_validity.specs.Written.{WrittenExpr, WrittenExprs}
 use Rattle.program_validity.proofs.Counted.{call_temps, Stand, stand_left, stand_right, calls_length, calls_length_all, silent, temps_append, full, full_call, fit_or_print, number_given, place_given, array_given, taken_given}
 use Rattle.program_validity.proofs.Agreeing.{Agrees}
