@@ -8,3 +8,10 @@ class ToolError(Exception):
     def __init__(self, message: str, status: int = 2) -> None:
         super().__init__(message)
         self.status = status
+
+
+class Unbuilt(ToolError):
+    """There is no program to run, and why."""
+
+    def __init__(self, message: str) -> None:
+        super().__init__(message, 70)
