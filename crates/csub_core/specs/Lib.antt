@@ -14,4 +14,3 @@ pub use Rattle.csub_semantics.specs.Acts
 pub use Rattle.csub_semantics.specs.Runs
 pub use Rattle.csub_semantics.specs.Books
 pub use Rattle.csub_validity.specs.Valid
-pub mod Checks

@@ -1,15 +1,12 @@
 //! Valid programs. Which programs are valid says `specs/Valid` of `csub_validity`, by the definitions of
 //! `csub_semantics`; both are given on from here, with the types of the latter.
 //!
-//! What is promised of the code: [`Program::make`] gives a program exactly where its functions are valid, and a
-//! [`Program`] stays valid (the contracts of its methods). [`point_count`] and [`edge_count`] tell how large functions are.
-//! The decisions on statements, on counts and on whole programs stand here, by those on expressions, objects and calls in
-//! `csub_validity`; `specs/Checks` names what they are made of. Proofs above cite `proofs/LawsThreads`: a program may cross
-//! threads.
+//! What is promised of the code: a [`Program`] is valid when it is made, and stays so (the contracts of its methods).
+//! Functions and objects of file scope that are not known to be valid are judged in `csub_decisions`. Proofs above cite
+//! `proofs/LawsThreads`: a program may cross threads.
 #![tactic(auto)]
 
 pub mod program;
-mod valid;
 
 pub use csub_objects::cells;
 pub use csub_semantics::{
@@ -19,4 +16,3 @@ pub use csub_semantics::{
     copy_label,
 };
 pub use program::Program;
-pub use valid::counts::{edge_count, point_count};

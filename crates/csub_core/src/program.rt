@@ -1,11 +1,9 @@
 //! A program, which keeps its validity.
-ghost use Rattle.std.specs.Prelude.{◌≡◌, ◌↔◌, IsSome, IfSome};
+ghost use Rattle.std.specs.Prelude.{◌≡◌};
 ghost use Rattle.csub_semantics.specs.Syntax.{program_tree};
 ghost use Rattle.csub_validity.specs.Valid.{IsValid};
 
-use crate::valid::is_valid;
 use csub_semantics::{Function, GlobalVar};
-use csub_validity::role::Definitions;
 use std::marker::Model;
 
 /// A valid program: `#start`, which calls `main`, and then the defined functions in the order of the source; and the
@@ -35,30 +33,6 @@ impl Model for Program {
 }
 
 impl Program {
-    /// The program of these functions and objects of file scope, and `None` exactly where they are not valid; they are
-    /// dropped then. What validity is stands in `specs/Valid` of `csub_validity`.
-    ///
-    /// The limits on functions, points and edges are looked at first. Beside a few passes over the program this takes a
-    /// comparison of names for each two functions, for each two objects of file scope, for each two objects of a
-    /// function, for each call and function, and for each use of an object and object that may be meant: up to some 8
-    /// million for a function with 4,096 cells. Beside that it passes over a function for each of its labels and each of
-    /// its `goto`s, and takes a comparison for each two lines of a `switch`. At last it passes over the types of all
-    /// objects for each struct in these types. It takes no memory.
-    pub fn make(functions: Vec<Function>, globals: Vec<GlobalVar>) -> Option<Program>
-        ensures exact { IsSome result ↔ IsValid (program_tree (record { functions = functions.items; globals = globals.items })) }
-        ensures value { IfSome result (λ program. program ≡ record { functions = functions.items; globals = globals.items }) }
-    {
-        let definitions = Definitions {
-            functions: &functions,
-            globals: &globals,
-        };
-        if is_valid(definitions) {
-            Some(Program { functions, globals })
-        } else {
-            None
-        }
-    }
-
     /// The program of valid functions and objects of file scope, for whoever has shown that they are. Nothing is tested.
     pub fn of_valid(functions: Vec<Function>, globals: Vec<GlobalVar>) -> Program
         requires { IsValid (program_tree (record { functions = functions.items; globals = globals.items })) }

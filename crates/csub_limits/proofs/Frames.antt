@@ -8,7 +8,7 @@ use Rattle.csub_semantics.specs.declared.function.LocalVar.{LocalVar}
 use Rattle.csub_semantics.specs.declared.function.Function.{Function}
 use Rattle.csub_semantics.specs.Syntax.{LocalTree, local_tree, function_tree}
 use Rattle.csub_validity.specs.Valid.{parameter_object, frame_cells}
-use Rattle.csub_core.specs.Checks.{param_cells, local_cells}
+use Rattle.csub_limits.specs.Counts.{param_cells, local_cells}
 
 abbrev object_cells : LocalTree → ℕ
 object_cells o = cells o.ctype

@@ -1,4 +1,5 @@
 mod Above
 mod Calls
+mod Counting
 mod Frames
 mod Parts

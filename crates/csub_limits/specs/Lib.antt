@@ -1,3 +1,4 @@
 pub mod Prints
 pub mod Limits
+pub mod Counts
 pub mod Views

@@ -1,12 +1,12 @@
 -- The limits of a source, and which of them it passes first.
 use Rattle.std.specs.Prelude.{ℕ, nat_lt, List, [], ◌∷◌, map, length, drop, sum_by, Option, Some, None, option_map, if◌then◌else◌}
+use Rattle.std.specs.List.{flat_map}
 use Rattle.std.specs.Option.{option_or}
 use Rattle.csub_tree.specs.Units.{Item, Source}
 use Rattle.csub_objects.specs.Types.{cells}
 use Rattle.csub_semantics.specs.Types.{GlobalTree}
 use Rattle.csub_semantics.specs.Syntax.{FunctionTree}
-use Rattle.csub_semantics.specs.Flows.{points_of}
-use Rattle.csub_core.specs.Checks.{edges_of}
+use Rattle.csub_semantics.specs.Flows.{points_of, Edge, edges_from}
 use Rattle.csub_validity.specs.Valid.{most_functions, most_points, most_edges, most_cells, most_global_cells, most_parameters, most_values}
 use Rattle.csub_validity.specs.Valid.{frame_cells}
 use Rattle.csub_resolution.specs.Programs.{program_of}
@@ -24,6 +24,10 @@ first_above most (n ∷ ns) = if nat_lt most n then Some n else first_above most
 
 abbrev pub passed : ℕ → ℕ → List ℕ → Option Passed
 passed number most counts = option_map (λ n. record { number = number; count = n }) (first_above most counts)
+
+-- the edges of functions
+abbrev pub edges_of : List FunctionTree → List Edge
+edges_of fs = flat_map edges_from (points_of fs)
 
 abbrev pub cells_in : List GlobalTree → ℕ
 cells_in gs = sum_by (λ (g : GlobalTree). cells g.ctype) gs

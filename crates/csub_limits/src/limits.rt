@@ -6,13 +6,13 @@ ghost use Rattle.csub_objects.specs.Types.{cells};
 ghost use Rattle.csub_semantics.specs.Syntax.{FunctionTree, function_tree};
 ghost use Rattle.csub_tree.specs.Units.{item_tree};
 ghost use Rattle.csub_validity.specs.Valid.{frame_cells, most_cells, most_global_cells, most_parameters, most_values};
-ghost use Rattle.csub_core.specs.Checks.{local_cells, param_cells};
+ghost use Rattle.csub_limits.specs.Counts.{local_cells, param_cells};
 ghost use Rattle.csub_limits.specs.Limits.{first_limit, passed};
 ghost use Rattle.csub_limits.specs.Prints.{items_prints};
 ghost use Rattle.csub_limits.specs.Views.{the_passed};
 
+use crate::counts::{edge_count, point_count};
 use crate::prints::wide_in_items;
-use csub_core::{edge_count, point_count};
 use csub_objects::{CType, cells};
 use csub_semantics::{Function, LocalVar, Member};
 use csub_tree::Item;

@@ -3,7 +3,6 @@ pub mod Declarations
 pub mod Statements
 pub mod Units
 pub mod Depth
-pub mod Shape
 pub mod Tokens
 pub mod Lists
 pub mod SpellsExpressions

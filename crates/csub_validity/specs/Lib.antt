@@ -5,4 +5,3 @@ pub use Rattle.csub_semantics.specs.Syntax
 pub use Rattle.csub_semantics.specs.Globals
 pub use Rattle.csub_semantics.specs.Flows
 pub mod Valid
-pub mod Checks

@@ -1,19 +1,5 @@
-//! The program that is judged, what a part is for, where an expression stands, and which jumps and case labels may stand
-//! where a statement stands.
-ghost use Rattle.std.specs.Prelude.{◌≡◌};
-ghost use Rattle.csub_validity.specs.Valid.{in_switch, further_in};
-
-use csub_semantics::{Function, GlobalVar, RPart};
+//! What a part is for, and which jumps and case labels may stand where a statement stands.
 use csub_types::IntKind;
-
-/// The definitions of a program that is judged.
-#[derive(Clone, Copy)]
-pub struct Definitions<'a> {
-    /// The functions, `#start` first.
-    pub functions: &'a [Function],
-    /// The objects of file scope.
-    pub globals: &'a [GlobalVar],
-}
 
 /// What a part is for.
 #[derive(Clone, Copy, Debug, PartialEq, Eq)]
@@ -28,19 +14,6 @@ pub enum Role {
     Effect,
 }
 
-/// Where an expression stands.
-#[derive(Clone, Copy)]
-pub struct Site<'a> {
-    /// Its program.
-    pub program: Definitions<'a>,
-    /// Its function.
-    pub function: &'a Function,
-    /// Its part.
-    pub part: &'a RPart,
-    /// The number of its stage, from 1.
-    pub number: usize,
-}
-
 /// Which jumps have a target where a statement stands, and which labels of cases may stand there.
 #[derive(Clone, Copy, Debug, PartialEq, Eq)]
 pub struct Targets {
@@ -50,41 +23,4 @@ pub struct Targets {
     pub of_continue: bool,
     /// The kind of the `switch` among whose lines a `case` or `default` would stand (C11 6.8.1p2); `None` elsewhere.
     pub of_case: Option<IntKind>,
-}
-
-impl Targets {
-    /// Outside every loop.
-    pub const NONE: Targets = Targets {
-        of_break: false,
-        of_continue: false,
-        of_case: None,
-    };
-
-    /// In the body of a loop.
-    pub const LOOP: Targets = Targets {
-        of_break: true,
-        of_continue: true,
-        of_case: None,
-    };
-
-    /// Among the lines of a `switch` of a kind, which stands where these hold.
-    pub fn in_switch(self, kind: IntKind) -> Targets
-        ensures { result ≡ in_switch kind self }
-    {
-        Targets {
-            of_break: true,
-            of_continue: self.of_continue,
-            of_case: Some(kind),
-        }
-    }
-
-    /// Inside a statement that is no `switch`, and stands where these hold.
-    pub fn further_in(self) -> Targets
-        ensures { result ≡ further_in self }
-    {
-        Targets {
-            of_case: None,
-            ..self
-        }
-    }
 }

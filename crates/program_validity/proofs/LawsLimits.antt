@@ -7,11 +7,10 @@ use Rattle.std.proofs.lemmas.List.Elements.{All-nil, All-cons, All-head}
 use Rattle.csub_tree.specs.Units.{Item, Source}
 use Rattle.csub_semantics.specs.Syntax.{FunctionTree}
 use Rattle.csub_semantics.specs.Flows.{points_of, point_list, edge_list}
-use Rattle.csub_core.specs.Checks.{edges_of}
 use Rattle.csub_validity.specs.Valid.{most_functions, most_points, most_edges, most_cells, most_global_cells, most_parameters, most_values}
 use Rattle.csub_validity.specs.Valid.{frame_cells}
 use Rattle.csub_resolution.specs.Programs.{program_of}
-use Rattle.csub_limits.specs.Limits.{Passed, first_above, passed, cells_in, first_limit, limit_passed}
+use Rattle.csub_limits.specs.Limits.{Passed, first_above, passed, edges_of, cells_in, first_limit, limit_passed}
 use Rattle.csub_limits.specs.Prints.{items_prints}
 use Rattle.program_validity.proofs.Lists.{from_map}
 

@@ -5,9 +5,8 @@ use Rattle.std.proofs.lemmas.Bool.Decides.{nat_tests}
 use Rattle.csub_tree.specs.Units.{Source, Item}
 use Rattle.csub_semantics.specs.Syntax.{FunctionTree}
 use Rattle.csub_semantics.specs.Flows.{points_of}
-use Rattle.csub_core.specs.Checks.{edges_of}
 use Rattle.csub_resolution.specs.Programs.{program_of}
-use Rattle.csub_limits.specs.Limits.{Passed, first_above, passed, cells_in, first_limit, limit_passed}
+use Rattle.csub_limits.specs.Limits.{Passed, first_above, passed, edges_of, cells_in, first_limit, limit_passed}
 use Rattle.csub_limits.specs.Prints.{items_prints}
 use Rattle.csub_validity.specs.Valid.{most_values, most_parameters, most_global_cells, most_cells, most_edges, most_points, most_functions, frame_cells}
 use Rattle.program_validity.proofs.Printing.{Few}

@@ -22,7 +22,7 @@
 //!
 //! A `BLOCK` is `{ STATEMENT.. }`; a `RESULT` is a kind or `void`; a `TEMPORARY` is its number, or 0 for none; a `RULE`
 //! is `nothing`, `value`, `main` or `start`. Nothing is looked at but the words: whether a program is valid says
-//! [`csub_core::Program::make`].
+//! [`csub_decisions::MakeProgram`].
 #![tactic(auto)]
 
 mod error;

@@ -4,6 +4,7 @@ use crate::fields::Fields;
 use crate::lists::{all, last, push};
 use crate::statements::Lines;
 use csub_core::{Function, GlobalVar, Label, LocalVar, Program, RPart};
+use csub_decisions::MakeProgram;
 use std::alloc::Global;
 
 /// What the words of the end of a text stand for: of each sort a list, in which the one that stands first in the text is

@@ -6,10 +6,11 @@ ghost use Rattle.csub_tree.specs.Depth.{unit_depth};
 use crate::tests::agrees;
 use csub_lex::lex;
 use csub_parse::parse;
-use csub_tree::{Unit, same_shape};
+use csub_tree::Unit;
 use std::alloc::Global;
 use std::process::Abort;
 use std::test::Fail;
+use tree_shape::same_shape;
 
 fn unit_of(alloc: Global, source: &str) -> Result<Box<Unit>, Fail>
     ensures { IfOk result (λ unit. unit_depth (unit_tree unit.value) ≤ 256) }

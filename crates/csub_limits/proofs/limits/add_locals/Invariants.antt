@@ -1,5 +1,5 @@
 use Rattle.std.proofs.Common.{◌≡◌, ◌+◌, sum_by, take}
-use Rattle.csub_core.specs.Checks.{local_cells}
+use Rattle.csub_limits.specs.Counts.{local_cells}
 use Rattle.csub_limits.proofs.limits.add_locals.Given as goal
 
 abbrev pub invariant-loop-local : goal.invariant-loop-local

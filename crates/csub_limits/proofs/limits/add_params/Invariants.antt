@@ -1,5 +1,5 @@
 use Rattle.std.proofs.Common.{◌≡◌, ◌+◌, sum_by, take}
-use Rattle.csub_core.specs.Checks.{param_cells}
+use Rattle.csub_limits.specs.Counts.{param_cells}
 use Rattle.csub_limits.proofs.limits.add_params.Given as goal
 
 abbrev pub invariant-loop-param : goal.invariant-loop-param

@@ -1,7 +1,7 @@
 use Rattle.std.proofs.Common.{◌≡◌, ◌+◌, ℕ, IfOk, sum_by, ap, subst, arith}
 use Rattle.csub_semantics.specs.Syntax.{function_tree}
 use Rattle.csub_validity.specs.Valid.{frame_cells}
-use Rattle.csub_core.specs.Checks.{local_cells, param_cells}
+use Rattle.csub_limits.specs.Counts.{local_cells, param_cells}
 use Rattle.csub_limits.proofs.Frames.{frame_sum}
 use Rattle.csub_limits.proofs.limits.frame_cells.Goals as goal
 

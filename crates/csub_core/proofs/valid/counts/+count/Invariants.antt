@@ -1,8 +1,0 @@
-use Rattle.std.proofs.Common.{◌≡◌, ◌+◌, sum_by, take}
-use Rattle.csub_semantics.specs.Syntax.{stmt_tree}
-use Rattle.csub_core.specs.Checks.{count}
-use Rattle.csub_core.proofs.valid.counts.+count.Given as goal
-
-abbrev pub invariant-room_after_stmts-loop-stmt : goal.invariant-room_after_stmts-loop-stmt
-invariant-room_after_stmts-loop-stmt l =
-    l.rest + sum_by (λ s. count l.measure (stmt_tree s)) (take l.stmt-index l.stmts) ≡ l.room

@@ -1,8 +1,0 @@
-use Rattle.csub_core.proofs.ValidCounts.{length-points_of, none_counted, counted}
-use Rattle.csub_core.proofs.valid.counts.point_count.Goals as goal
-
-pub returns-in_err-room : goal.returns-in_err-room
-returns-in_err-room c = rw (length-points_of c.args.functions.now) (none_counted _ _ _ c.from_residual.ensures c.in_err-room.ensures)
-
-pub returns : goal.returns
-returns c = rw (length-points_of c.args.functions.now) (counted _ _ _ c.in_ok-room.ensures)

@@ -1,6 +1,0 @@
-use Rattle.std.proofs.Common.{◌≡◌, ◌+◌, sum_by, take}
-use Rattle.csub_core.specs.Checks.{param_cells}
-use Rattle.csub_core.proofs.valid.objects.room_behind_params.Given as goal
-
-abbrev pub invariant-loop-param : goal.invariant-loop-param
-invariant-loop-param l = l.room + sum_by param_cells (take l.param-index l.params) ≡ l.most

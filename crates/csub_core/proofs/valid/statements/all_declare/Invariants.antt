@@ -1,8 +1,0 @@
-use Rattle.std.proofs.Common.{ℕ, ◌<◌, ◌≡◌, true, get_or}
-use Rattle.csub_semantics.specs.declared.function.RPart.{RPart}
-use Rattle.csub_semantics.specs.Syntax.{part_tree}
-use Rattle.csub_validity.specs.Valid.{declares}
-use Rattle.csub_core.proofs.valid.statements.all_declare.Given as goal
-
-abbrev pub invariant-loop-part : goal.invariant-loop-part
-invariant-loop-part l = (k : ℕ) (d : RPart) → k < l.part-index → declares (part_tree (get_or l.parts k d)) ≡ true

@@ -1,6 +1,0 @@
-use Rattle.std.proofs.Common.{rules}
-use Rattle.csub_core.proofs.ValidStmts.{stmt_count-list}
-use Rattle.csub_core.proofs.valid.statements.has_few_stmts.Goals as goal
-
-pub returns : goal.returns
-returns c = rw (stmt_count-list c.args.stmts.now) (search rules)

@@ -1,0 +1,17 @@
+mod ValidArgs
+mod ValidCases
+mod ValidContents
+mod ValidFormats
+mod ValidFrames
+mod ValidGlobals
+mod ValidInits
+mod ValidLabels
+mod ValidLists
+mod ValidNames
+mod ValidObjects
+mod ValidParts
+mod ValidPrograms
+mod ValidResults
+mod ValidStart
+mod ValidStmts
+mod ValidTags
