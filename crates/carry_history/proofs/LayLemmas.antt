@@ -9,7 +9,7 @@ use Rattle.test_suite.specs.Tests.{TestParts, IsWithin}
 use Rattle.test_history.specs.Histories.{EntryParts, HaveRows}
 use Rattle.test_select.specs.declared.choice.Choice.{Choice}
 use Rattle.edge_images.specs.declared.image.Image.{Image}
-use Rattle.suite_run.specs.Entries.{IsEntry}
+use Rattle.test_history.specs.Entries.{IsEntry}
 use Rattle.carry_history.specs.Carried.{Stays, IsMoved, Becomes}
 use Rattle.carry_history.specs.Laid.{AreStays, tests_again, AreLaid}
 

@@ -20,7 +20,7 @@ use Rattle.edge_images.specs.declared.image.Image.TheVariants.{One}
 use Rattle.edge_images.specs.Images.{AreImages}
 use Rattle.edge_images.specs.Crossings.{EachHasOne, CarriesOver, RunsCarryOver}
 use Rattle.edge_images.proofs.LawsLeading.{crossed_numbered}
-use Rattle.suite_run.specs.Entries.{IsEntry}
+use Rattle.test_history.specs.Entries.{IsEntry}
 use Rattle.carry_history.specs.Carried.{Stays, IsMoved, Becomes}
 use Rattle.carry_history.specs.Recorded.{CarriesRecords}
 

@@ -10,7 +10,7 @@ use Rattle.test_select.specs.declared.choice.Choice.{Choice}
 use Rattle.test_select.specs.declared.choice.Choice.TheVariants.{Left}
 use Rattle.edge_images.specs.declared.image.Image.{Image}
 use Rattle.edge_images.specs.declared.image.Image.TheVariants.{One}
-use Rattle.suite_run.specs.Entries.{IsEntry}
+use Rattle.test_history.specs.Entries.{IsEntry}
 
 -- an entry is carried where its test was left and each edge that it crosses has one image
 pub record Stays (images : List Image) (entry : EntryParts) (choice : Choice) : Type 0 where

@@ -9,7 +9,7 @@ use Rattle.test_select.specs.declared.choice.Choice.{Choice}
 use Rattle.test_select.specs.Selection.{Chooses}
 use Rattle.edge_images.specs.declared.image.Image.{Image}
 use Rattle.edge_images.specs.Images.{AreImages}
-use Rattle.suite_run.specs.Entries.{IsEntry}
+use Rattle.test_history.specs.Entries.{IsEntry}
 use Rattle.carry_history.specs.Carried.{IsCarried}
 
 -- where each entry of a history is its test with what its run on P gave, and the choices and images are those of a walk of P

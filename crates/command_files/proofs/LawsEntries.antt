@@ -15,7 +15,7 @@ use Rattle.program_laws.specs.Bounds.{RunsAreBounded, IsBounded, IsExitStatus}
 use Rattle.test_suite.specs.Tests.{TestParts, IsWithin}
 use Rattle.test_suite.specs.Suites.{names_of as test_names}
 use Rattle.test_history.specs.Histories.{EntryParts, HistoryParts, HaveRows, IsEntryWithin, IsHistoryWithin, IsByteStatus, IsEntryOfBytes, IsReadable, names_of}
-use Rattle.suite_run.specs.Entries.{IsEntry}
+use Rattle.test_history.specs.Entries.{IsEntry}
 use Rattle.command_files.specs.Record.{IsHistory, IsSuiteFile}
 
 -- the rows of entries have the program's number of edges

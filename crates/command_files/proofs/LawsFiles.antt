@@ -5,9 +5,9 @@ use Rattle.std.proofs.lemmas.List.{length-take}
 use Rattle.std.proofs.lemmas.Grind.{common_steps}
 use Rattle.dv_outside.specs.Outside.{Files, file_at, IsFetched, Rose}
 use Rattle.csub_semantics.specs.Syntax.{ProgramTree}
-use Rattle.csub_accept.specs.Accepted.{Accepted, HasCause}
-use Rattle.csub_accept.specs.declared.error.SourceError.{SourceError}
-use Rattle.csub_accept.specs.declared.error.SourceError.TheVariants as errors
+use Rattle.csub_answers.specs.Accepted.{Accepted, HasCause}
+use Rattle.csub_answers.specs.declared.error.SourceError.{SourceError}
+use Rattle.csub_answers.specs.declared.error.SourceError.TheVariants as errors
 use Rattle.command_refusals.specs.Causes.{source_cause, suite_cause, history_cause}
 use Rattle.command_refusals.specs.declared.source.SourceCause.{SourceCause}
 use Rattle.command_files.specs.Causes.{NotAccepted, NoSuite, NoHistory}

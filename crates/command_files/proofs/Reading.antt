@@ -2,7 +2,7 @@
 use Rattle.std.proofs.Common.{◌≡◌, ◌≤◌, ℕ, List, length, inl, inr, Option, sym, ◌∙◌, subst}
 use Rattle.dv_outside.specs.Outside.{Files, IsFetched}
 use Rattle.csub_semantics.specs.Syntax.{ProgramTree, program_tree}
-use Rattle.csub_accept.specs.Accepted.{Accepted}
+use Rattle.csub_answers.specs.Accepted.{Accepted}
 use Rattle.command_refusals.specs.declared.refusal.Role.{Role}
 use Rattle.command_refusals.specs.declared.refusal.Role.TheVariants as role
 use Rattle.command_refusals.specs.declared.refusal.Refusal.{Refusal}

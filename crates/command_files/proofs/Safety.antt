@@ -16,7 +16,7 @@ use Rattle.csub_semantics.specs.Books.{Reached, Dangerous}
 use Rattle.program_laws.specs.Bounds.{RunsAreBounded, IsBounded, IsExitStatus}
 use Rattle.program_laws.specs.Numbered.{EdgesHaveNumbers}
 use Rattle.call_walk.specs.Lockstep.{SameRuns, CrossesNone}
-use Rattle.csub_accept.specs.Accepted.{Accepted}
+use Rattle.csub_answers.specs.Accepted.{Accepted}
 use Rattle.test_suite.specs.Tests.{TestParts}
 use Rattle.test_suite.specs.Suites.{names_of as suite_names}
 use Rattle.line_text.specs.Values.{IsDigest}
@@ -24,7 +24,7 @@ use Rattle.test_history.specs.Histories.{EntryParts, HistoryParts, IsByteStatus,
 use Rattle.test_history.specs.HistoryTexts.{history_text}
 use Rattle.test_select.specs.declared.choice.Choice.{Choice}
 use Rattle.test_select.specs.declared.choice.Choice.TheVariants.{Left}
-use Rattle.suite_run.specs.Entries.{IsRowOf, IsEntry}
+use Rattle.test_history.specs.Entries.{IsRowOf, IsEntry}
 use Rattle.test_history.specs.declared.version.Version.TheVariants.{Third}
 use Rattle.command_files.specs.Record.{IsHistory, IsHistoryOf, IsHistoryFile, IsSuiteFile}
 use Rattle.command_files.specs.Choices.{CrossesDanger, IsChoice, BehavesTheSame}

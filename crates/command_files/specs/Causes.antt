@@ -2,9 +2,9 @@
 use Rattle.std.specs.Prelude.{ℕ, ◌≡◌, List, length, Some}
 use Rattle.csub_semantics.specs.Syntax.{ProgramTree}
 use Rattle.csub_semantics.specs.Flows.{edge_list}
-use Rattle.csub_accept.specs.Accepted as sources
-use Rattle.csub_accept.specs.Accepted.{Accepted}
-use Rattle.csub_accept.specs.declared.error.SourceError.{SourceError}
+use Rattle.csub_answers.specs.Accepted as sources
+use Rattle.csub_answers.specs.Accepted.{Accepted}
+use Rattle.csub_answers.specs.declared.error.SourceError.{SourceError}
 use Rattle.test_suite.specs.Tests.{TestParts}
 use Rattle.test_suite.specs.Causes as suites
 use Rattle.test_suite.specs.declared.error.SuiteError.{SuiteError}

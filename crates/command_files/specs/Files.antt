@@ -2,7 +2,7 @@
 use Rattle.std.specs.Prelude.{ℕ, ◌≡◌, ◌≤◌, ◌⊎◌, List, length, Option, Some}
 use Rattle.dv_outside.specs.Outside.{Files, file_at, IsFetched, Rose}
 use Rattle.csub_semantics.specs.Syntax.{ProgramTree, program_tree}
-use Rattle.csub_accept.specs.Accepted.{Accepted}
+use Rattle.csub_answers.specs.Accepted.{Accepted}
 use Rattle.command_refusals.specs.declared.source.SourceCause.{SourceCause}
 use Rattle.command_refusals.specs.declared.refusal.Role.{Role}
 use Rattle.command_refusals.specs.declared.refusal.Role.TheVariants as role

@@ -4,13 +4,13 @@ use Rattle.std.specs.List.{AllZip}
 use Rattle.sha2.specs.Sha256.{sha256}
 use Rattle.csub_semantics.specs.Syntax.{ProgramTree}
 use Rattle.csub_semantics.specs.Flows.{edge_list}
-use Rattle.csub_accept.specs.Accepted.{Accepted}
+use Rattle.csub_answers.specs.Accepted.{Accepted}
 use Rattle.test_suite.specs.Tests.{TestParts}
 use Rattle.test_suite.specs.Suites.{SaysTests, IsSuite}
 use Rattle.test_history.specs.Histories.{HistoryParts, IsReadable}
 use Rattle.test_history.specs.HistoryTexts.{versioned_text, most_history_bytes}
 use Rattle.test_history.specs.declared.version.Version.{Version}
-use Rattle.suite_run.specs.Entries.{IsEntry}
+use Rattle.test_history.specs.Entries.{IsEntry}
 
 -- the history of a source with this program and of these tests: the SHA-256 digest (FIPS 180-4) of the source's bytes,
 -- the number of the program's edges, and for each test in order an entry with what its run gives

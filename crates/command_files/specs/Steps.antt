@@ -12,7 +12,7 @@ use Rattle.test_history.specs.declared.version.Version.{Version}
 use Rattle.test_history.specs.declared.version.Version.TheVariants.{Third}
 use Rattle.test_select.specs.declared.choice.Choice.{Choice}
 use Rattle.test_select.specs.Selection.{Chooses}
-use Rattle.suite_run.specs.Entries.{IsEntry}
+use Rattle.test_history.specs.Entries.{IsEntry}
 use Rattle.command_refusals.specs.declared.refusal.Product.{Product}
 use Rattle.command_refusals.specs.declared.refusal.Refusal.{Refusal}
 use Rattle.command_refusals.specs.declared.refusal.Refusal.TheVariants as refusal

@@ -2,7 +2,7 @@
 ghost use Rattle.std.specs.Prelude.{◌≡◌, ℕ, List, IfOk, MatchResult, length};
 ghost use Rattle.csub_semantics.specs.Syntax.{ProgramTree, program_tree};
 ghost use Rattle.csub_semantics.specs.Flows.{edge_list};
-ghost use Rattle.csub_accept.specs.Accepted.{Accepted};
+ghost use Rattle.csub_answers.specs.Accepted.{Accepted};
 ghost use Rattle.test_history.specs.declared.version.Version.TheVariants.{Third};
 ghost use Rattle.command_files.specs.Steps.{AreGraphs, HasChosen, HasWalked, IsHistoryCause, IsOnlyHistory, IsSelectionOf, IsWalkOf};
 

@@ -3,7 +3,7 @@ ghost use Rattle.std.specs.Prelude.{◌≡◌, IfOk, IfErr, MatchResult, length}
 ghost use Rattle.dv_outside.specs.Outside.{IsFetched, NeverFalls};
 ghost use Rattle.csub_semantics.specs.Syntax.{ProgramTree, program_tree};
 ghost use Rattle.csub_semantics.specs.Flows.{edge_list};
-ghost use Rattle.csub_accept.specs.Accepted.{Accepted};
+ghost use Rattle.csub_answers.specs.Accepted.{Accepted};
 ghost use Rattle.test_history.specs.declared.version.Version.TheVariants.{Second, Third};
 ghost use Rattle.command_files.specs.Record.{IsSuiteFile};
 ghost use Rattle.command_files.specs.Files.{IsFetchCause, IsSourceCause};

@@ -5,7 +5,7 @@ use Rattle.csub_semantics.specs.Syntax.{ProgramTree}
 use Rattle.csub_semantics.specs.Flows.{flow_of}
 use Rattle.csub_core.specs.Valid.{IsValid}
 use Rattle.program_laws.specs.Bounds.{RunsAreBounded}
-use Rattle.csub_accept.specs.Accepted.{Accepted}
+use Rattle.csub_answers.specs.Accepted.{Accepted}
 use Rattle.test_history.specs.Causes.{HasTextCause}
 use Rattle.test_history.specs.Histories.{HistoryParts, IsReadable}
 use Rattle.test_history.specs.HistoryTexts.{history_text}

@@ -1,7 +1,7 @@
 //! A history brought to the new version.
 ghost use Rattle.std.specs.Prelude.{◌≡◌, ◌<◌, ◌≤◌, ℕ, List, IfOk, MatchResult};
 ghost use Rattle.csub_semantics.specs.Syntax.{ProgramTree, program_tree};
-ghost use Rattle.csub_accept.specs.Accepted.{Accepted};
+ghost use Rattle.csub_answers.specs.Accepted.{Accepted};
 ghost use Rattle.test_history.specs.Histories.{IsReadable};
 ghost use Rattle.command_files.specs.Steps.{IsMade, IsSelectionOf};
 ghost use Rattle.command_histories.specs.Carried.{IsCarriedText, IsCarriedCause};

@@ -1,7 +1,7 @@
 //! The selected tests in the order of additional edge coverage.
 ghost use Rattle.std.specs.Prelude.{◌≡◌, ◌<◌, ◌≤◌, IfOk, MatchResult, length};
 ghost use Rattle.csub_semantics.specs.Syntax.{ProgramTree, program_tree};
-ghost use Rattle.csub_accept.specs.Accepted.{Accepted};
+ghost use Rattle.csub_answers.specs.Accepted.{Accepted};
 ghost use Rattle.test_suite.specs.Suites.{most_tests};
 ghost use Rattle.test_history.specs.declared.version.Version.TheVariants.{Third};
 ghost use Rattle.command_files.specs.Steps.{IsHistoryCause};

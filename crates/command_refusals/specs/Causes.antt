@@ -5,8 +5,8 @@ use Rattle.std.specs.Fmt.{decimal}
 use Rattle.hex.specs.Hex.{encode_lower}
 use Rattle.csub_lex.specs.declared.error.LexKind.{LexKind}
 use Rattle.csub_lex.specs.declared.error.LexKind.TheVariants as kinds
-use Rattle.csub_accept.specs.declared.error.SourceError.{SourceError}
-use Rattle.csub_accept.specs.declared.error.SourceError.TheVariants as sources
+use Rattle.csub_answers.specs.declared.error.SourceError.{SourceError}
+use Rattle.csub_answers.specs.declared.error.SourceError.TheVariants as sources
 use Rattle.test_suite.specs.declared.error.SuiteError.{SuiteError}
 use Rattle.test_suite.specs.declared.error.SuiteError.TheVariants as suites
 use Rattle.test_history.specs.declared.error.HistoryError.{HistoryError}

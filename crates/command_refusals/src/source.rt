@@ -1,9 +1,9 @@
 //! Why a source isn't accepted, as it is told.
 ghost use Rattle.std.specs.Prelude.{◌≡◌, ◌++◌, OnOk};
-ghost use Rattle.csub_accept.specs.Accepted.{HasCause};
+ghost use Rattle.csub_answers.specs.Accepted.{HasCause};
 ghost use Rattle.command_refusals.specs.Causes.{at_place, kind_word, limit_word, source_cause, source_text};
 
-use csub_accept::{LexKind, SourceError};
+use csub_answers::{LexKind, SourceError};
 use line_text::push_decimal;
 use source_place::{Place, place_of, push_place};
 use std::alloc::AllocError;

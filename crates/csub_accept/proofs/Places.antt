@@ -9,9 +9,9 @@ use Rattle.csub_lex.specs.Tokens.{Fault, here, later}
 use Rattle.fault_places.specs.Within.{IsWithin, WithinEach}
 use Rattle.fault_places.proofs.LawsSpelled.{tokens_within}
 use Rattle.fault_places.proofs.LawsPlaces.{place_within}
-use Rattle.csub_accept.specs.declared.error.SourceError.{SourceError}
-use Rattle.csub_accept.specs.declared.error.SourceError.TheVariants.{TooLong, Lex, Syntax, Meaning, Limit, Memory}
-use Rattle.csub_accept.specs.Accepted.{first_place, HasCause, TellsWithin}
+use Rattle.csub_answers.specs.declared.error.SourceError.{SourceError}
+use Rattle.csub_answers.specs.declared.error.SourceError.TheVariants.{TooLong, Lex, Syntax, Meaning, Limit, Memory}
+use Rattle.csub_answers.specs.Accepted.{first_place, HasCause, TellsWithin}
 
 -- ---- faults of the cut
 

@@ -9,10 +9,9 @@ ghost use Rattle.csub_tree.specs.Declarations.{declarator_tree, declare_tree, in
 ghost use Rattle.csub_bodies.specs.Views.{here_of};
 
 use crate::here::{Here, declare, is_declared};
-use csub_check::is_reserved;
 use csub_declare::{base_type, check_base, check_init, check_slot};
 use csub_objects::{CType, copy_type};
-use csub_rules::{Fault, earlier, fault_if};
+use csub_rules::{Fault, earlier, fault_if, is_reserved};
 use csub_scopes::Scope;
 use csub_tree::{Declarator, Declare, Init};
 use std::alloc::{AllocError, Global};

@@ -9,8 +9,8 @@ ghost use Rattle.csub_tree.specs.Statements.{stmt_tree};
 ghost use Rattle.csub_bodies.specs.Switches.{inserted, label_at, seen_of};
 
 use csub_check::sort::the_kind;
-use csub_check::{Standing, check, constant, first_bytes};
-use csub_rules::{Fault, fault_if};
+use csub_check::{Standing, check, constant};
+use csub_rules::{Fault, fault_if, first_bytes};
 use csub_scopes::Scope;
 use csub_text::Span;
 use csub_tree::{Expr, Stmt, StmtKind};

@@ -1,22 +1,16 @@
--- What the code's sorts, standings and names stand for.
+-- What the code's sorts, standings and uses stand for.
 use Rattle.std.specs.Prelude.{[], ◌∷◌, map}
 use Rattle.csub_types.specs.declared.kind.IntKind.TheVariants.{Int}
 use Rattle.csub_objects.specs.Meaning.{type_tree}
 use Rattle.csub_objects.specs.Types.{number_type}
-use Rattle.csub_rules.specs.Callees as callees
 use Rattle.csub_rules.specs.ExprFaults as standings
 use Rattle.csub_rules.specs.Formats as formats
-use Rattle.csub_rules.specs.Library as library
 use Rattle.csub_rules.specs.Sorts as sorts
 use Rattle.csub_rules.specs.Uses as uses
 use Rattle.csub_check.specs.Arguments as arguments
 use Rattle.csub_check.specs.declared.arguments.Wanted.{Wanted}
 use Rattle.csub_check.specs.declared.arguments.Wanted.TheVariants as wants
-use Rattle.csub_check.specs.declared.callee.Callee.{Callee}
-use Rattle.csub_check.specs.declared.callee.Callee.TheVariants as called
 use Rattle.csub_check.specs.declared.format.Literal.{Literal}
-use Rattle.csub_check.specs.declared.library.LibraryName.{LibraryName}
-use Rattle.csub_check.specs.declared.library.LibraryName.TheVariants.{Getchar, Putchar, Printf, Exit, Eof}
 use Rattle.csub_check.specs.declared.sort.Sort.{Sort}
 use Rattle.csub_check.specs.declared.sort.Sort.TheVariants.{Place, Value, Void, Unknown}
 use Rattle.csub_check.specs.declared.standing.Standing.{Standing}
@@ -34,21 +28,6 @@ abbrev pub the_standing : Standing → standings.Standing
 the_standing Whole = standings.whole_statement
 the_standing Operand = standings.operand
 the_standing Later = standings.later_operand
-
-abbrev pub the_library_name : LibraryName → library.LibraryName
-the_library_name Getchar = library.getchar
-the_library_name Putchar = library.putchar
-the_library_name Printf = library.printf
-the_library_name Exit = library.exit
-the_library_name Eof = library.eof
-
-abbrev pub the_callee : Callee → callees.Callee
-the_callee called.Unknown = callees.no_function
-the_callee (called.User s) = callees.user_function (map type_tree s.now.params.items) s.now.result
-the_callee called.Getchar = callees.getchar_function
-the_callee called.Putchar = callees.putchar_function
-the_callee called.Printf = callees.printf_function
-the_callee called.Exit = callees.exit_function
 
 abbrev pub the_wanted : Wanted → arguments.Wanted
 the_wanted (wants.Types ts) = arguments.for_types (map type_tree ts.now)

@@ -2,14 +2,15 @@
 ghost use Rattle.std.specs.Prelude.{◌≡◌, [], map};
 ghost use Rattle.csub_tree.specs.Expressions.{expr_tree, exprs_of};
 ghost use Rattle.csub_check.specs.Arguments.{after, all_suit, any_misfit, formats, next_fault, next_misfits, next_suits, own_fault, wanted_of};
-ghost use Rattle.csub_check.specs.Seen.{the_callee, the_sort, the_standing, the_wanted};
+ghost use Rattle.csub_rules.specs.Views.{the_callee};
+ghost use Rattle.csub_check.specs.Seen.{the_sort, the_standing, the_wanted};
 
-use crate::callee::{Callee, takes};
+use crate::callee::takes;
 use crate::format::{first_format, format_fault, is_literal};
 use crate::sort::{Sort, is_number, lacks};
 use crate::standing::{Standing, is_later, is_whole};
 use csub_objects::CType;
-use csub_rules::{Fault, earlier, fault_if};
+use csub_rules::{Callee, Fault, earlier, fault_if};
 use csub_text::Span;
 use csub_tree::Expr;
 

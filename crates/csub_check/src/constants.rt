@@ -11,8 +11,8 @@ ghost use Rattle.csub_rules.specs.Constants.{and_value, binary_value, choice_val
 ghost use Rattle.csub_rules.specs.ExprSorts.{named_kind, number_literal_kind, sort_of};
 ghost use Rattle.csub_rules.specs.Sorts.{a_value};
 
-use crate::kind::{named_kind, number_literal_kind};
-use crate::library::{LibraryName, library_name};
+use csub_rules::library::{LibraryName, library_name};
+use csub_rules::{named_kind, number_literal_kind};
 use csub_scopes::{Meaning, Scope};
 use csub_text::{BinOp, UnaryOp};
 use csub_tree::{Expr, ExprKind, TypeName};

@@ -10,14 +10,13 @@ ghost use Rattle.csub_check.specs.Seen.{the_sort, the_standing, the_wanted};
 use crate::arguments::{
     Wanted, after, end_misfits, end_suits, next_fault, next_misfits, next_suits, wanted_of,
 };
-use crate::callee::callee_of;
 use crate::checked::{Checked, number_fault};
 use crate::node::{
     Arguments, assign, binary, call, cast, character, choice, index, logical, member, name, number,
     paren, step, string, unary,
 };
 use crate::standing::{Standing, below};
-use csub_rules::earlier;
+use csub_rules::{callee_of, earlier};
 use csub_scopes::Scope;
 use csub_tree::{Expr, ExprKind};
 

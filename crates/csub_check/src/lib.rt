@@ -4,32 +4,24 @@
 //! `fault` of the definitions of rules (`csub_rules`) say; [`check_use`] gives the earliest fault of an expression where
 //! it stands by itself, and [`check_enum_constant`] that of an enum constant. [`constant`] gives the value of a
 //! constant expression (C11 6.6), and none for an expression that is none or traps; [`check_constant`] gives value and
-//! fault, and [`enum_value`] the value of an enum constant. [`callee_of`] says what a called name is, the functions of
-//! [`kind`] which kinds numbers have, and [`first_bytes`] where a word stands. Each of them takes time in proportion to the
-//! expression and the types that it compares, no memory, and fails for nothing.
+//! fault, and [`enum_value`] the value of an enum constant. Each of them takes time in proportion to the expression and the
+//! types that it compares, no memory, and fails for nothing.
 #![tactic(auto)]
 
 mod arguments;
-pub mod callee;
+mod callee;
 pub mod checked;
 pub mod constants;
 pub mod expression;
 mod format;
-pub mod kind;
-mod library;
 mod node;
 pub mod sort;
 pub mod standing;
 pub mod uses;
-mod words;
 
-pub use callee::{Callee, callee_of};
 pub use checked::Checked;
 pub use constants::constant;
 pub use expression::check;
-pub use kind::{named_kind, number_literal_kind};
-pub use library::is_reserved;
 pub use sort::Sort;
 pub use standing::Standing;
 pub use uses::{Use, check_constant, check_enum_constant, check_use, enum_value};
-pub use words::first_bytes;

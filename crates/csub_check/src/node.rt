@@ -8,17 +8,17 @@ ghost use Rattle.csub_rules.specs.ExprSorts.{assign_sort, binary_sort, choice_so
 ghost use Rattle.csub_rules.specs.Faults.{fault_if, ◌or_earlier◌};
 ghost use Rattle.csub_rules.specs.Sorts.{is_number, member_of, no_sort, a_value, sort_if, value_if};
 ghost use Rattle.csub_check.specs.Arguments.{formats, own_fault};
-ghost use Rattle.csub_check.specs.Seen.{the_callee, the_sort, the_standing};
+ghost use Rattle.csub_rules.specs.Views.{the_callee};
+ghost use Rattle.csub_check.specs.Seen.{the_sort, the_standing};
 
 use crate::arguments::{formats, own_fault};
-use crate::callee::{Callee, given_by, named};
+use crate::callee::{given_by, named};
 use crate::checked::{Checked, array_fault, index_fault, member_fault, number_fault, place_fault};
-use crate::kind::{named_kind, number_literal_kind};
 use crate::sort::{
     Sort, element_of, is_number, is_number_place, member_of, sort_if, the_kind, value_if,
 };
 use crate::standing::Standing;
-use csub_rules::{Fault, earlier, fault_if};
+use csub_rules::{Callee, Fault, earlier, fault_if, named_kind, number_literal_kind};
 use csub_scopes::Scope;
 use csub_text::{BinOp, Span, UnaryOp};
 use csub_tree::{Expr, Name, TypeName};

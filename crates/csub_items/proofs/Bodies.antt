@@ -12,14 +12,14 @@ use Rattle.csub_semantics.specs.Syntax.{FunctionTree, LocalTree, StmtTrees}
 use Rattle.csub_rules.specs.Bodies.{FineBody}
 use Rattle.csub_rules.specs.ExprSorts.{number_of}
 use Rattle.csub_rules.specs.Here.{Here}
-use Rattle.csub_units.specs.Files.{File}
-use Rattle.csub_units.specs.FineItems.{FineItems}
-use Rattle.csub_units.specs.Heads.{at_params, past_head, past_params}
-use Rattle.csub_units.specs.Items.{in_function, past_item}
+use Rattle.csub_rules.specs.Files.{File}
+use Rattle.csub_rules.specs.FineItems.{FineItems}
+use Rattle.csub_rules.specs.Heads.{at_params, past_head, past_params}
+use Rattle.csub_rules.specs.Items.{in_function, past_item}
 use Rattle.csub_resolution.specs.Values.{Defined}
 use Rattle.csub_resolution.specs.Lines.{lines, locals_lines}
 use Rattle.csub_resolution.specs.Programs.{function_by, most_temps, params, params_of, parts_of_all}
-use Rattle.csub_items.proofs.Lists.{dropped}
+use Rattle.csub_globals.proofs.LawsLists.{dropped}
 
 -- what the lines of a body see
 pub entered : (scope declared : Scope) (enter here : Here) (h : Head) → declared ≡ past_head scope h → enter ≡ at_params declared

@@ -1,3 +1,1 @@
-mod Lists
-mod Starts
 mod Bodies

@@ -7,17 +7,15 @@ ghost use Rattle.csub_tree.specs.Units.{item_tree};
 ghost use Rattle.csub_rules.specs.Bodies.{FineBody};
 ghost use Rattle.csub_rules.specs.ExprSorts.{number_of};
 ghost use Rattle.csub_bodies.specs.Views.{here_of};
-ghost use Rattle.csub_units.specs.Files.{no_file};
-ghost use Rattle.csub_units.specs.FineItems.{FineItem, FineItems};
-ghost use Rattle.csub_units.specs.Heads.{past_head};
-ghost use Rattle.csub_units.specs.Items.{in_function, past_item};
+ghost use Rattle.csub_rules.specs.Files.{no_file};
+ghost use Rattle.csub_rules.specs.FineItems.{FineItem, FineItems};
+ghost use Rattle.csub_rules.specs.Heads.{past_head};
+ghost use Rattle.csub_rules.specs.Items.{in_function, past_item};
 ghost use Rattle.csub_units.specs.Views.{file_of};
 ghost use Rattle.csub_resolution.specs.Programs.{defined_in, function_by, functions_by, functions_in, program_of};
 
-use crate::items::declare_item;
-use crate::params::lower_params;
-use crate::start::with_start;
 use csub_bodies::Here;
+use csub_globals::{declare_item, lower_params, with_start};
 use csub_lower::Definitions;
 use csub_semantics::Function;
 use csub_statements::lower_body;
@@ -111,7 +109,7 @@ fn defined_functions(
 }
 
 /// The functions of the program that a source of these items stands for, which breaks no rule: `#start`, and the defined ones in
-/// the order of the source. Its definitions are those of [`crate::definitions()`]. An `Err` is want of memory, or a full count.
+/// the order of the source. Its definitions are those of `definitions` of `csub_globals`. An `Err` is want of memory, or a full count.
 pub fn functions(
     alloc: Global,
     definitions: &Definitions,

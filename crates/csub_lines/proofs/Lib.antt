@@ -1,5 +1,3 @@
-mod Zeros
 mod Numbers
 mod Objects
 mod Effects
-mod Placed

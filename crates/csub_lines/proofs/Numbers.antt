@@ -14,7 +14,7 @@ use Rattle.csub_rules.specs.BrokenLocal.{FineValue}
 use Rattle.csub_rules.specs.Declarators.{object_type}
 use Rattle.csub_rules.specs.Here.{Here, number_of}
 use Rattle.csub_rules.specs.Locals.{past_var}
-use Rattle.csub_units.specs.Heads.{sure_type}
+use Rattle.csub_rules.specs.Heads.{sure_type}
 use Rattle.csub_resolution.specs.Values.{Defined}
 use Rattle.csub_resolution.specs.Contents.{init_count, init_value, init_values}
 use Rattle.csub_resolution.specs.Lines.{var_parts}

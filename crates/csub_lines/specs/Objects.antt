@@ -5,7 +5,7 @@ use Rattle.csub_objects.specs.Types.{TypeTree}
 use Rattle.csub_semantics.specs.Syntax.{LocalTree}
 use Rattle.csub_rules.specs.Declarators.{object_type}
 use Rattle.csub_rules.specs.Here.{Here, number_of}
-use Rattle.csub_units.specs.Heads.{sure_type}
+use Rattle.csub_rules.specs.Heads.{sure_type}
 
 abbrev pub local_of : Here → Option TypeTree → Declarator → LocalTree
 local_of here base d =

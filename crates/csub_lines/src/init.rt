@@ -1,34 +1,19 @@
 //! Initialisers of objects of functions (C11 6.7.9).
 ghost use Rattle.std.specs.Prelude.{◌≡◌, ◌+◌, ◌++◌, IfOk, OnOk, length, map};
 ghost use Rattle.csub_scopes.specs.Meanings.{scope_of};
-ghost use Rattle.csub_semantics.specs.Labels.{init_tree as made_tree, inits_of as made_list, listed, one_value};
+ghost use Rattle.csub_semantics.specs.Labels.{init_tree as made_tree, inits_of as made_list};
 ghost use Rattle.csub_semantics.specs.Syntax.{call_at};
-ghost use Rattle.csub_semantics.specs.Trees.{expr_tree as value_tree};
 ghost use Rattle.csub_tree.specs.Declarations.{Listed, init_tree, inits_of};
 ghost use Rattle.csub_resolution.specs.Contents.{init_calls, init_count, init_value, init_values, inits_calls, inits_count};
 ghost use Rattle.csub_lines.specs.Numbers.{AllNumbers, AreNumbers};
 
-use crate::boxes::boxed_init;
 use csub_lower::{Known, lower_number};
+use csub_nodes::{list_value, one_value};
 use csub_scopes::Scope;
-use csub_semantics::{RCall, RExpr, RInit};
+use csub_semantics::{RCall, RInit};
 use csub_text::Span;
 use csub_tree::Init;
 use std::alloc::{AllocError, Global};
-
-/// A value that is given.
-fn one_value(alloc: Global, value: Box<RExpr>) -> Result<Box<RInit>, AllocError>
-    ensures { IfOk result (λ made. made_tree made.value ≡ one_value (value_tree value.value)) }
-{
-    boxed_init(alloc, RInit::One(Box::into_inner(value)))
-}
-
-/// A list of values.
-fn list_value(alloc: Global, values: Vec<RInit>) -> Result<Box<RInit>, AllocError>
-    ensures { IfOk result (λ made. made_tree made.value ≡ listed (made_list (map made_tree values.items))) }
-{
-    boxed_init(alloc, RInit::List(values))
-}
 
 /// The entries of a list, which are numbers.
 fn entries_of<'e>(scope: &Scope, entries: &'e Vec<Init>, span: Span) -> &'e [Init]

@@ -9,7 +9,7 @@ ghost use Rattle.csub_rules.specs.Declarators.{base_type};
 ghost use Rattle.csub_rules.specs.Here.{number_of};
 ghost use Rattle.csub_rules.specs.Locals.{past_declare, past_var, past_vars};
 ghost use Rattle.csub_bodies.specs.Views.{here_of};
-ghost use Rattle.csub_units.specs.Heads.{sure_type};
+ghost use Rattle.csub_rules.specs.Heads.{sure_type};
 ghost use Rattle.csub_resolution.specs.Lines.{declare_parts, var_parts, vars_locals, vars_parts};
 ghost use Rattle.csub_lines.specs.Numbers.{HasNumbers, parts_of_object};
 ghost use Rattle.csub_lines.specs.Objects.{local_of};

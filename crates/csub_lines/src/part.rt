@@ -1,11 +1,10 @@
 //! The parts of statements (C11 6.8).
-ghost use Rattle.std.specs.Prelude.{◌≡◌, ◌++◌, ◌∷◌, [], false, pos, Some, None, IfOk, IsTrue, map, option_map};
-ghost use Rattle.csub_types.specs.declared.kind.IntKind.TheVariants.{Int};
+ghost use Rattle.std.specs.Prelude.{◌≡◌, ◌++◌, false, Some, IfOk, IsTrue, map, option_map};
 ghost use Rattle.csub_objects.specs.Meaning.{type_tree};
 ghost use Rattle.csub_scopes.specs.Meanings.{scope_of};
-ghost use Rattle.csub_semantics.specs.Labels.{answer_tree, branches, evaluates, halts, init_tree as made_tree, initialises, jumps, label_tree, returns, switches};
+ghost use Rattle.csub_semantics.specs.Labels.{evaluates};
 ghost use Rattle.csub_semantics.specs.Syntax.{call_at, in_part, part_tree};
-ghost use Rattle.csub_semantics.specs.Trees.{constant, expr_tree as value_tree, local_owner};
+ghost use Rattle.csub_semantics.specs.Trees.{expr_tree as value_tree};
 ghost use Rattle.csub_tree.specs.Declarations.{init_tree};
 ghost use Rattle.csub_tree.specs.Expressions.{expr_tree};
 ghost use Rattle.csub_rules.specs.BrokenUse.{FineUse};
@@ -17,15 +16,17 @@ ghost use Rattle.csub_rules.specs.Uses.{as_number, as_part, as_statement, has_ef
 ghost use Rattle.csub_resolution.specs.Lines.{calls_in, effect_part, eval_part, exit_part, exits_with, for_test, own, return_part};
 ghost use Rattle.csub_resolution.specs.Lines.{switch_part, test_part, third_parts, value};
 ghost use Rattle.csub_resolution.specs.Positions.{first_token};
-ghost use Rattle.csub_rules.specs.Words.{word_goto, word_return};
 ghost use Rattle.csub_lines.specs.Numbers.{AreNumbers, part_of_object};
 
-use crate::boxes::{boxed_label, boxed_part};
 use crate::init::lower_init;
-use csub_check::first_bytes;
 use csub_lower::{Known, exits_with, first_token, is_own_call, lower, lower_number};
-use csub_objects::{CType, copy_type};
-use csub_semantics::{Answer, Label, Owner, RCall, RExpr, RInit, RPart};
+use csub_nodes::part::{
+    always_label, branch_label, calls_part, end_part, eval_label, halt_label, init_label, one_part,
+    own_part, return_label, switch_label,
+};
+use csub_objects::CType;
+use csub_rules::first_bytes;
+use csub_semantics::{RCall, RExpr, RPart};
 use csub_text::Span;
 use csub_tree::{Expr, Init, Name};
 use csub_types::IntKind;
@@ -48,95 +49,6 @@ fn first_number(alloc: Global, known: Known, e: &Expr) -> Result<Number, AllocEr
     let mut calls = Vec::new(alloc);
     let value = lower_number(alloc, known, e, &mut calls)?;
     Ok(Number { calls, value })
-}
-
-/// The part of calls and of a point of its own at a place.
-#[tactic(auto, using(crate::proofs::Placed::placed))]
-fn own_part(
-    alloc: Global,
-    calls: Vec<RCall>,
-    label: Box<Label>,
-    span: Span,
-) -> Result<Box<RPart>, AllocError>
-    ensures { IfOk result (λ part. part_tree part.value ≡ map (in_part span) (map call_at calls.items) ++ own (label_tree label.value) span) }
-{
-    let main = Some(Box::into_inner(label));
-    boxed_part(alloc, RPart { calls, main, span })
-}
-
-/// The part of calls alone, at a place.
-#[tactic(auto, using(crate::proofs::Placed::placed, crate::proofs::Placed::alone))]
-fn calls_part(alloc: Global, calls: Vec<RCall>, span: Span) -> Result<Box<RPart>, AllocError>
-    ensures { IfOk result (λ part. part_tree part.value ≡ map (in_part span) (map call_at calls.items)) }
-{
-    let main = None;
-    boxed_part(alloc, RPart { calls, main, span })
-}
-
-/// The label of an expression that is evaluated for its effects.
-fn eval_label(alloc: Global, value: Box<RExpr>) -> Result<Box<Label>, AllocError>
-    ensures { IfOk result (λ label. label_tree label.value ≡ evaluates (value_tree value.value)) }
-{
-    boxed_label(alloc, Label::Eval(Box::into_inner(value)))
-}
-
-/// The label of `exit`.
-fn halt_label(alloc: Global, value: Box<RExpr>) -> Result<Box<Label>, AllocError>
-    ensures { IfOk result (λ label. label_tree label.value ≡ halts (value_tree value.value)) }
-{
-    boxed_label(alloc, Label::Halt(Box::into_inner(value)))
-}
-
-/// The label of a test.
-fn branch_label(alloc: Global, value: Box<RExpr>) -> Result<Box<Label>, AllocError>
-    ensures { IfOk result (λ label. label_tree label.value ≡ branches (value_tree value.value)) }
-{
-    boxed_label(alloc, Label::Branch(Box::into_inner(value)))
-}
-
-/// The label of the expression of a `switch`.
-fn switch_label(alloc: Global, value: Box<RExpr>) -> Result<Box<Label>, AllocError>
-    ensures { IfOk result (λ label. label_tree label.value ≡ switches (value_tree value.value)) }
-{
-    boxed_label(alloc, Label::Switch(Box::into_inner(value)))
-}
-
-/// A returned value with the result type of its function (C11 6.8.6.4).
-fn answer_of(result_kind: Option<IntKind>, value: Box<RExpr>) -> Option<Answer>
-    ensures { option_map answer_tree result ≡ option_map (λ kind. record { kind = kind; value = value_tree value.value }) result_kind }
-{
-    let kind = result_kind?;
-    Some(Answer {
-        kind,
-        value: Box::into_inner(value),
-    })
-}
-
-/// The label of a `return` with a value, where its function gives this kind, or nothing.
-fn return_label(
-    alloc: Global,
-    result_kind: Option<IntKind>,
-    value: Box<RExpr>,
-) -> Result<Box<Label>, AllocError>
-    ensures { IfOk result (λ label. label_tree label.value ≡ returns (option_map (λ kind. record { kind = kind; value = value_tree value.value }) result_kind)) }
-{
-    boxed_label(alloc, Label::Return(answer_of(result_kind, value)))
-}
-
-/// The label of a declared object of a name and a number that gets these contents.
-fn init_label(
-    alloc: Global,
-    name: &Name,
-    number: u32,
-    ctype: &CType,
-    value: Box<RInit>,
-) -> Result<Box<Label>, AllocError>
-    ensures { IfOk result (λ label. label_tree label.value ≡ initialises (local_owner name.now.text number) (type_tree ctype.now) (made_tree value.value)) }
-{
-    let text = name.text.copy()?;
-    let ctype = copy_type(ctype)?;
-    let owner = Owner::Local(text, number);
-    boxed_label(alloc, Label::Init(owner, ctype, Box::into_inner(value)))
 }
 
 /// The part of an expression that is itself a call of one of the source's functions, which has no point of its own beside it
@@ -207,13 +119,6 @@ pub fn test_part(alloc: Global, known: Known, e: &Expr) -> Result<Box<RPart>, Al
     own_part(alloc, number.calls, label, first_token(e))
 }
 
-/// The label of the test of a `for` that has none.
-fn always_label(alloc: Global) -> Result<Box<Label>, AllocError>
-    ensures { IfOk result (λ label. label_tree label.value ≡ branches (constant Int (pos 1))) }
-{
-    boxed_label(alloc, Label::Branch(RExpr::Const(IntKind::Int, 1)))
-}
-
 /// The part of the test of a `for` at a place; where it has none the test is 1 (C11 6.8.5.3p2).
 pub fn for_test(
     alloc: Global,
@@ -233,15 +138,6 @@ pub fn for_test(
         ),
         Some(e) => test_part(alloc, known, e),
     }
-}
-
-/// One part as a list.
-pub fn one_part(alloc: Global, part: Box<RPart>) -> Result<Vec<RPart>, AllocError>
-    ensures { IfOk result (λ parts. map part_tree parts.items ≡ part_tree part.value ∷ []) }
-{
-    let mut parts = Vec::new(alloc);
-    parts.push(Box::into_inner(part))?;
-    Ok(parts)
 }
 
 /// The parts of the third part of a `for`: one, or none where it is left out.
@@ -281,14 +177,6 @@ fn answer_part(
     own_part(alloc, number.calls, label, first_bytes(6, span))
 }
 
-/// The part of a `return` without a value.
-fn end_part(alloc: Global, span: Span) -> Result<Box<RPart>, AllocError>
-    ensures { IfOk result (λ part. part_tree part.value ≡ own (returns None) (word_return span)) }
-{
-    let label = boxed_label(alloc, Label::Return(None))?;
-    own_part(alloc, Vec::new(alloc), label, first_bytes(6, span))
-}
-
 /// The part of a `return` at a place, in a function that gives this kind, or nothing.
 pub fn return_part(
     alloc: Global,
@@ -304,14 +192,6 @@ pub fn return_part(
         None => end_part(alloc, span),
         Some(e) => answer_part(alloc, known, result_kind, e, span),
     }
-}
-
-/// The part of a `goto` at a place.
-pub fn goto_part(alloc: Global, span: Span) -> Result<Box<RPart>, AllocError>
-    ensures { IfOk result (λ part. part_tree part.value ≡ own jumps (word_goto span)) }
-{
-    let label = boxed_label(alloc, Label::Goto)?;
-    own_part(alloc, Vec::new(alloc), label, first_bytes(4, span))
 }
 
 /// The part of a declared object of a number and a type with this initialiser, which sees its name (C11 6.2.1p7).

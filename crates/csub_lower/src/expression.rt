@@ -23,8 +23,8 @@ use crate::node::{
     and_node, assign_node, binary_node, cast_node, choice_node, constant_node, formatted_node,
     index_node, input_node, literal_node, member_node, or_node, output_node, step_node, unary_node,
 };
-use csub_check::{Callee, callee_of};
 use csub_objects::CType;
+use csub_rules::{Callee, callee_of};
 use csub_semantics::{RArg, RCall, RExpr};
 use csub_tree::{Expr, ExprKind, Name};
 use csub_types::IntKind;

@@ -11,8 +11,8 @@ ghost use Rattle.csub_lower.specs.Made.{made_place, made_sort, made_value};
 
 use crate::made::Made;
 use crate::node::{constant_node, object_node};
-use csub_check::is_reserved;
 use csub_objects::CType;
+use csub_rules::is_reserved;
 use csub_scopes::{Meaning, Scope};
 use csub_semantics::Owner;
 use csub_tree::Name;

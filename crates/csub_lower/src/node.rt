@@ -12,8 +12,8 @@ ghost use Rattle.csub_lower.specs.Made.{made_place, made_sort, made_value};
 
 use crate::boxes::{boxed_place, boxed_value};
 use crate::made::{Made, Number, to_array, to_number_place, to_struct};
-use csub_check::{named_kind, number_literal_kind};
 use csub_objects::{CType, copy_type};
+use csub_rules::{named_kind, number_literal_kind};
 use csub_semantics::{Owner, Piece, Place, RExpr};
 use csub_text::{BinOp, StepOp, UnaryOp};
 use csub_tree::{Name, TypeName};

@@ -3,7 +3,7 @@ ghost use Rattle.std.specs.Prelude.{◌≡◌};
 ghost use Rattle.csub_tree.specs.Expressions.{expr_tree};
 ghost use Rattle.csub_resolution.specs.Positions.{first_of_step, first_token};
 
-use csub_check::first_bytes;
+use csub_rules::first_bytes;
 use csub_text::{Span, StepOp};
 use csub_tree::{Expr, ExprKind};
 

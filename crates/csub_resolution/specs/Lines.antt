@@ -24,7 +24,7 @@ use Rattle.csub_rules.specs.Here.{Here, entering, number_of}
 use Rattle.csub_rules.specs.Locals.{past_var}
 use Rattle.csub_rules.specs.Past.{past, past_perhaps}
 use Rattle.csub_rules.specs.CaseLabels.{switch_kind}
-use Rattle.csub_units.specs.Heads.{sure_type}
+use Rattle.csub_rules.specs.Heads.{sure_type}
 use Rattle.csub_rules.specs.Words.{word_return, word_goto, word_for}
 use Rattle.csub_resolution.specs.Positions.{first_token}
 use Rattle.csub_resolution.specs.Values as values

@@ -19,10 +19,10 @@ use Rattle.csub_rules.specs.ExprSorts.{number_of}
 use Rattle.csub_rules.specs.Params.{param_type}
 use Rattle.csub_rules.specs.Declarators.{base_type, object_type}
 use Rattle.csub_rules.specs.Here.{Here}
-use Rattle.csub_units.specs.Files.{File, no_file}
-use Rattle.csub_units.specs.Objects.{past_object}
-use Rattle.csub_units.specs.Heads.{at_params, past_param, past_head, sure_type}
-use Rattle.csub_units.specs.Items.{past_item, in_function}
+use Rattle.csub_rules.specs.Files.{File, no_file}
+use Rattle.csub_rules.specs.Objects.{past_object}
+use Rattle.csub_rules.specs.Heads.{at_params, past_param, past_head, sure_type}
+use Rattle.csub_rules.specs.Items.{past_item, in_function}
 use Rattle.csub_resolution.specs.Values.{Defined}
 use Rattle.csub_resolution.specs.Contents.{initial}
 use Rattle.csub_resolution.specs.Lines.{lines, locals_lines}

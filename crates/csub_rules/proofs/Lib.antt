@@ -14,6 +14,14 @@ pub mod LawsCases
 pub mod LawsStmts
 pub mod LawsFineStmts
 pub mod LawsBodies
+pub mod LawsNames
+pub mod LawsObjects
+pub mod LawsStructs
+pub mod LawsEnums
+pub mod LawsHeads
+pub mod LawsItems
+pub mod LawsUnits
+pub mod LawsFineItems
 mod RowTerms
 mod Rows
 mod RowFaults

@@ -31,3 +31,15 @@ pub mod StmtLaws
 pub mod Words
 pub mod Labels
 pub mod Bodies
+pub mod Files
+pub mod Objects
+pub mod Structs
+pub mod Enums
+pub mod Heads
+pub mod Items
+pub mod Units
+pub mod BrokenObject
+pub mod BrokenItem
+pub mod FineItems
+pub mod UnitLaws
+pub mod Views

@@ -10,6 +10,8 @@ ghost use Rattle.csub_rules.specs.BrokenInit.{InitFaultsAreBroken, InitFaultsAre
 ghost use Rattle.csub_rules.specs.StmtLaws.{StmtFaultsAreBroken, StmtFaultsAreLeast, NoStmtFaultNothingBroken, NoStmtFaultIsFine};
 ghost use Rattle.csub_rules.specs.StmtLaws.{LineFaultsAreBroken, LineFaultsAreLeast, NoLineFaultNothingBroken, NoLineFaultIsFine};
 ghost use Rattle.csub_rules.specs.Bodies.{BodyFaultsAreBroken, BodyFaultsAreLeast, NoBodyFaultNothingBroken, NoBodyFaultIsFine};
+ghost use Rattle.csub_rules.specs.UnitLaws.{UnitFaultsAreBroken, UnitFaultsAreLeast, NoUnitFaultNothingBroken};
+ghost use Rattle.csub_rules.specs.FineItems.{NoUnitFaultIsFine};
 
 /// The fault of an expression is a rule that is broken there, and no rule is broken before it. Where there is no fault, no
 /// rule is broken, and the expression can be resolved.
@@ -96,4 +98,13 @@ pub fn bodies()
     ensures least { BodyFaultsAreLeast }
     ensures complete { NoBodyFaultNothingBroken }
     ensures fine { NoBodyFaultIsFine }
+{}
+
+/// The fault of a source is a rule that is broken there, and no rule is broken before it; a missing `main` is told where
+/// nothing else is. Where there is no fault, no rule is broken, and each item can be resolved.
+pub fn units()
+    ensures sound { UnitFaultsAreBroken }
+    ensures least { UnitFaultsAreLeast }
+    ensures complete { NoUnitFaultNothingBroken }
+    ensures fine { NoUnitFaultIsFine }
 {}

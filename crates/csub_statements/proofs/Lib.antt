@@ -1,4 +1,2 @@
 pub mod LawsResolvable
 mod Lines
-mod Made
-mod Most

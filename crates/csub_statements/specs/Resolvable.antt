@@ -1,10 +1,10 @@
 -- Statements that can be resolved, whatever stands round them; and lists of what they stand for. No definition of what a
 -- source stands for needs this file.
-use Rattle.std.specs.Prelude.{List, [], ◌∷◌, Option, Some, None}
+use Rattle.std.specs.Prelude.{List, [], ◌∷◌, Option}
 use Rattle.csub_types.specs.declared.kind.IntKind.{IntKind}
 use Rattle.csub_tree.specs.Statements.{Stmt, StmtKind, Perhaps, Stmts, Line, Declared, Eval, Empty, Block, If, While, Do, For, Switch}
 use Rattle.csub_tree.specs.Statements.{Case, Default, Break, Continue, Goto, Label, Return, NoStmt, OneStmt, NoStmts, MoreStmts}
-use Rattle.csub_semantics.specs.Syntax.{StmtTree, ElseTree, no_else, else_stmt}
+use Rattle.csub_semantics.specs.Syntax.{StmtTree}
 use Rattle.csub_rules.specs.Uses.{as_statement, as_part, as_number}
 use Rattle.csub_rules.specs.BrokenUse.{FineUse}
 use Rattle.csub_rules.specs.BrokenLocal.{FineDeclare}
@@ -53,8 +53,3 @@ abbrev mutual
 abbrev pub line_list : List Defined → Option IntKind → IntKind → Here → Stmts → List StmtTree
 line_list defined result kind h NoStmts = []
 line_list defined result kind h (MoreStmts a rest) = line defined result kind h a ∷ line_list defined result kind (past h a) rest
-
--- the statement behind `else`, or none
-abbrev pub else_of : Option StmtTree → ElseTree
-else_of None = no_else
-else_of (Some s) = else_stmt s

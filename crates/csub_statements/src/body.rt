@@ -10,9 +10,9 @@ ghost use Rattle.csub_resolution.specs.Lines.{lines as lines_of, locals_lines};
 ghost use Rattle.csub_resolution.specs.Programs.{most_temps, parts_of_all};
 
 use crate::statement::{Within, lower_lines};
-use crate::temps::lines_temps;
 use csub_bodies::Here;
 use csub_lower::Definitions;
+use csub_nodes::temps::lines_temps;
 use csub_semantics::{LocalVar, RStmt};
 use csub_tree::Stmt;
 use csub_types::IntKind;

@@ -5,16 +5,13 @@
 //! of a function's body, and counts the temporaries of its parts, as `most_temps` says. Both take time in proportion to the
 //! statements, save for a hash of each name, and fail for want of memory, or a full count, alone. Which statements
 //! can be resolved, whatever stands round them, says `specs/Resolvable`; `proofs/LawsResolvable` has that those which break no
-//! rule can. [`parts_node`] and [`push_line`] make statements and lists of them for the crates above, too.
+//! rule can.
 #![tactic(auto)]
 
 mod block;
 pub mod body;
 mod node;
 pub mod statement;
-pub mod temps;
 
 pub use body::{Body, lower_body};
-pub use node::{parts_node, push_line};
 pub use statement::{Within, lower_statement};
-pub use temps::{line_temps, lines_temps, part_temps};

@@ -14,17 +14,18 @@ ghost use Rattle.csub_rules.specs.Uses.{as_number};
 ghost use Rattle.csub_bodies.specs.Views.{here_of};
 ghost use Rattle.csub_resolution.specs.Lines.{first_parts, line, lines as lines_of, locals as locals_of, locals_lines, locals_perhaps, other_line};
 ghost use Rattle.csub_resolution.specs.Lines.{switch_part, test_part};
-ghost use Rattle.csub_statements.specs.Resolvable.{Resolvable, ResolvableLines, ResolvablePerhaps, else_of};
+ghost use Rattle.csub_nodes.specs.Nodes.{else_of};
+ghost use Rattle.csub_statements.specs.Resolvable.{Resolvable, ResolvableLines, ResolvablePerhaps};
 
 use crate::block::{block_lines, switch_lines};
-use crate::node::{
-    block_node, break_node, case_node, continue_node, declared_node, default_node, do_node,
-    eval_node, for_head, for_node, goto_node, if_node, mark_node, own_parts, parts_node, push_line,
-    return_node, switch_node, while_node,
-};
+use crate::node::{declared_node, eval_node, for_head, return_node};
 use csub_bodies::{Here, enter, leave, switch_kind};
 use csub_lines::part::{switch_part, test_part};
 use csub_lower::{Definitions, Known};
+use csub_nodes::node::{
+    block_node, break_node, case_node, continue_node, default_node, do_node, for_node, goto_node,
+    if_node, mark_node, own_parts, parts_node, push_line, switch_node, while_node,
+};
 use csub_semantics::{LocalVar, RPart, RStmt};
 use csub_tree::{Expr, Stmt, StmtKind};
 use csub_types::IntKind;

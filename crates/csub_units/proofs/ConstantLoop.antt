@@ -6,7 +6,7 @@ use Rattle.csub_scopes.specs.Scopes.{Scope}
 use Rattle.csub_rules.specs.declared.fault.Fault.{Fault}
 use Rattle.csub_rules.specs.Faults.{◌or_earlier◌}
 use Rattle.csub_rules.specs.Constants.{enum_value}
-use Rattle.csub_units.specs.Enums.{value_after, past_constant, past_constants, constant_fault, constants_fault}
+use Rattle.csub_rules.specs.Enums.{value_after, past_constant, past_constants, constant_fault, constants_fault}
 use Rattle.csub_units.proofs.Loops.{one_more, one_fault_more}
 
 -- what is declared so far, and the value of the next constant without an expression

@@ -6,8 +6,8 @@ use Rattle.csub_scopes.specs.Scopes.{Scope, a_function}
 use Rattle.csub_rules.specs.declared.fault.Fault.{Fault}
 use Rattle.csub_rules.specs.Faults.{◌or_earlier◌}
 use Rattle.csub_rules.specs.ExprSorts.{number_of}
-use Rattle.csub_units.specs.Files.{is_known, naming}
-use Rattle.csub_units.specs.Heads.{at_params, head_fault, head_name_fault, param_types, params_fault, past_head}
+use Rattle.csub_rules.specs.Files.{is_known, naming}
+use Rattle.csub_rules.specs.Heads.{at_params, head_fault, head_name_fault, param_types, params_fault, past_head}
 
 pub head_told : (scope left : Scope) (h : Head) (named params told : Option Fault) → left ≡ scope → named ≡ head_name_fault left h
     → params ≡ params_fault (at_params scope) h.params → told ≡ (named or_earlier params) → told ≡ head_fault scope h

@@ -10,7 +10,7 @@ use Rattle.csub_rules.specs.Params.{param_type}
 use Rattle.csub_rules.specs.Past.{past_lines}
 use Rattle.csub_bodies.specs.Views.{closed}
 use Rattle.csub_bodies.proofs.LawsGrows.{Extends, grows_lines, left}
-use Rattle.csub_units.specs.Heads.{at_params, past_name, past_param, past_params}
+use Rattle.csub_rules.specs.Heads.{at_params, past_name, past_param, past_params}
 
 joins : (a b c : Here) → Extends a b → Extends b c → Extends a c
 joins a b c p q = record {

@@ -18,9 +18,9 @@ use Rattle.csub_rules.proofs.LawsServed.{both, both_parts}
 use Rattle.csub_rules.proofs.LawsSlots.{in_first, in_second}
 use Rattle.csub_rules.proofs.LawsBodies.{names_differ}
 use Rattle.csub_rules.proofs.LawsSizes.{contrary}
-use Rattle.csub_units.specs.Files.{tag_fault}
+use Rattle.csub_rules.specs.Files.{tag_fault}
 use Rattle.csub_units.specs.Gathered.{AreSized, Differ}
-use Rattle.csub_units.specs.Structs.{with_member, fields_before, members, field_names, fields_fault, defined_struct, struct_fault}
+use Rattle.csub_rules.specs.Structs.{with_member, fields_before, members, field_names, fields_fault, defined_struct, struct_fault}
 
 -- ---- objects may have the types
 

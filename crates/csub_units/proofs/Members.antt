@@ -14,7 +14,7 @@ use Rattle.csub_rules.specs.Labels.{past_names, stands_in, twice_fault}
 use Rattle.csub_rules.proofs.LawsEarlier.{earlier_assoc}
 use Rattle.csub_rules.proofs.LawsBodies.{twice_fault-append}
 use Rattle.csub_units.specs.Gathered.{behind, one, line_members}
-use Rattle.csub_units.specs.Structs.{with_member, fields_before, members, field_fault, line_fault, fields_fault, field_names}
+use Rattle.csub_rules.specs.Structs.{with_member, fields_before, members, field_fault, line_fault, fields_fault, field_names}
 use Rattle.csub_units.proofs.Loops.{dropped, one_more, one_fault_more}
 
 behind_assoc : (a b c : Option (List MemberTree)) → behind (behind a b) c ≡ behind a (behind b c)

@@ -5,7 +5,7 @@ use Rattle.csub_tree.specs.Declarations.{param_tree}
 use Rattle.csub_objects.specs.Types.{TypeTree}
 use Rattle.csub_rules.specs.Here.{Here}
 use Rattle.csub_rules.specs.Params.{param_type}
-use Rattle.csub_units.specs.Heads.{past_param, param_types, sure_type}
+use Rattle.csub_rules.specs.Heads.{past_param, param_types, sure_type}
 use Rattle.csub_units.proofs.Loops.{dropped}
 
 -- one type more

@@ -8,7 +8,7 @@ use Rattle.csub_rules.specs.Params.{param_type}
 use Rattle.csub_scopes.specs.Scopes.{Scope}
 use Rattle.csub_tree.specs.declared.declaration.Param.{Param as CodeParam}
 use Rattle.csub_tree.specs.Declarations.{param_tree}
-use Rattle.csub_units.specs.Heads.{agrees, params_agree}
+use Rattle.csub_rules.specs.Heads.{agrees, params_agree}
 
 pub is_type_eq : (b : Bool) (t u : TypeTree) → (IsTrue b ↔ (t ≡ u)) → b ≡ type_eq t u
 is_type_eq true t u h = sym ((type_eq-Decides t u).1 (h.0 refl))

@@ -7,7 +7,7 @@ use Rattle.csub_objects.specs.Meaning.{member_tree}
 use Rattle.csub_objects.specs.Types.{Name, TypeTree, MemberTree, HaveDifferentNames, members_of}
 use Rattle.csub_scopes.specs.Scopes.{Scope}
 use Rattle.csub_rules.specs.Sizes.{have_arrays}
-use Rattle.csub_units.specs.Structs.{fields_before}
+use Rattle.csub_rules.specs.Structs.{fields_before}
 
 abbrev pub gathered : Option (Vec Member Global) → Option (List MemberTree)
 gathered ms = option_map (λ v. map member_tree v.items) ms

@@ -1,13 +1,2 @@
-pub mod Files
-pub mod Objects
-pub mod Structs
-pub mod Enums
-pub mod Heads
-pub mod Items
-pub mod Units
-pub mod BrokenObject
-pub mod BrokenItem
-pub mod FineItems
-pub mod UnitLaws
 pub mod Views
 pub mod Gathered

@@ -5,7 +5,7 @@ ghost use Rattle.csub_types.specs.declared.kind.IntKind.TheVariants.{Int};
 ghost use Rattle.csub_rules.specs.Constants.{enum_value};
 ghost use Rattle.csub_scopes.specs.Meanings.{meaning_of, scope_of};
 ghost use Rattle.csub_tree.specs.Units.{constant_tree};
-ghost use Rattle.csub_units.specs.Enums.{constant_fault, constant_meaning, constants_fault, enumeration_fault, past_constant, past_constants, past_enum, past_tag, perhaps_tag_fault, value_after};
+ghost use Rattle.csub_rules.specs.Enums.{constant_fault, constant_meaning, constants_fault, enumeration_fault, past_constant, past_constants, past_enum, past_tag, perhaps_tag_fault, value_after};
 
 use crate::file::{check_name, check_tag, declare_name, declare_tag};
 use csub_check::{check_enum_constant, enum_value};

@@ -2,13 +2,12 @@
 ghost use Rattle.std.specs.Prelude.{◌≡◌, OnOk, option_map};
 ghost use Rattle.csub_objects.specs.Types.{members_of};
 ghost use Rattle.csub_scopes.specs.Meanings.{meaning_of, scope_of};
-ghost use Rattle.csub_units.specs.Files.{is_known, name_fault, naming, no_file, tag_fault, tagging};
+ghost use Rattle.csub_rules.specs.Files.{is_known, name_fault, naming, no_file, tag_fault, tagging};
 ghost use Rattle.csub_units.specs.Views.{file_of};
 
 use csub_bodies::Here;
-use csub_check::is_reserved;
 use csub_objects::Members;
-use csub_rules::{Fault, earlier, fault_if};
+use csub_rules::{Fault, earlier, fault_if, is_reserved};
 use csub_scopes::{Counts, Meaning, Scope};
 use csub_text::Text;
 use csub_tree::Name;

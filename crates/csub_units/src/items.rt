@@ -7,8 +7,8 @@ ghost use Rattle.csub_tree.specs.Units.{item_tree};
 ghost use Rattle.csub_rules.specs.Bodies.{body_fault};
 ghost use Rattle.csub_rules.specs.Faults.{fault_if, ◌or_earlier◌};
 ghost use Rattle.csub_bodies.specs.Views.{here_of};
-ghost use Rattle.csub_units.specs.Heads.{at_params, head_fault, past_head, past_params};
-ghost use Rattle.csub_units.specs.Items.{in_function, is_int, is_misdefined, is_other_main, item_fault, items_fault, lacks_names, past_item, past_items};
+ghost use Rattle.csub_rules.specs.Heads.{at_params, head_fault, past_head, past_params};
+ghost use Rattle.csub_rules.specs.Items.{in_function, is_int, is_misdefined, is_other_main, item_fault, items_fault, lacks_names, past_item, past_items};
 ghost use Rattle.csub_units.specs.Views.{file_of};
 
 use crate::enums::check_enum;

@@ -3,7 +3,7 @@ ghost use Rattle.std.specs.Prelude.{◌≡◌, IfOk, OnOk, map, option_map};
 ghost use Rattle.csub_objects.specs.Meaning.{type_tree};
 ghost use Rattle.csub_scopes.specs.Meanings.{meaning_of, scope_of};
 ghost use Rattle.csub_tree.specs.Declarations.{declarator_tree, declare_tree, init_tree};
-ghost use Rattle.csub_units.specs.Objects.{declaration_fault, global_meaning, initial_fault, object_fault, objects_fault, past_declaration, past_object, past_objects};
+ghost use Rattle.csub_rules.specs.Objects.{declaration_fault, global_meaning, initial_fault, object_fault, objects_fault, past_declaration, past_object, past_objects};
 
 use crate::file::{check_name, declare_name};
 use csub_declare::{base_type, check_base, check_init, check_slot};

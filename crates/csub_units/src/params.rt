@@ -9,13 +9,13 @@ ghost use Rattle.csub_scopes.specs.Meanings.{scope_of};
 ghost use Rattle.csub_tree.specs.Declarations.{param_tree};
 ghost use Rattle.csub_tree.specs.Expressions.{expr_tree};
 ghost use Rattle.csub_bodies.specs.Views.{here_of};
-ghost use Rattle.csub_units.specs.Heads.{param_name_fault, param_types, params_fault, past_name, past_param, past_params, sure_type};
+ghost use Rattle.csub_rules.specs.Heads.{param_name_fault, param_types, params_fault, past_name, past_param, past_params, sure_type};
 
 use csub_bodies::{Here, declare, is_declared};
-use csub_check::{Use, check_use, is_reserved};
+use csub_check::{Use, check_use};
 use csub_declare::{base_type, check_base};
 use csub_objects::{CType, copy_type, loose_of};
-use csub_rules::{Fault, earlier, fault_if};
+use csub_rules::{Fault, earlier, fault_if, is_reserved};
 use csub_scopes::Scope;
 use csub_tree::{Expr, Name, Param, TypeName};
 use csub_types::IntKind;

@@ -8,14 +8,13 @@ ghost use Rattle.csub_rules.specs.Labels.{past_names, twice_fault};
 ghost use Rattle.csub_scopes.specs.Meanings.{scope_of};
 ghost use Rattle.csub_tree.specs.Declarations.{declarator_tree, declare_tree};
 ghost use Rattle.csub_units.specs.Gathered.{AreSized, Differ, behind, gathered, line_members, one};
-ghost use Rattle.csub_units.specs.Structs.{field_fault, field_names, fields_fault, line_fault, members, past_struct, struct_fault};
+ghost use Rattle.csub_rules.specs.Structs.{field_fault, field_names, fields_fault, line_fault, members, past_struct, struct_fault};
 
 use crate::file::{check_tag, declare_tag};
 use csub_bodies::stands_in;
-use csub_check::is_reserved;
 use csub_declare::{base_type, check_base, check_slot};
 use csub_objects::{CType, Member, Members, cells, levels};
-use csub_rules::{Fault, earlier, fault_if};
+use csub_rules::{Fault, earlier, fault_if, is_reserved};
 use csub_scopes::{Counts, Scope};
 use csub_text::Text;
 use csub_tree::{Declarator, Declare, Name};

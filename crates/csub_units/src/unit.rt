@@ -1,9 +1,9 @@
 //! Sources as wholes.
 ghost use Rattle.std.specs.Prelude.{◌≡◌, IfOk, map};
 ghost use Rattle.csub_tree.specs.Units.{item_tree, unit_tree};
-ghost use Rattle.csub_units.specs.Files.{no_file};
+ghost use Rattle.csub_rules.specs.Files.{no_file};
 ghost use Rattle.csub_units.specs.Views.{file_of};
-ghost use Rattle.csub_units.specs.Units.{no_place, undefined_fault, undefineds_fault, unit_fault};
+ghost use Rattle.csub_rules.specs.Units.{no_place, undefined_fault, undefineds_fault, unit_fault};
 
 use crate::file::File;
 use crate::items::check_items;

@@ -3,7 +3,7 @@ use Rattle.std.proofs.Common.{◌≡◌, ℕ, true, false, List, Option, Some, N
 use Rattle.std.specs.Option.{option_map}
 use Rattle.dv_outside.specs.Outside.{Files, file_at, Rose}
 use Rattle.csub_semantics.specs.Syntax.{ProgramTree}
-use Rattle.csub_accept.specs.Accepted.{Accepted}
+use Rattle.csub_answers.specs.Accepted.{Accepted}
 use Rattle.test_history.specs.declared.version.Version.TheVariants.{Second, Third}
 use Rattle.command_words.specs.Words.{Command, rerun_files, explain_files, check_files, gen_numbers, command_of}
 use Rattle.command_refusals.specs.Refusals.{refusal_line}

@@ -1,5 +1,3 @@
 mod CompleteLemmas
-mod ExplainLemmas
 mod OpenLemmas
-mod RerunLemmas
 mod TopLemmas

@@ -32,13 +32,13 @@ use Rattle.command_histories.specs.Carried.{IsCarriedText, IsCarriedCause}
 use Rattle.command_claims.specs.Certified.{IsCertifiedText}
 use Rattle.command_claims.specs.Checked.{IsChecked, IsCheckCause, NoCertificate, bounds_by}
 use Rattle.dejavu_cli.specs.Reads.{history_of, reads, HasSecond, HasTwo, HasThree}
-use Rattle.dejavu_cli.specs.Recorded.{IsRecorded}
-use Rattle.dejavu_cli.specs.Select.{IsSelection}
-use Rattle.dejavu_cli.specs.Rerun.{IsRerun}
-use Rattle.dejavu_cli.specs.Explain.{IsExplained}
+use Rattle.command_runs.specs.Recorded.{IsRecorded}
+use Rattle.command_runs.specs.Select.{IsSelection}
+use Rattle.command_runs.specs.Rerun.{IsRerun}
+use Rattle.command_runs.specs.Explain.{IsExplained}
 use Rattle.dejavu_cli.specs.Texts.{HasTextOf, end_of_rerun, end_of_check}
 use Rattle.dejavu_cli.specs.Causes.{HasBadSourceOf, HasBadHistory, HasReadFault, HasCauseOf}
-use Rattle.dejavu_cli.specs.Steps.{IsRecordCause, IsTestCause}
+use Rattle.command_runs.specs.Steps.{IsRecordCause, IsTestCause}
 use Rattle.dejavu_cli.specs.declared.answer.Answer.{Answer}
 use Rattle.dejavu_cli.specs.declared.answer.End.{End}
 use Rattle.dejavu_cli.specs.declared.answer.End.TheVariants.{Whole}

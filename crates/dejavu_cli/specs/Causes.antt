@@ -1,10 +1,7 @@
 -- Why a command isn't done.
 use Rattle.std.specs.Prelude.{ℕ, ◌≡◌, List, Option, Some, None}
 use Rattle.dv_outside.specs.Outside.{Files}
-use Rattle.csub_semantics.specs.Syntax.{ProgramTree}
-use Rattle.csub_accept.specs.Accepted.{Accepted}
 use Rattle.test_history.specs.declared.version.Version.TheVariants.{Second, Third}
-use Rattle.dv_gen.specs.Pairs.{old_source, new_source}
 use Rattle.command_words.specs.Words.{Command, explain_files}
 use Rattle.command_refusals.specs.declared.source.SourceCause.{SourceCause}
 use Rattle.command_refusals.specs.declared.suite.SuiteCause.{SuiteCause}
@@ -15,20 +12,15 @@ use Rattle.command_refusals.specs.declared.refusal.Role.{Role}
 use Rattle.command_refusals.specs.declared.refusal.Role.TheVariants as role
 use Rattle.command_refusals.specs.declared.refusal.Refusal.{Refusal}
 use Rattle.command_refusals.specs.declared.refusal.Refusal.TheVariants as refusal
-use Rattle.command_files.specs.Causes.{NotAccepted, NoSuite, NoHistory}
+use Rattle.command_files.specs.Causes.{NoSuite, NoHistory}
 use Rattle.command_files.specs.Files.{WhereTold, HasBadSource, HasBadOfTwo, HasFaultOfTwo, HasFaultOfThree}
 use Rattle.command_files.specs.Steps.{IsTooMuch}
 use Rattle.command_claims.specs.Checked.{NoCertificate}
 use Rattle.dejavu_cli.specs.Reads.{Reads, suite_of, earlier_of, versions_of, history_of, certificate_of, made_of, reads, HasSecond, HasThree}
-use Rattle.dejavu_cli.specs.Explain.{HasNoTest}
+use Rattle.command_runs.specs.Explain.{HasNoTest}
+use Rattle.command_runs.specs.Made.{HasBadMade}
 use Rattle.dejavu_cli.specs.Texts.{IsSaid, product_of}
 use Rattle.dejavu_cli.specs.declared.answer.End.TheVariants.{Whole}
-
--- a made source isn't accepted, and the one before it is
-abbrev pub HasBadMade : ℕ → ℕ → Role → SourceCause → Type 0
-HasBadMade seed size role.Source cause = ⊥
-HasBadMade seed size role.Old cause = NotAccepted (old_source seed size) cause
-HasBadMade seed size role.New cause = ((P : ProgramTree) × Accepted (old_source seed size) P) × NotAccepted (new_source seed size) cause
 
 -- the source in this role isn't accepted, and the one before it is
 abbrev pub HasBadSourceOf : Reads → Role → SourceCause → Option Files → Type 0

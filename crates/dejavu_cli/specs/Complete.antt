@@ -3,7 +3,7 @@ use Rattle.std.specs.Prelude.{ℕ, ◌≡◌, ◌⊎◌, List, Option, Some}
 use Rattle.std.specs.Option.{option_map}
 use Rattle.dv_outside.specs.Outside.{Files, file_at, Rose}
 use Rattle.csub_semantics.specs.Syntax.{ProgramTree}
-use Rattle.csub_accept.specs.Accepted.{Accepted}
+use Rattle.csub_answers.specs.Accepted.{Accepted}
 use Rattle.test_suite.specs.Tests.{TestParts}
 use Rattle.test_history.specs.Histories.{HistoryParts}
 use Rattle.test_history.specs.declared.version.Version.TheVariants.{Second, Third}
@@ -14,7 +14,7 @@ use Rattle.command_files.specs.Record.{IsSuiteFile, IsHistoryFile}
 use Rattle.command_files.specs.Files.{HasSource}
 use Rattle.command_claims.specs.Checked.{IsCertificateFile}
 use Rattle.dejavu_cli.specs.Reads.{Reads, suite_of, earlier_of, versions_of, history_of, certificate_of, made_of, reads}
-use Rattle.dejavu_cli.specs.Explain.{HasTest}
+use Rattle.command_runs.specs.Explain.{HasTest}
 use Rattle.dejavu_cli.specs.Texts.{product_of}
 use Rattle.dejavu_cli.specs.Causes.{HasReadFault}
 use Rattle.dejavu_cli.specs.declared.status.Status8.{Status8}

@@ -1,12 +1,6 @@
 pub mod Reads
-pub mod Recorded
-pub mod Select
-pub mod Rerun
-pub mod Explain
-pub mod Generated
 pub mod Texts
 pub mod Causes
 pub mod Statuses
 pub mod Answers
 pub mod Complete
-pub mod Steps

@@ -2,7 +2,7 @@
 use Rattle.std.specs.Prelude.{ℕ, ◌≡◌, List, Some}
 use Rattle.dv_outside.specs.Outside.{Files, file_at}
 use Rattle.csub_semantics.specs.Syntax.{ProgramTree}
-use Rattle.csub_accept.specs.Accepted.{Accepted}
+use Rattle.csub_answers.specs.Accepted.{Accepted}
 use Rattle.command_words.specs.Words.{Command, record_files, migrate_files, walk_files, select_files, rerun_files, explain_files}
 use Rattle.command_words.specs.Words.{carry_files, order_files, certify_files, check_files, gen_numbers}
 use Rattle.command_files.specs.Files.{HasVersions}

@@ -15,11 +15,11 @@ use Rattle.command_histories.specs.Carried.{IsCarriedText}
 use Rattle.command_claims.specs.Certified.{IsCertifiedText}
 use Rattle.command_claims.specs.Checked.{IsChecked}
 use Rattle.dejavu_cli.specs.Reads.{HasSecond, HasTwo, HasThree}
-use Rattle.dejavu_cli.specs.Recorded.{IsRecorded}
-use Rattle.dejavu_cli.specs.Select.{IsSelection}
-use Rattle.dejavu_cli.specs.Rerun.{IsRerun}
-use Rattle.dejavu_cli.specs.Explain.{IsExplained}
-use Rattle.dejavu_cli.specs.Generated.{IsGenText}
+use Rattle.command_runs.specs.Recorded.{IsRecorded}
+use Rattle.command_runs.specs.Select.{IsSelection}
+use Rattle.command_runs.specs.Rerun.{IsRerun}
+use Rattle.command_runs.specs.Explain.{IsExplained}
+use Rattle.command_runs.specs.Generated.{IsGenText}
 use Rattle.dejavu_cli.specs.declared.answer.End.{End}
 use Rattle.dejavu_cli.specs.declared.answer.End.TheVariants.{Whole, Differs, Open}
 

@@ -1,14 +1,9 @@
 //! The top call of the program: it takes the words, the files and the output, and answers a status.
 //!
 //! What is promised stands in the contract of [`dejavu`]: what is written is decided by the words and the files
-//! (`specs/Texts`, `specs/Answers`), and each answer has its cause (`specs/Causes`). `record` writes the history of the source
-//! and the suite that it is given (`specs/Recorded`), each entry with what the test's run on the source's program gives;
-//! `walk` shows at which edges two versions part; `select` names the tests of such a history that a changed source may make
-//! behave otherwise, and each test that it leaves behaves the same on it (`specs/Select`); `rerun` runs these, and finds a
-//! difference exactly where running all tests would (`specs/Rerun`); `explain` shows for one test how a walk reaches the edge
-//! for which it has to run again (`specs/Explain`); `gen` tries the method on a generated pair of sources
-//! (`specs/Generated`). What `migrate`, `carry` and `order` make of a history stands in `command_histories`, the claims of
-//! `certify` and `check` in `command_claims`.
+//! (`specs/Texts`, `specs/Answers`), and each answer has its cause (`specs/Causes`). What `record`, `walk`, `select`, `rerun`,
+//! `explain` and `gen` write stands in `command_runs`, what `migrate`, `carry` and `order` make of a history in
+//! `command_histories`, the claims of `certify` and `check` in `command_claims`.
 #![tactic(auto)]
 
 ghost use Rattle.std.specs.Prelude.{◌≡◌, ◌≤◌, ℕ, List, None};
@@ -19,13 +14,8 @@ ghost use Rattle.dejavu_cli.specs.Complete.{IsComplete};
 ghost use Rattle.dejavu_cli.specs.declared.answer.End.TheVariants as ends;
 
 mod answer;
-mod explain;
-mod generate;
-mod record;
 mod rerun;
-mod select;
 mod status;
-mod walked;
 mod with_history;
 mod with_source;
 mod with_versions;

@@ -8,12 +8,11 @@ ghost use Rattle.dejavu_cli.specs.Causes.{HasCauseOf};
 ghost use Rattle.dejavu_cli.specs.declared.answer.End.TheVariants.{Whole};
 
 use crate::answer::Answer;
-use crate::explain::explanation;
 use crate::rerun::rerun_answer;
-use crate::select::selection_text;
 use command_files::{FILE_AND_ONE, OpenedVersions, Runner, open_versions};
 use command_histories::{carried_text, ordered_text};
 use command_refusals::Refusal;
+use command_runs::{explanation, selection_text};
 use command_words::Files;
 use dv_outside::{Gate, Shelf};
 use std::alloc::Global;

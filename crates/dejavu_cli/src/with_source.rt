@@ -6,10 +6,10 @@ ghost use Rattle.dejavu_cli.specs.Texts.{HasTextOf};
 ghost use Rattle.dejavu_cli.specs.Causes.{HasCauseOf};
 ghost use Rattle.dejavu_cli.specs.declared.answer.End.TheVariants.{Whole};
 
-use crate::record::record_text;
 use command_files::{FILE_AND_ONE, Runner, SUITE_AND_ONE, open_source};
 use command_histories::migrated_text;
 use command_refusals::{Refusal, Role};
+use command_runs::record_text;
 use dv_outside::{Gate, Shelf};
 use std::alloc::Global;
 use std::thread::Threads;

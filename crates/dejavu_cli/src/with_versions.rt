@@ -7,10 +7,10 @@ ghost use Rattle.dejavu_cli.specs.Causes.{HasCauseOf};
 ghost use Rattle.dejavu_cli.specs.declared.answer.End.TheVariants.{Whole};
 
 use crate::answer::{Answer, End};
-use crate::walked::report;
 use command_claims::{certified_text, checked_text};
 use command_files::{FILE_AND_ONE, open_versions, read_versions};
 use command_refusals::Refusal;
+use command_runs::report;
 use dv_outside::Shelf;
 use std::alloc::Global;
 

@@ -7,12 +7,12 @@ ghost use Rattle.dejavu_cli.specs.Texts.{HasTextOf};
 ghost use Rattle.dejavu_cli.specs.Causes.{HasCause, HasCauseOf};
 
 use crate::answer::{Answer, whole};
-use crate::generate::generated_text;
 use crate::with_history::{carry, explain, order, rerun, select};
 use crate::with_source::{migrate, record};
 use crate::with_versions::{certify, check, walk};
 use command_files::Runner;
 use command_refusals::Refusal;
+use command_runs::generated_text;
 use command_words::{Command, read_words};
 use dv_outside::{Gate, Shelf};
 use std::alloc::Global;

@@ -5,8 +5,8 @@ use Rattle.csub_tree.specs.Units.{Item, Struct, Enum, Object, Prototype, Functio
 use Rattle.csub_objects.specs.Types.{Name}
 use Rattle.csub_rules.specs.declared.fault.Fault.{Fault}
 use Rattle.csub_rules.proofs.LawsSound.{nothing, join}
-use Rattle.csub_units.specs.Files.{no_file}
-use Rattle.csub_units.specs.Units.{undefined_fault, undefineds_fault, all_defined, placed_fault, no_place, main_fault, unit_fault}
+use Rattle.csub_rules.specs.Files.{no_file}
+use Rattle.csub_rules.specs.Units.{undefined_fault, undefineds_fault, all_defined, placed_fault, no_place, main_fault, unit_fault}
 use Rattle.fault_places.specs.Within.{IsWithin, WithinEach, WithinItem, SpansWithin}
 use Rattle.fault_places.proofs.Told.{Told, told_if}
 use Rattle.fault_places.proofs.ToldItems.{items_told}

@@ -5,7 +5,7 @@ use Rattle.csub_lex.specs.Tokens.{Tokens}
 use Rattle.csub_tree.specs.Units.{Source}
 use Rattle.csub_tree.specs.Spells.{Spells}
 use Rattle.csub_rules.specs.declared.fault.Fault.{Fault}
-use Rattle.csub_units.specs.Units.{unit_fault}
+use Rattle.csub_rules.specs.Units.{unit_fault}
 use Rattle.fault_places.specs.Within.{IsWithin}
 use Rattle.fault_places.proofs.LawsFaults.{fault_within}
 use Rattle.fault_places.proofs.LawsSpelled.{spans_within}

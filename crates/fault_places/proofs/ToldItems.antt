@@ -10,12 +10,12 @@ use Rattle.csub_rules.specs.Constants.{enum_value}
 use Rattle.csub_rules.specs.ExprSorts.{number_of}
 use Rattle.csub_rules.specs.Here.{Here}
 use Rattle.csub_rules.proofs.LawsSound.{nothing, join}
-use Rattle.csub_units.specs.Files.{File, name_fault, tag_fault}
-use Rattle.csub_units.specs.Structs.{field_names, line_fault, fields_fault, struct_fault}
-use Rattle.csub_units.specs.Enums.{value_after, past_constant, constants_fault, past_tag, perhaps_tag_fault}
-use Rattle.csub_units.specs.Objects.{past_object, initial_fault, objects_fault}
-use Rattle.csub_units.specs.Heads.{at_params, past_param, param_name_fault, params_fault, head_fault}
-use Rattle.csub_units.specs.Items.{past_item, in_function, item_fault, items_fault}
+use Rattle.csub_rules.specs.Files.{File, name_fault, tag_fault}
+use Rattle.csub_rules.specs.Structs.{field_names, line_fault, fields_fault, struct_fault}
+use Rattle.csub_rules.specs.Enums.{value_after, past_constant, constants_fault, past_tag, perhaps_tag_fault}
+use Rattle.csub_rules.specs.Objects.{past_object, initial_fault, objects_fault}
+use Rattle.csub_rules.specs.Heads.{at_params, past_param, param_name_fault, params_fault, head_fault}
+use Rattle.csub_rules.specs.Items.{past_item, in_function, item_fault, items_fault}
 use Rattle.fault_places.specs.Within.{WithinEach, WithinMaybe, WithinName, WithinInit, WithinVar, WithinDeclare, WithinParam, WithinHead}
 use Rattle.fault_places.specs.Within.{WithinConstant, WithinItem}
 use Rattle.fault_places.proofs.Told.{Told, told_if}

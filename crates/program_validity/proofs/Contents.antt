@@ -13,8 +13,8 @@ use Rattle.csub_objects.specs.Parts.{part_type, member_at}
 use Rattle.csub_validity.specs.Valid.{AreOf}
 use Rattle.csub_scopes.specs.Scopes.{Scope}
 use Rattle.csub_rules.specs.BrokenInit.{FineInit, FineEntries}
-use Rattle.csub_units.specs.FineItems.{FineInitial}
-use Rattle.csub_units.specs.Heads.{sure_type}
+use Rattle.csub_rules.specs.FineItems.{FineInitial}
+use Rattle.csub_rules.specs.Heads.{sure_type}
 use Rattle.program_validity.proofs.Converted.{converted}
 use Rattle.csub_resolution.specs.Contents.{zeros, constant_or_zero, contents, element_contents, member_contents, initial}
 

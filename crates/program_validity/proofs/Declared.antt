@@ -25,8 +25,8 @@ use Rattle.csub_rules.specs.Params.{param_type}
 use Rattle.csub_rules.specs.Past.{past, past_perhaps}
 use Rattle.csub_rules.proofs.LawsSizes.{is_sized-Decides}
 use Rattle.csub_bodies.proofs.LawsGrows.{grows, grows_perhaps}
-use Rattle.csub_units.specs.Objects.{past_object}
-use Rattle.csub_units.specs.Heads.{past_name, past_param, past_params, sure_type}
+use Rattle.csub_rules.specs.Objects.{past_object}
+use Rattle.csub_rules.specs.Heads.{past_name, past_param, past_params, sure_type}
 use Rattle.csub_resolution.specs.Lines.{vars_locals, locals, locals_perhaps, locals_lines}
 use Rattle.csub_resolution.specs.Programs.{name_or_none, params, global_by, globals_by}
 use Rattle.program_validity.proofs.Known.{members_of_tag, members_at, IsGood, AreGood, number_good, array_good, loose_good, struct_good}

@@ -25,11 +25,11 @@ use Rattle.csub_rules.specs.Labels.{stands_in}
 use Rattle.csub_rules.specs.Bodies.{body_fault}
 use Rattle.csub_rules.proofs.LawsEarlier.{neither, three_none, no_test}
 use Rattle.csub_rules.proofs.LawsServed.{both, both_parts, neither_holds, no_not}
-use Rattle.csub_units.specs.Files.{File, naming, is_known}
-use Rattle.csub_units.specs.Heads.{at_params, past_name, past_param, sure_type, param_types, signature, agrees, params_agree, results_eq, is_other, is_taken, disagrees, is_declared_otherwise, past_head, head_fault}
-use Rattle.csub_units.specs.Items.{past_item, past_items, item_fault, items_fault, is_misdefined, is_other_main, lacks_names, has_none, in_function}
-use Rattle.csub_units.specs.Items as items
-use Rattle.csub_units.specs.FineItems.{FineHead, FineParams, FineItems}
+use Rattle.csub_rules.specs.Files.{File, naming, is_known}
+use Rattle.csub_rules.specs.Heads.{at_params, past_name, past_param, sure_type, param_types, signature, agrees, params_agree, results_eq, is_other, is_taken, disagrees, is_declared_otherwise, past_head, head_fault}
+use Rattle.csub_rules.specs.Items.{past_item, past_items, item_fault, items_fault, is_misdefined, is_other_main, lacks_names, has_none, in_function}
+use Rattle.csub_rules.specs.Items as items
+use Rattle.csub_rules.specs.FineItems.{FineHead, FineParams, FineItems}
 use Rattle.csub_resolution.specs.Values.{Defined, params_in, params_or}
 use Rattle.csub_resolution.specs.Programs.{params, params_of, defined_by, defined_in, function_by, functions_by, functions_in}
 use Rattle.program_validity.proofs.Files.{items_keep}

@@ -22,12 +22,12 @@ use Rattle.csub_rules.specs.Uses.{enum_fault}
 use Rattle.csub_rules.specs.Declarators.{base_type, base_fault, object_type, slot_fault}
 use Rattle.csub_rules.proofs.LawsEarlier.{neither, three_none, no_test}
 use Rattle.csub_rules.proofs.LawsServed.{both_parts}
-use Rattle.csub_units.specs.Files.{File, naming, is_known, name_fault}
-use Rattle.csub_units.specs.Objects.{global_meaning, past_object, past_objects, initial_fault, object_fault, objects_fault}
-use Rattle.csub_units.specs.Enums.{value_after, constant_meaning, past_constant, past_constants, constant_fault, constants_fault, past_tag, perhaps_tag_fault}
-use Rattle.csub_units.specs.Heads.{past_head, signature}
-use Rattle.csub_units.specs.Items.{past_item, past_items, item_fault, items_fault}
-use Rattle.csub_units.specs.FineItems.{FineObjects, FineItem, FineItems}
+use Rattle.csub_rules.specs.Files.{File, naming, is_known, name_fault}
+use Rattle.csub_rules.specs.Objects.{global_meaning, past_object, past_objects, initial_fault, object_fault, objects_fault}
+use Rattle.csub_rules.specs.Enums.{value_after, constant_meaning, past_constant, past_constants, constant_fault, constants_fault, past_tag, perhaps_tag_fault}
+use Rattle.csub_rules.specs.Heads.{past_head, signature}
+use Rattle.csub_rules.specs.Items.{past_item, past_items, item_fault, items_fault}
+use Rattle.csub_rules.specs.FineItems.{FineObjects, FineItem, FineItems}
 use Rattle.csub_resolution.specs.Programs.{global_by, globals_by, globals_of, globals_in}
 use Rattle.csub_validity.specs.Valid.{global_type}
 use Rattle.program_validity.proofs.Agreeing.{IsKnown, IsMeant}

@@ -18,13 +18,13 @@ use Rattle.csub_rules.specs.Here.{Here, declaring, local_meaning, number_of, sta
 use Rattle.csub_rules.specs.Labels.{stands_in}
 use Rattle.csub_rules.proofs.LawsEarlier.{neither}
 use Rattle.csub_rules.proofs.LawsServed.{holds}
-use Rattle.csub_units.specs.Files.{File, naming, is_known}
-use Rattle.csub_units.specs.Objects.{global_meaning, past_object, past_objects}
-use Rattle.csub_units.specs.Enums.{past_constant, past_constants, past_tag, value_after, constant_meaning}
-use Rattle.csub_units.specs.Heads.{at_params, past_name, past_param, past_params, sure_type, signature, past_head}
-use Rattle.csub_units.specs.Items.{past_item, past_items, lacks_names}
-use Rattle.csub_units.specs.Units.{undefined_fault, undefineds_fault}
-use Rattle.csub_units.specs.FineItems.{FineName, FineParams}
+use Rattle.csub_rules.specs.Files.{File, naming, is_known}
+use Rattle.csub_rules.specs.Objects.{global_meaning, past_object, past_objects}
+use Rattle.csub_rules.specs.Enums.{past_constant, past_constants, past_tag, value_after, constant_meaning}
+use Rattle.csub_rules.specs.Heads.{at_params, past_name, past_param, past_params, sure_type, signature, past_head}
+use Rattle.csub_rules.specs.Items.{past_item, past_items, lacks_names}
+use Rattle.csub_rules.specs.Units.{undefined_fault, undefineds_fault}
+use Rattle.csub_rules.specs.FineItems.{FineName, FineParams}
 use Rattle.csub_resolution.specs.Values.{Defined}
 use Rattle.csub_resolution.specs.Programs.{params, name_or_none}
 use Rattle.csub_validity.specs.Valid.{parameter_object}

@@ -10,11 +10,11 @@ use Rattle.csub_rules.specs.declared.fault.Fault.{Fault}
 use Rattle.csub_rules.specs.Labels.{stands_in}
 use Rattle.csub_rules.proofs.LawsEarlier.{neither}
 use Rattle.csub_rules.proofs.LawsServed.{holds}
-use Rattle.csub_units.specs.Files.{no_file}
-use Rattle.csub_units.specs.Items.{past_items, items_fault}
+use Rattle.csub_rules.specs.Files.{no_file}
+use Rattle.csub_rules.specs.Items.{past_items, items_fault}
 use Rattle.csub_objects.specs.Types.{main_name}
-use Rattle.csub_units.specs.Units.{all_defined, undefineds_fault, placed_fault, main_fault, no_place, unit_fault}
-use Rattle.csub_units.proofs.LawsFineItems.{fine_unit}
+use Rattle.csub_rules.specs.Units.{all_defined, undefineds_fault, placed_fault, main_fault, no_place, unit_fault}
+use Rattle.csub_rules.proofs.LawsFineItems.{fine_unit}
 use Rattle.csub_resolution.specs.Values.{Defined}
 use Rattle.csub_resolution.specs.Programs.{defined_in, functions_in, start, span_of_main, program_of}
 use Rattle.csub_limits.specs.Limits.{limit_passed}

@@ -4,7 +4,7 @@ use Rattle.std.specs.Prelude.{AllPairs}
 use Rattle.csub_tree.specs.Units.{Source}
 use Rattle.csub_semantics.specs.Syntax.{FunctionTree, ProgramTree}
 use Rattle.csub_validity.specs.Valid.{AreStmts, no_loop, labels_of, stmt_count, most_entries, AreGlobals, IsValid}
-use Rattle.csub_units.specs.Units.{unit_fault}
+use Rattle.csub_rules.specs.Units.{unit_fault}
 use Rattle.csub_resolution.specs.Programs.{program_of}
 use Rattle.csub_limits.specs.Limits.{limit_passed}
 use Rattle.program_validity.specs.Names.{NoneIsStart}

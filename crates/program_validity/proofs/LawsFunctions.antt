@@ -19,12 +19,12 @@ use Rattle.csub_rules.specs.Labels.{stands_in}
 use Rattle.csub_rules.proofs.LawsEarlier.{no_test}
 use Rattle.csub_rules.proofs.LawsUses.{is_false}
 use Rattle.csub_scopes.specs.Scopes.{Scope}
-use Rattle.csub_units.specs.Files.{File, no_file}
-use Rattle.csub_units.specs.Heads.{at_params, past_head}
-use Rattle.csub_units.specs.Items.{past_item, past_items, is_int, has_none, is_other_main, lacks_names, is_misdefined}
-use Rattle.csub_units.specs.Units.{all_defined, placed_fault, no_place, main_fault, unit_fault}
-use Rattle.csub_units.specs.FineItems.{FineItems}
-use Rattle.csub_units.proofs.LawsFineItems.{fine_unit}
+use Rattle.csub_rules.specs.Files.{File, no_file}
+use Rattle.csub_rules.specs.Heads.{at_params, past_head}
+use Rattle.csub_rules.specs.Items.{past_item, past_items, is_int, has_none, is_other_main, lacks_names, is_misdefined}
+use Rattle.csub_rules.specs.Units.{all_defined, placed_fault, no_place, main_fault, unit_fault}
+use Rattle.csub_rules.specs.FineItems.{FineItems}
+use Rattle.csub_rules.proofs.LawsFineItems.{fine_unit}
 use Rattle.csub_resolution.specs.Values.{Defined}
 use Rattle.csub_resolution.specs.Programs.{params, params_of, function_by, functions_in, defined_in, program_of}
 use Rattle.program_validity.specs.Names.{NoneIsStart}

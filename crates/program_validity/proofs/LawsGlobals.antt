@@ -11,14 +11,14 @@ use Rattle.csub_validity.specs.Valid.{AreOf, AreGlobals, most_global_cells}
 use Rattle.csub_scopes.specs.Scopes.{Scope, Declared, Meaning, find}
 use Rattle.csub_rules.specs.Constants.{enum_value}
 use Rattle.csub_rules.specs.Declarators.{base_type, declared_type, object_type}
-use Rattle.csub_units.specs.Files.{File, no_file, naming, is_known}
-use Rattle.csub_units.specs.Objects.{past_object, past_objects}
-use Rattle.csub_units.specs.Enums.{value_after, past_constant, past_constants, past_tag}
-use Rattle.csub_units.specs.Heads.{signature, past_head}
-use Rattle.csub_units.specs.Items.{past_item}
-use Rattle.csub_units.specs.Units.{unit_fault}
-use Rattle.csub_units.specs.FineItems.{FineObjects, FineItems}
-use Rattle.csub_units.proofs.LawsFineItems.{fine_unit}
+use Rattle.csub_rules.specs.Files.{File, no_file, naming, is_known}
+use Rattle.csub_rules.specs.Objects.{past_object, past_objects}
+use Rattle.csub_rules.specs.Enums.{value_after, past_constant, past_constants, past_tag}
+use Rattle.csub_rules.specs.Heads.{signature, past_head}
+use Rattle.csub_rules.specs.Items.{past_item}
+use Rattle.csub_rules.specs.Units.{unit_fault}
+use Rattle.csub_rules.specs.FineItems.{FineObjects, FineItems}
+use Rattle.csub_rules.proofs.LawsFineItems.{fine_unit}
 use Rattle.csub_resolution.specs.Programs.{global_by, globals_by, globals_in, program_of}
 use Rattle.program_validity.proofs.Lists.{Pairs, all_pairs, pairs_append, is_same, contrary}
 use Rattle.program_validity.proofs.Contents.{are_initial}

@@ -18,12 +18,12 @@ use Rattle.csub_rules.specs.Labels.{stands_in}
 use Rattle.csub_rules.specs.Locals.{past_var, past_vars}
 use Rattle.csub_rules.specs.Params.{param_type}
 use Rattle.csub_rules.specs.Past.{past, past_perhaps, past_lines}
-use Rattle.csub_units.specs.Files.{File, no_file}
-use Rattle.csub_units.specs.Heads.{at_params, past_name, past_param, past_params, past_head, sure_type}
-use Rattle.csub_units.specs.Items.{past_item, lacks_names, is_other_main, is_misdefined}
-use Rattle.csub_units.specs.Units.{unit_fault}
-use Rattle.csub_units.specs.FineItems.{FineName, FineParams, FineItems}
-use Rattle.csub_units.proofs.LawsFineItems.{fine_unit}
+use Rattle.csub_rules.specs.Files.{File, no_file}
+use Rattle.csub_rules.specs.Heads.{at_params, past_name, past_param, past_params, past_head, sure_type}
+use Rattle.csub_rules.specs.Items.{past_item, lacks_names, is_other_main, is_misdefined}
+use Rattle.csub_rules.specs.Units.{unit_fault}
+use Rattle.csub_rules.specs.FineItems.{FineName, FineParams, FineItems}
+use Rattle.csub_rules.proofs.LawsFineItems.{fine_unit}
 use Rattle.csub_resolution.specs.Values.{Defined}
 use Rattle.csub_resolution.specs.Lines.{vars_locals, locals, locals_perhaps, locals_lines}
 use Rattle.csub_resolution.specs.Programs.{name_or_none, params, function_by, functions_in, defined_in, start, span_of_main, program_of}

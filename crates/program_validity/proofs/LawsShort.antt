@@ -28,8 +28,8 @@ use Rattle.csub_rules.specs.ExprSorts.{number_of}
 use Rattle.csub_rules.specs.Here.{Here, entering}
 use Rattle.csub_rules.specs.Locals.{past_var}
 use Rattle.csub_rules.specs.Past.{past, past_perhaps}
-use Rattle.csub_units.specs.Files.{File, no_file}
-use Rattle.csub_units.specs.Items.{past_item, in_function}
+use Rattle.csub_rules.specs.Files.{File, no_file}
+use Rattle.csub_rules.specs.Items.{past_item, in_function}
 use Rattle.csub_resolution.specs.Values.{Defined}
 use Rattle.csub_resolution.specs.Lines.{var_parts, vars_parts, declare_parts, first_parts, line, line_kind, lines}
 use Rattle.csub_resolution.specs.Programs.{function_by, functions_by, functions_in, defined_in, start, span_of_main, program_of}

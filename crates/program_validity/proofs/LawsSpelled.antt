@@ -7,8 +7,8 @@ use Rattle.csub_tree.specs.Units.{Item, Struct, Enum, Object, Prototype, Functio
 use Rattle.csub_tree.specs.Spells.{Spells}
 use Rattle.csub_semantics.specs.Flows.{start_name}
 use Rattle.csub_rules.specs.Labels.{stands_in}
-use Rattle.csub_units.specs.Files.{File, no_file}
-use Rattle.csub_units.specs.Items.{past_item, past_items}
+use Rattle.csub_rules.specs.Files.{File, no_file}
+use Rattle.csub_rules.specs.Items.{past_item, past_items}
 use Rattle.program_validity.specs.Names.{NoneIsStart}
 use Rattle.program_validity.proofs.Lists.{same_name}
 use Rattle.program_validity.proofs.Spelled.{AreOther, are_other}

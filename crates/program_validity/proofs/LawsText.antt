@@ -3,7 +3,7 @@ use Rattle.std.proofs.Common.{◌≡◌, None}
 use Rattle.std.proofs.Math.Nat.{le_trans}
 use Rattle.csub_tree.specs.Units.{Source}
 use Rattle.csub_validity.specs.Valid.{IsValid}
-use Rattle.csub_units.specs.Units.{unit_fault}
+use Rattle.csub_rules.specs.Units.{unit_fault}
 use Rattle.csub_resolution.specs.Programs.{program_of}
 use Rattle.csub_limits.specs.Limits.{limit_passed}
 use Rattle.program_validity.specs.Texts.{HasText}

@@ -20,13 +20,13 @@ use Rattle.csub_rules.specs.Declarators.{base_type}
 use Rattle.csub_rules.specs.Here.{Here, is_reserved}
 use Rattle.csub_rules.proofs.LawsEarlier.{neither, no_test}
 use Rattle.csub_rules.proofs.LawsUses.{is_false}
-use Rattle.csub_units.specs.Files.{File, no_file, naming, is_known, tag_fault}
-use Rattle.csub_units.specs.Objects.{past_object, past_objects}
-use Rattle.csub_units.specs.Structs.{struct_fault, sound_members}
-use Rattle.csub_units.specs.Enums.{value_after, past_constant, past_constants, past_tag, past_enum, constants_fault, perhaps_tag_fault, enumeration_fault}
-use Rattle.csub_units.specs.Heads.{at_params, past_params, past_head, signature}
-use Rattle.csub_units.specs.Items.{past_item, past_items, item_fault, items_fault}
-use Rattle.csub_units.specs.Units.{all_defined, undefineds_fault, placed_fault, main_fault, unit_fault}
+use Rattle.csub_rules.specs.Files.{File, no_file, naming, is_known, tag_fault}
+use Rattle.csub_rules.specs.Objects.{past_object, past_objects}
+use Rattle.csub_rules.specs.Structs.{struct_fault, sound_members}
+use Rattle.csub_rules.specs.Enums.{value_after, past_constant, past_constants, past_tag, past_enum, constants_fault, perhaps_tag_fault, enumeration_fault}
+use Rattle.csub_rules.specs.Heads.{at_params, past_params, past_head, signature}
+use Rattle.csub_rules.specs.Items.{past_item, past_items, item_fault, items_fault}
+use Rattle.csub_rules.specs.Units.{all_defined, undefineds_fault, placed_fault, main_fault, unit_fault}
 use Rattle.csub_resolution.specs.Values.{Defined}
 use Rattle.csub_resolution.specs.Lines.{locals_lines}
 use Rattle.csub_resolution.specs.Programs.{params, function_by, functions_in, globals_by, globals_in, defined_in, start, span_of_main, program_of}

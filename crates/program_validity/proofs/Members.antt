@@ -16,8 +16,8 @@ use Rattle.csub_rules.proofs.LawsEarlier.{four_none, no_test}
 use Rattle.csub_rules.proofs.LawsSizes.{is_sized-Decides}
 use Rattle.csub_rules.proofs.LawsUses.{is_false}
 use Rattle.csub_rules.proofs.LawsBodies.{names_differ}
-use Rattle.csub_units.specs.Files.{tag_fault}
-use Rattle.csub_units.specs.Structs.{field_names, with_member, member_of, fields_before, members, fields_fault, defined_struct, struct_fault, sound_members}
+use Rattle.csub_rules.specs.Files.{tag_fault}
+use Rattle.csub_rules.specs.Structs.{field_names, with_member, member_of, fields_before, members, fields_fault, defined_struct, struct_fault, sound_members}
 use Rattle.program_validity.proofs.Lists.{Pairs, all_pairs, is_same, contrary, in_first, in_second}
 use Rattle.program_validity.proofs.Known.{AreKnown, IsGood, IsStruct, AreGood}
 use Rattle.program_validity.proofs.Declared.{IsGoodWhere, good_base, object_good}

@@ -23,10 +23,10 @@ use Rattle.csub_rules.specs.StmtFaults.{Surroundings}
 use Rattle.csub_rules.specs.Bodies.{in_body, body_fault, FineBody}
 use Rattle.csub_rules.proofs.LawsEarlier.{neither, three_none, no_test}
 use Rattle.csub_rules.proofs.LawsServed.{neither_holds}
-use Rattle.csub_units.specs.Files.{File, no_file}
-use Rattle.csub_units.specs.Heads.{at_params, past_head, head_fault}
-use Rattle.csub_units.specs.Items.{past_item, past_items, item_fault, items_fault, is_misdefined, is_other_main, lacks_names, in_function}
-use Rattle.csub_units.specs.FineItems.{FineHead, FineItems}
+use Rattle.csub_rules.specs.Files.{File, no_file}
+use Rattle.csub_rules.specs.Heads.{at_params, past_head, head_fault}
+use Rattle.csub_rules.specs.Items.{past_item, past_items, item_fault, items_fault, is_misdefined, is_other_main, lacks_names, in_function}
+use Rattle.csub_rules.specs.FineItems.{FineHead, FineItems}
 use Rattle.csub_resolution.specs.Values.{Defined}
 use Rattle.csub_resolution.specs.Lines.{locals_lines}
 use Rattle.csub_resolution.specs.Programs.{defined_in, function_by, functions_in, start}

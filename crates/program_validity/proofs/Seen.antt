@@ -22,7 +22,7 @@ use Rattle.csub_rules.specs.Here.{Here, entering, leaving, declaring, number_of}
 use Rattle.csub_rules.specs.Locals.{past_var, past_vars}
 use Rattle.csub_rules.specs.Past.{past, past_perhaps, past_lines}
 use Rattle.csub_rules.proofs.LawsSizes.{is_sized-Decides}
-use Rattle.csub_units.specs.Heads.{sure_type}
+use Rattle.csub_rules.specs.Heads.{sure_type}
 use Rattle.csub_resolution.specs.Values.{Defined}
 use Rattle.csub_resolution.specs.Lines.{vars_locals, locals, locals_perhaps, locals_lines}
 use Rattle.csub_validity.specs.Valid.{type_in, parameter_object, objects_of}

@@ -29,7 +29,7 @@ use Rattle.csub_rules.specs.Past.{past, past_perhaps}
 use Rattle.csub_rules.specs.Declarators.{base_type, object_type}
 use Rattle.csub_rules.specs.CaseLabels.{switch_kind}
 use Rattle.csub_rules.specs.Words.{word_return}
-use Rattle.csub_units.specs.Heads.{sure_type}
+use Rattle.csub_rules.specs.Heads.{sure_type}
 use Rattle.csub_resolution.specs.Values.{Defined}
 use Rattle.csub_resolution.specs.Contents.{init_count, init_value, init_calls}
 use Rattle.csub_resolution.specs.Positions.{first_token}

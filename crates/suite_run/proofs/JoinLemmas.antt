@@ -10,7 +10,7 @@ use Rattle.std.proofs.lemmas.Grind.{common_steps}
 use Rattle.csub_semantics.specs.Syntax.{ProgramTree}
 use Rattle.test_suite.specs.Tests.{TestParts}
 use Rattle.test_history.specs.Histories.{EntryParts}
-use Rattle.suite_run.specs.Entries.{IsEntry}
+use Rattle.test_history.specs.Entries.{IsEntry}
 use Rattle.suite_run.specs.Parts.{Part, ArePartsOf, Joins}
 use Rattle.suite_run.proofs.Zips.{all_zip_append}
 

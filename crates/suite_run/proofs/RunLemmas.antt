@@ -9,7 +9,7 @@ use Rattle.csub_machine.specs.Moments.{Seen, moment_of, output_of, turns_of, cro
 use Rattle.edge_trace.specs.Rows.{has}
 use Rattle.test_suite.specs.Tests.{TestParts}
 use Rattle.test_history.specs.Histories.{EntryParts}
-use Rattle.suite_run.specs.Entries.{IsRowOf, IsEntry}
+use Rattle.test_history.specs.Entries.{IsRowOf, IsEntry}
 
 -- what a machine shows after a whole run of a test is the test's entry
 pub entry_is : (program : ProgramParts) (asked copy : TestParts) (entry : EntryParts) (status : Status) (old new : Seen) (input : List ℕ) (budget turns : ℕ) (output : List ℕ) (row : List Bool)

@@ -7,7 +7,7 @@ use Rattle.std.specs.declared.alloc.AllocError.{AllocError}
 use Rattle.csub_semantics.specs.Syntax.{ProgramTree}
 use Rattle.test_suite.specs.Tests.{TestParts}
 use Rattle.test_history.specs.Histories.{EntryParts}
-use Rattle.suite_run.specs.Entries.{IsEntry}
+use Rattle.test_history.specs.Entries.{IsEntry}
 
 -- what a worker gives: the entries of its tests, or want of memory
 abbrev pub Part : Type 0

@@ -1,7 +1,7 @@
 //! Runs of the tests of a suite, side by side.
 //!
-//! [`run_all`] gives an entry for each test: the test with what its run on a program gives (`specs/Entries`). Its contract
-//! is the whole promise. It doesn't name the number of workers, so an `Ok` is the same for each of them.
+//! [`run_all`] gives an entry for each test: the test with what its run on a program gives (`Entries` of `test_history`). Its
+//! contract is the whole promise. It doesn't name the number of workers, so an `Ok` is the same for each of them.
 //!
 //! [`run`] makes the runs of one worker, one after another; [`parts`] cuts the list of tests into chunks, a worker for
 //! each, and puts together what they give (`specs/Parts`).
@@ -12,7 +12,7 @@ ghost use Rattle.std.specs.List.{AllZip};
 ghost use Rattle.csub_semantics.specs.Syntax.{program_tree};
 ghost use Rattle.flow_graph.specs.Graph.{IsGraphOf};
 ghost use Rattle.test_suite.specs.Tests.{IsWithin};
-ghost use Rattle.suite_run.specs.Entries.{IsEntry};
+ghost use Rattle.test_history.specs.Entries.{IsEntry};
 
 mod parts;
 mod run;

@@ -5,7 +5,7 @@ ghost use Rattle.csub_semantics.specs.Syntax.{program_tree};
 ghost use Rattle.flow_graph.specs.Graph.{IsGraphOf};
 ghost use Rattle.csub_flat.specs.Copies.{IsFlatOf};
 ghost use Rattle.test_suite.specs.Tests.{IsWithin};
-ghost use Rattle.suite_run.specs.Entries.{IsEntry};
+ghost use Rattle.test_history.specs.Entries.{IsEntry};
 ghost use Rattle.suite_run.specs.Parts.{ArePartsOf, Joins};
 
 use crate::run::run_chunk;

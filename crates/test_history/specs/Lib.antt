@@ -3,3 +3,4 @@ pub mod Histories
 pub mod HistoryTexts
 pub mod Rules
 pub mod Faults
+pub mod Entries

@@ -3,7 +3,8 @@
 //! A history holds the SHA-256 digest of a source, the number of edges of its program, and for each
 //! test an entry: the test, how its run ended, the number of its turns, its output and the edges that
 //! it crossed. `specs/HistoryTexts.antt` says which text that is: version 3 of the format is written and
-//! read, and version 2 is only read. What is promised:
+//! read, and version 2 is only read. `specs/Entries.antt` says when an entry is what a test's run
+//! gives. What is promised:
 //!
 //! - [`write_history`] gives exactly that text, or says how long it would be where it is too long for
 //!   the format: its contract has both, and refuses for no other cause than memory.

@@ -1,7 +1,7 @@
 use Rattle.std.proofs.Common.{◌≡◌, ◌∙◌, List, ℕ, Some, None, refl, sym, subst}
-use Rattle.csub_accept.specs.declared.error.SourceError.{SourceError}
+use Rattle.csub_answers.specs.declared.error.SourceError.{SourceError}
 use Rattle.command_refusals.specs.Causes.{source_cause}
-use Rattle.csub_accept.specs.declared.error.SourceError.TheVariants.{Memory}
+use Rattle.csub_answers.specs.declared.error.SourceError.TheVariants.{Memory}
 use Rattle.command_refusals.specs.declared.source.SourceCause.{SourceCause}
 use Rattle.command_files.proofs.files.read_source.Goals as goal
 

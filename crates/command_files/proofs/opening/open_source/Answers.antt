@@ -1,7 +1,7 @@
 use Rattle.std.proofs.Common.{List, ℕ, Option, sym, subst}
 use Rattle.dv_outside.specs.Outside.{Files, IsFetched}
 use Rattle.csub_semantics.specs.Syntax.{program_tree}
-use Rattle.csub_accept.specs.Accepted.{Accepted}
+use Rattle.csub_answers.specs.Accepted.{Accepted}
 use Rattle.command_files.proofs.LawsFiles.{has_source}
 use Rattle.command_files.proofs.LawsRefusals.{passed_on}
 use Rattle.command_files.proofs.Reading.{bad_source, no_second}

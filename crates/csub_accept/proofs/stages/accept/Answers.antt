@@ -1,5 +1,5 @@
 use Rattle.std.proofs.Common.{rules}
-use Rattle.csub_accept.specs.declared.error.SourceError.TheVariants.{Meaning}
+use Rattle.csub_answers.specs.declared.error.SourceError.TheVariants.{Meaning}
 use Rattle.csub_accept.proofs.Places.{told_within, told_by}
 use Rattle.csub_accept.proofs.stages.accept.Goals as goal
 

@@ -1,12 +1,12 @@
 use Rattle.std.proofs.Common.{◌∙◌, refl, map}
 use Rattle.csub_semantics.specs.Syntax.{function_tree}
 use Rattle.csub_tree.specs.Units.{item_tree}
-use Rattle.csub_units.specs.Files.{File}
-use Rattle.csub_units.specs.Items.{past_item}
+use Rattle.csub_rules.specs.Files.{File}
+use Rattle.csub_rules.specs.Items.{past_item}
 use Rattle.csub_units.specs.Views.{file_of}
 use Rattle.csub_resolution.specs.Programs.{functions_by, functions_in}
 use Rattle.csub_items.proofs.Bodies.{fine_this, fine_more}
-use Rattle.csub_items.proofs.Lists.{made_more}
+use Rattle.csub_globals.proofs.LawsLists.{made_more}
 use Rattle.csub_items.proofs.function.functions_in.Goals as goal
 
 pub lower_item-requires : goal.lower_item-requires

@@ -1,7 +1,7 @@
 use Rattle.std.proofs.Common.{◌≡◌, ◌++◌, map, drop}
 use Rattle.csub_semantics.specs.Syntax.{function_tree}
 use Rattle.csub_tree.specs.Units.{item_tree}
-use Rattle.csub_units.specs.FineItems.{FineItems}
+use Rattle.csub_rules.specs.FineItems.{FineItems}
 use Rattle.csub_units.specs.Views.{file_of}
 use Rattle.csub_resolution.specs.Programs.{functions_in}
 use Rattle.csub_items.proofs.function.functions_in.Given as goal

@@ -7,8 +7,8 @@ use Rattle.csub_rules.specs.Here.{Here}
 use Rattle.csub_scopes.specs.Meanings.{scope_of}
 use Rattle.csub_scopes.specs.Scopes.{Scope}
 use Rattle.csub_semantics.specs.Syntax.{local_tree, stmt_tree as made_tree, stmts_of as made_lines}
-use Rattle.csub_units.specs.Heads.{past_params}
-use Rattle.csub_units.specs.Items.{in_function}
+use Rattle.csub_rules.specs.Heads.{past_params}
+use Rattle.csub_rules.specs.Items.{in_function}
 use Rattle.csub_resolution.specs.Programs.{params}
 use Rattle.csub_items.proofs.Bodies.{entered, named, fine_lines, made_function}
 use Rattle.csub_units.proofs.LawsLeaving.{body_closed}

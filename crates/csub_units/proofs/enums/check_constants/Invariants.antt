@@ -2,7 +2,7 @@ use Rattle.std.proofs.Common.{◌≡◌, pos, map, drop}
 use Rattle.csub_scopes.specs.Meanings.{scope_of}
 use Rattle.csub_tree.specs.Units.{constant_tree}
 use Rattle.csub_rules.specs.Faults.{◌or_earlier◌}
-use Rattle.csub_units.specs.Enums.{constants_fault, past_constants}
+use Rattle.csub_rules.specs.Enums.{constants_fault, past_constants}
 use Rattle.csub_units.proofs.enums.check_constants.Given as goal
 
 abbrev pub invariant-loop-c : goal.invariant-loop-c

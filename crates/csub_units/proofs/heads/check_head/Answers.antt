@@ -6,8 +6,8 @@ use Rattle.csub_bodies.specs.Views.{here_of}
 use Rattle.csub_rules.specs.Here.{Here}
 use Rattle.csub_scopes.specs.Meanings.{scope_of}
 use Rattle.csub_scopes.specs.Scopes.{Scope, a_function}
-use Rattle.csub_units.specs.Files.{is_known, naming}
-use Rattle.csub_units.specs.Heads.{at_params, param_types, params_fault, past_params}
+use Rattle.csub_rules.specs.Files.{is_known, naming}
+use Rattle.csub_rules.specs.Heads.{at_params, param_types, params_fault, past_params}
 use Rattle.csub_units.proofs.HeadFaults.{head_told, head_declared}
 use Rattle.csub_units.proofs.LawsLeaving.{params_closed}
 use Rattle.csub_units.proofs.heads.check_head.Goals as goal

@@ -2,7 +2,7 @@ use Rattle.std.proofs.Common.{◌≡◌, map, drop, length}
 use Rattle.csub_objects.specs.Meaning.{type_tree}
 use Rattle.csub_scopes.specs.Meanings.{scope_of}
 use Rattle.csub_tree.specs.Declarations.{param_tree}
-use Rattle.csub_units.specs.Heads.{params_agree}
+use Rattle.csub_rules.specs.Heads.{params_agree}
 use Rattle.csub_units.proofs.heads.params_agree.Given as goal
 
 abbrev pub invariant-loop-i : goal.invariant-loop-i

@@ -4,7 +4,7 @@ use Rattle.csub_tree.specs.Statements.{stmt_tree, stmts_of}
 use Rattle.csub_bodies.specs.Views.{here_of}
 use Rattle.csub_rules.specs.Here.{Here}
 use Rattle.csub_scopes.specs.Meanings.{scope_of}
-use Rattle.csub_units.specs.Heads.{past_params}
+use Rattle.csub_rules.specs.Heads.{past_params}
 use Rattle.csub_units.proofs.LawsLeaving.{body_closed}
 use Rattle.csub_units.proofs.items.check_function_body.Goals as goal
 

@@ -1,7 +1,7 @@
 use Rattle.std.proofs.Common.{◌∙◌, refl}
 use Rattle.csub_tree.specs.Units.{item_tree}
-use Rattle.csub_units.specs.Files.{File}
-use Rattle.csub_units.specs.Items.{item_fault, items_fault, past_item, past_items}
+use Rattle.csub_rules.specs.Files.{File}
+use Rattle.csub_rules.specs.Items.{item_fault, items_fault, past_item, past_items}
 use Rattle.csub_units.specs.Views.{file_of}
 use Rattle.csub_units.proofs.Loops.{one_more, one_fault_more}
 use Rattle.csub_units.proofs.items.check_items.Goals as goal

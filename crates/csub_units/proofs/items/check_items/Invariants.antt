@@ -1,7 +1,7 @@
 use Rattle.std.proofs.Common.{◌≡◌, map, drop}
 use Rattle.csub_tree.specs.Units.{item_tree}
 use Rattle.csub_rules.specs.Faults.{◌or_earlier◌}
-use Rattle.csub_units.specs.Items.{items_fault, past_items}
+use Rattle.csub_rules.specs.Items.{items_fault, past_items}
 use Rattle.csub_units.specs.Views.{file_of}
 use Rattle.csub_units.proofs.items.check_items.Given as goal
 

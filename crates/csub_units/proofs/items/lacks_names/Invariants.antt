@@ -1,6 +1,6 @@
 use Rattle.std.proofs.Common.{◌≡◌, ◌||◌, map, drop}
 use Rattle.csub_tree.specs.Declarations.{param_tree}
-use Rattle.csub_units.specs.Items.{lacks_names}
+use Rattle.csub_rules.specs.Items.{lacks_names}
 use Rattle.csub_units.proofs.items.lacks_names.Given as goal
 
 abbrev pub invariant-loop-p : goal.invariant-loop-p

@@ -3,7 +3,7 @@ use Rattle.csub_objects.specs.Meaning.{type_tree}
 use Rattle.csub_objects.specs.Types.{TypeTree}
 use Rattle.csub_scopes.specs.Meanings.{scope_of}
 use Rattle.csub_tree.specs.Declarations.{declarator_tree}
-use Rattle.csub_units.specs.Objects.{past_object, past_objects, object_fault, objects_fault}
+use Rattle.csub_rules.specs.Objects.{past_object, past_objects, object_fault, objects_fault}
 use Rattle.csub_units.proofs.Loops.{one_more, one_fault_more}
 use Rattle.csub_units.proofs.objects.check_objects.Goals as goal
 

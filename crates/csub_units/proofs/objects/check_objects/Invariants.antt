@@ -3,7 +3,7 @@ use Rattle.csub_objects.specs.Meaning.{type_tree}
 use Rattle.csub_scopes.specs.Meanings.{scope_of}
 use Rattle.csub_tree.specs.Declarations.{declarator_tree}
 use Rattle.csub_rules.specs.Faults.{◌or_earlier◌}
-use Rattle.csub_units.specs.Objects.{past_objects, objects_fault}
+use Rattle.csub_rules.specs.Objects.{past_objects, objects_fault}
 use Rattle.csub_units.proofs.objects.check_objects.Given as goal
 
 abbrev pub invariant-loop-d : goal.invariant-loop-d

@@ -5,7 +5,7 @@ use Rattle.csub_rules.specs.Faults.{◌or_earlier◌}
 use Rattle.csub_rules.specs.Here.{Here}
 use Rattle.csub_rules.specs.Params.{param_fault}
 use Rattle.csub_bodies.specs.Views.{here_of}
-use Rattle.csub_units.specs.Heads.{param_name_fault, params_fault, past_param, past_params}
+use Rattle.csub_rules.specs.Heads.{param_name_fault, params_fault, past_param, past_params}
 use Rattle.csub_units.proofs.Loops.{one_more, one_fault_more}
 use Rattle.csub_units.proofs.ParamTypes.{types_more}
 use Rattle.csub_units.proofs.params.check_params.Goals as goal

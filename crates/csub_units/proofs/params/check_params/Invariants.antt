@@ -3,7 +3,7 @@ use Rattle.csub_objects.specs.Meaning.{type_tree}
 use Rattle.csub_tree.specs.Declarations.{param_tree}
 use Rattle.csub_rules.specs.Faults.{◌or_earlier◌}
 use Rattle.csub_bodies.specs.Views.{here_of}
-use Rattle.csub_units.specs.Heads.{param_types, params_fault, past_params}
+use Rattle.csub_rules.specs.Heads.{param_types, params_fault, past_params}
 use Rattle.csub_units.proofs.params.check_params.Given as goal
 
 abbrev pub invariant-loop-p : goal.invariant-loop-p

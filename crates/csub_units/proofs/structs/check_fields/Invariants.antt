@@ -3,7 +3,7 @@ use Rattle.csub_scopes.specs.Meanings.{scope_of}
 use Rattle.csub_tree.specs.Declarations.{declare_tree}
 use Rattle.csub_rules.specs.Faults.{◌or_earlier◌}
 use Rattle.csub_units.specs.Gathered.{behind, gathered}
-use Rattle.csub_units.specs.Structs.{fields_fault, members}
+use Rattle.csub_rules.specs.Structs.{fields_fault, members}
 use Rattle.csub_units.proofs.structs.check_fields.Given as goal
 
 abbrev pub invariant-loop-d : goal.invariant-loop-d

@@ -4,7 +4,7 @@ use Rattle.csub_scopes.specs.Meanings.{scope_of}
 use Rattle.csub_tree.specs.Declarations.{declarator_tree}
 use Rattle.csub_rules.specs.Faults.{◌or_earlier◌}
 use Rattle.csub_units.specs.Gathered.{behind, gathered, line_members}
-use Rattle.csub_units.specs.Structs.{line_fault}
+use Rattle.csub_rules.specs.Structs.{line_fault}
 use Rattle.csub_units.proofs.structs.check_line.Given as goal
 
 abbrev pub invariant-loop-d : goal.invariant-loop-d

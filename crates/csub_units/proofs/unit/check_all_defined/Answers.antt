@@ -1,7 +1,7 @@
 use Rattle.std.proofs.Common.{◌∙◌, refl, List}
 use Rattle.csub_tree.specs.Units.{Item, item_tree}
 use Rattle.csub_objects.specs.Types.{Name}
-use Rattle.csub_units.specs.Units.{undefined_fault, undefineds_fault}
+use Rattle.csub_rules.specs.Units.{undefined_fault, undefineds_fault}
 use Rattle.csub_units.proofs.Loops.{one_fault_more}
 use Rattle.csub_units.proofs.unit.check_all_defined.Goals as goal
 

@@ -1,8 +1,8 @@
 use Rattle.std.proofs.Common.{◌≡◌, List, length, nat_lt, refl, sym, subst}
 use Rattle.csub_semantics.specs.Syntax.{program_tree}
 use Rattle.test_select.specs.declared.choice.Choice.{Choice}
-use Rattle.dejavu_cli.specs.Steps.{HasReran}
-use Rattle.dejavu_cli.proofs.RerunLemmas.{rerun_is}
+use Rattle.command_runs.specs.Steps.{HasReran}
+use Rattle.command_runs.proofs.LawsReruns.{rerun_is}
 use Rattle.dejavu_cli.proofs.rerun.rerun_answer.Goals as goal
 
 pub rerun_selected-requires-clause-choices : goal.rerun_selected-requires-clause-choices

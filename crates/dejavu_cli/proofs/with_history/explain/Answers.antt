@@ -1,7 +1,7 @@
 use Rattle.std.proofs.Common.{List, ℕ, subst, MatchResult}
 use Rattle.csub_semantics.specs.Syntax.{program_tree}
-use Rattle.dejavu_cli.specs.Explain.{IsExplained}
-use Rattle.dejavu_cli.specs.Steps.{IsTestCause}
+use Rattle.command_runs.specs.Explain.{IsExplained}
+use Rattle.command_runs.specs.Steps.{IsTestCause}
 use Rattle.command_words.specs.Words.{explain_files}
 use Rattle.command_files.proofs.LawsRefusals.{passed_on}
 use Rattle.dejavu_cli.proofs.OpenLemmas.{three_refused, explained}

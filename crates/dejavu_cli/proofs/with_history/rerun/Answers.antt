@@ -2,7 +2,7 @@ use Rattle.std.proofs.Common.{◌≡◌, Bool, List, ℕ, subst, MatchResult}
 use Rattle.csub_semantics.specs.Syntax.{program_tree}
 use Rattle.test_history.specs.declared.version.Version.TheVariants.{Third}
 use Rattle.command_files.specs.Steps.{IsHistoryCause}
-use Rattle.dejavu_cli.specs.Rerun.{IsRerun}
+use Rattle.command_runs.specs.Rerun.{IsRerun}
 use Rattle.dejavu_cli.specs.Texts.{end_of_rerun}
 use Rattle.command_words.specs.Words.{rerun_files}
 use Rattle.command_files.proofs.LawsRefusals.{passed_on}

@@ -2,7 +2,7 @@ use Rattle.std.proofs.Common.{List, ℕ, subst, MatchResult}
 use Rattle.csub_semantics.specs.Syntax.{program_tree}
 use Rattle.test_history.specs.declared.version.Version.TheVariants.{Third}
 use Rattle.command_files.specs.Steps.{IsHistoryCause}
-use Rattle.dejavu_cli.specs.Select.{IsSelection}
+use Rattle.command_runs.specs.Select.{IsSelection}
 use Rattle.command_words.specs.Words.{select_files}
 use Rattle.command_files.proofs.LawsRefusals.{passed_on}
 use Rattle.dejavu_cli.proofs.OpenLemmas.{three_refused, selected}

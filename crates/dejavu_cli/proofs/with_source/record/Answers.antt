@@ -1,7 +1,7 @@
 use Rattle.std.proofs.Common.{List, ℕ, subst, MatchResult}
 use Rattle.csub_semantics.specs.Syntax.{program_tree}
-use Rattle.dejavu_cli.specs.Recorded.{IsRecorded}
-use Rattle.dejavu_cli.specs.Steps.{IsRecordCause}
+use Rattle.command_runs.specs.Recorded.{IsRecorded}
+use Rattle.command_runs.specs.Steps.{IsRecordCause}
 use Rattle.command_words.specs.Words.{record_files}
 use Rattle.command_refusals.specs.declared.refusal.Role.TheVariants as role
 use Rattle.command_files.specs.Steps.{IsMade}

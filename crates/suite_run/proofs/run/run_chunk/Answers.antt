@@ -1,5 +1,5 @@
 use Rattle.csub_semantics.specs.Syntax.{program_tree}
-use Rattle.suite_run.specs.Entries.{IsEntry}
+use Rattle.test_history.specs.Entries.{IsEntry}
 use Rattle.suite_run.proofs.Zips.{all_zip_next}
 use Rattle.suite_run.proofs.run.run_chunk.Goals as goal
 

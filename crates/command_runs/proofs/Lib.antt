@@ -1,0 +1,2 @@
+pub mod LawsReruns
+mod ExplainLemmas

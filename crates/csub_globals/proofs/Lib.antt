@@ -1,0 +1,3 @@
+pub mod LawsLists
+mod Starts
+mod Zeros
