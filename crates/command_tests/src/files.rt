@@ -88,7 +88,11 @@ pub fn files_of(
 
 /// A shelf of these texts.
 pub fn shelf_of(alloc: Global, texts: &[(&str, &str)]) -> Result<MemoryShelf, Fail> {
-    let files = files_of(alloc, texts)?;
+    shelf_with(alloc, files_of(alloc, texts)?)
+}
+
+/// A shelf of these files.
+pub fn shelf_with(alloc: Global, files: Vec<(String, Vec<u8>)>) -> Result<MemoryShelf, Fail> {
     if names_differ(&files) {
         Ok(MemoryShelf::new(alloc, files))
     } else {

@@ -1,45 +1,19 @@
 //! Histories and certificates that are longer than any may be.
-ghost use Rattle.std.specs.Prelude.{◌≤◌, length};
-
-use crate::files::{ASSIGNED, OTHER_BYTE, owned_words};
+use crate::files::{ASSIGNED, OTHER_BYTE, files_of, owned_words, shelf_with};
 use dejavu_cli::{Status8, dejavu};
-use dv_outside::{FetchError, MemorySink, OpenGate, Shelf};
+use dv_outside::{MemoryShelf, MemorySink, OpenGate};
 use std::alloc::Global;
 use std::test::Fail;
 
-/// A shelf with the sources `old` and `new`, on which any other name is that of a file of blanks without an end. So only what is
-/// fetched takes memory. It tells nothing of its files.
-#[derive(Drop)]
-struct EndlessShelf {
-    alloc: Global,
-}
+// How many bytes the long file has: one more than a history or a certificate may have.
+const LONG: usize = 134_217_729;
 
-impl Shelf for EndlessShelf {
-    ghost use Rattle.std.specs.Prelude.{None};
-
-    ghost files = { λ _. None };
-
-    ghost faults = { λ _ _. 0 };
-
-    fn fetch(&mut self, name: &str, most: usize) -> Result<Vec<u8>, FetchError> {
-        let made = match name {
-            "old" => Vec::from_slice(self.alloc, beginning(ASSIGNED, most)),
-            "new" => Vec::from_slice(self.alloc, beginning(OTHER_BYTE, most)),
-            _ => vec![in self.alloc; b' '; most],
-        };
-        match made {
-            Ok(bytes) => Ok(bytes),
-            Err(_) => Err(FetchError::Memory),
-        }
-    }
-}
-
-/// The first `most` bytes of a text, or all if it has fewer.
-fn beginning(text: &str, most: usize) -> &[u8]
-    ensures { length result.now ≤ most }
-{
-    let count = most.min(text.len());
-    &text.as_bytes()[..count]
+// A shelf with the sources `old` and `new`, and a file of blanks.
+fn long_shelf(alloc: Global) -> Result<MemoryShelf, Fail> {
+    let mut files = files_of(alloc, &[("old", ASSIGNED), ("new", OTHER_BYTE)])?;
+    let blanks = vec![in alloc; b' '; LONG]?;
+    files.push((String::from_str(alloc, "long")?, blanks))?;
+    shelf_with(alloc, files)
 }
 
 // Nothing is looked at but the length.
@@ -63,7 +37,7 @@ fn a_history_and_a_certificate_may_have_134217728_bytes(rt: HostRuntime) -> Resu
             "refused: certificate too long\n",
         ),
     ];
-    let mut shelf = EndlessShelf { alloc };
+    let mut shelf = long_shelf(alloc)?;
     for &(words, status, line) in rows {
         let owned = owned_words(alloc, words)?;
         let mut out = MemorySink::new(alloc, 1000, 7)?;

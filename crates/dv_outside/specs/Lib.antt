@@ -6,3 +6,4 @@ pub mod MemoryShelf
 pub mod MemorySink
 pub mod Outside
 pub mod StdSink
+pub mod Told

@@ -1,6 +1,6 @@
 //! A place that text is written to.
-ghost use Rattle.std.specs.Prelude.{◌≡◌, ◌<◌, ◌≤◌, List, ℕ, length, take, Option, IfOk, OnOk, OnErr};
-ghost use Rattle.dv_outside.specs.Outside.{Rose, Appends, AppendsPrefix};
+ghost use Rattle.std.specs.Prelude.{◌≡◌, ◌<◌, ◌≤◌, List, ℕ, length, take, Option, Some, IfOk, OnOk, OnErr};
+ghost use Rattle.dv_outside.specs.Outside.{Rose, Appends, AppendsPrefix, Takes, TakesPrefix};
 
 use thiserror::Error;
 
@@ -14,6 +14,9 @@ pub trait Sink {
     /// The bytes that were written, where they are told.
     ghost written: { Self → Option (List ℕ) };
 
+    /// The bytes that it said it took, in order, whether or not those written are told.
+    ghost taken: { Self → List ℕ };
+
     /// How often a fault was met. It never falls.
     ghost faults: { Self → ℕ };
 
@@ -24,10 +27,15 @@ pub trait Sink {
         requires { 0 < length piece.now }
         ensures some { IfOk result (λ n. 0 < n) }
         ensures bound { IfOk result (λ n. n ≤ length piece.now) }
+        ensures takes { IfOk result (λ n. Takes (taken self.old) (taken self.new) (take n piece.now)) }
+        ensures takes_none { OnErr result (taken self.new ≡ taken self.old) }
         ensures taken { IfOk result (λ n. Appends (written self.old) (written self.new) (take n piece.now)) }
         ensures none_taken { OnErr result (written self.new ≡ written self.old) }
         ensures cause { OnErr result (Rose (faults self.old) (faults self.new)) }
         ensures counts { faults self.old ≤ faults self.new };
+
+    /// Where one such sink tells its written bytes each does, and they are those that were taken.
+    ghost agree: { (sink other : Self) (bytes : List ℕ) → written sink ≡ Some bytes → written other ≡ Some (taken other) };
 }
 
 /// Writes the whole text, piece by piece. It takes no memory.
@@ -35,6 +43,8 @@ pub trait Sink {
 /// `SinkFailed` comes only where the sink's count of faults rose in this call; a beginning of the text was
 /// appended then.
 pub fn write_whole<K: Sink>(sink: &mut K, text: &[u8]) -> Result<(), SinkFailed>
+    ensures takes { OnOk result (Takes (K.taken sink.old) (K.taken sink.new) text.now) }
+    ensures takes_prefix { OnErr result (TakesPrefix (K.taken sink.old) (K.taken sink.new) text.now) }
     ensures whole { OnOk result (Appends (K.written sink.old) (K.written sink.new) text.now) }
     ensures prefix { OnErr result (AppendsPrefix (K.written sink.old) (K.written sink.new) text.now) }
     ensures cause { OnErr result (Rose (K.faults sink.old) (K.faults sink.new)) }

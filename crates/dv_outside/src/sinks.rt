@@ -62,10 +62,12 @@ impl MemorySink {
 
 impl Sink for MemorySink {
     ghost use Rattle.std.specs.Prelude.{◌≡◌, ◌<◌, ◌≤◌, ◌↔◌, Some, length, take, IfOk, OnErr, IsErr};
-    ghost use Rattle.dv_outside.specs.Outside.{Rose, Appends, faults_after_put};
+    ghost use Rattle.dv_outside.specs.Outside.{Rose, Appends, Takes, faults_after_put};
     ghost use Rattle.dv_outside.specs.MemorySink.{sink_bytes, sink_faults, room_left, bytes_taken, KeepsLimits};
 
     ghost written = { λ sink. Some (sink_bytes sink) };
+
+    ghost taken = { sink_bytes };
 
     ghost faults = { sink_faults };
 
@@ -75,6 +77,8 @@ impl Sink for MemorySink {
         // as for every sink
         ensures some { IfOk result (λ n. 0 < n) }
         ensures bound { IfOk result (λ n. n ≤ length piece.now) }
+        ensures takes { IfOk result (λ n. Takes (sink_bytes self.old) (sink_bytes self.new) (take n piece.now)) }
+        ensures takes_none { OnErr result (sink_bytes self.new ≡ sink_bytes self.old) }
         ensures taken { IfOk result (λ n. Appends (Some (sink_bytes self.old)) (Some (sink_bytes self.new)) (take n piece.now)) }
         ensures none_taken { OnErr result (Some (sink_bytes self.new) ≡ Some (sink_bytes self.old)) }
         ensures cause { OnErr result (Rose (sink_faults self.old) (sink_faults self.new)) }
@@ -94,6 +98,10 @@ impl Sink for MemorySink {
         self.bytes.extend_from_slice(&piece[..count]).unwrap();
         Ok(count)
     }
+
+    ghost use Rattle.std.proofs.Common.{refl};
+
+    ghost agree = { λ sink other bytes told. refl };
 }
 
 /// A sink in memory as [`MemorySink`] is one, one call of which is a fault as well.
@@ -143,11 +151,13 @@ impl FailingSink {
 
 impl Sink for FailingSink {
     ghost use Rattle.std.specs.Prelude.{◌≡◌, ◌<◌, ◌≤◌, ◌↔◌, Some, length, take, IfOk, OnErr, IsErr};
-    ghost use Rattle.dv_outside.specs.Outside.{Rose, Appends, raised, faults_after_put};
+    ghost use Rattle.dv_outside.specs.Outside.{Rose, Appends, Takes, raised, faults_after_put};
     ghost use Rattle.dv_outside.specs.MemorySink.{sink_bytes, sink_faults, bytes_taken, KeepsLimits};
     ghost use Rattle.dv_outside.specs.FailingSink.{inner_sink, failing_call, calls_made, FailsNext};
 
     ghost written = { λ sink. Some (sink_bytes (inner_sink sink)) };
+
+    ghost taken = { λ sink. sink_bytes (inner_sink sink) };
 
     ghost faults = { λ sink. sink_faults (inner_sink sink) };
 
@@ -157,6 +167,8 @@ impl Sink for FailingSink {
         // as for every sink
         ensures some { IfOk result (λ n. 0 < n) }
         ensures bound { IfOk result (λ n. n ≤ length piece.now) }
+        ensures takes { IfOk result (λ n. Takes (sink_bytes (inner_sink self.old)) (sink_bytes (inner_sink self.new)) (take n piece.now)) }
+        ensures takes_none { OnErr result (sink_bytes (inner_sink self.new) ≡ sink_bytes (inner_sink self.old)) }
         ensures taken { IfOk result (λ n. Appends (Some (sink_bytes (inner_sink self.old))) (Some (sink_bytes (inner_sink self.new))) (take n piece.now)) }
         ensures none_taken { OnErr result (Some (sink_bytes (inner_sink self.new)) ≡ Some (sink_bytes (inner_sink self.old))) }
         ensures cause { OnErr result (Rose (sink_faults (inner_sink self.old)) (sink_faults (inner_sink self.new))) }
@@ -176,4 +188,8 @@ impl Sink for FailingSink {
         }
         self.inner.put(piece)
     }
+
+    ghost use Rattle.std.proofs.Common.{refl};
+
+    ghost agree = { λ sink other bytes told. refl };
 }
