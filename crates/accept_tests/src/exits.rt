@@ -2,13 +2,11 @@
 use crate::running::traced_agree;
 use std::test::Fail;
 
-// The 2 turns before `main`, its entry, the output and the `exit`. Of the edges 3 is that of 'x'; the `exit` has none, and the edge of
-// the call in `#start`, 1, isn't crossed, since `main` doesn't come to its exit.
-#[test]
-fn an_exit_ends_the_run_with_the_low_8_bits_of_its_value(rt: HostRuntime) -> Result<(), Fail> {
-    traced_agree(
-        &rt,
-        rt.alloc(),
+const TRACED: &[(&str, &[(&str, &[(&[u8], u32, &str)])])] = &[
+    // An `exit` ends the run with the low 8 bits of its value.
+    // The 2 turns before `main`, its entry, the output and the `exit`. Of the edges 3 is that of 'x'; the `exit` has none, and the edge of
+    // the call in `#start`, 1, isn't crossed, since `main` doesn't come to its exit.
+    (
         "",
         &[
             (
@@ -48,15 +46,10 @@ fn an_exit_ends_the_run_with_the_low_8_bits_of_its_value(rt: HostRuntime) -> Res
                 &[(b"", 100, "x|255 5 0,2,3")],
             ),
         ],
-    )
-}
-
-// `putchar` gives the byte that it wrote.
-#[test]
-fn an_exit_takes_a_turn_behind_its_value(rt: HostRuntime) -> Result<(), Fail> {
-    traced_agree(
-        &rt,
-        rt.alloc(),
+    ),
+    // An `exit` takes a turn behind its value.
+    // `putchar` gives the byte that it wrote.
+    (
         "",
         &[
             (
@@ -72,16 +65,11 @@ fn an_exit_takes_a_turn_behind_its_value(rt: HostRuntime) -> Result<(), Fail> {
                 &[(b"", 100, "x|divide 5 0,2,3")],
             ),
         ],
-    )
-}
-
-// The 2 turns before `main`, its entry and its call, four turns (entry, output, test, call) for each A and four (entry, output, test,
-// `exit`) for the last call. The edges of the calls aren't crossed.
-#[test]
-fn an_exit_ends_the_run_in_whatever_function_it_stands(rt: HostRuntime) -> Result<(), Fail> {
-    traced_agree(
-        &rt,
-        rt.alloc(),
+    ),
+    // An `exit` ends the run in whatever function it stands.
+    // The 2 turns before `main`, its entry and its call, four turns (entry, output, test, call) for each A and four (entry, output, test,
+    // `exit`) for the last call. The edges of the calls aren't crossed.
+    (
         "void down(void);",
         &[(
             "down(); return 9; } void down(void) { putchar('x'); if (getchar() == 'A') down(); exit(3);",
@@ -90,5 +78,10 @@ fn an_exit_ends_the_run_in_whatever_function_it_stands(rt: HostRuntime) -> Resul
                 (b"AA", 100, "xxx|3 16 0,2,5,6,7,8"),
             ],
         )],
-    )
+    ),
+];
+
+#[test]
+fn an_exit_ends_the_run_wherever_it_stands(rt: HostRuntime) -> Result<(), Fail> {
+    traced_agree(&rt, rt.alloc(), TRACED)
 }

@@ -2,12 +2,10 @@
 use crate::running::bodies_agree;
 use std::test::Fail;
 
-// C11 7.21.6.1p8; the value is the count of the bytes that were written.
-#[test]
-fn conversions_write_the_text_of_c(rt: HostRuntime) -> Result<(), Fail> {
-    bodies_agree(
-        &rt,
-        rt.alloc(),
+const BODIES: &[(&str, &[(&str, &str)])] = &[
+    // Conversions write the text of C.
+    // C11 7.21.6.1p8; the value is the count of the bytes that were written.
+    (
         "",
         &[
             ("return printf(\"%d\", 0);", "0|1"),
@@ -24,15 +22,10 @@ fn conversions_write_the_text_of_c(rt: HostRuntime) -> Result<(), Fail> {
             ("return printf(\"<%d%%>\\n\", 42);", "<42%>\n|6"),
             ("return printf(\"\");", "|0"),
         ],
-    )
-}
-
-// Values come from left to right, and before the text.
-#[test]
-fn values_come_before_the_text(rt: HostRuntime) -> Result<(), Fail> {
-    bodies_agree(
-        &rt,
-        rt.alloc(),
+    ),
+    // Values come before the text.
+    // Values come from left to right, and before the text.
+    (
         "int zero;",
         &[
             (
@@ -45,5 +38,10 @@ fn values_come_before_the_text(rt: HostRuntime) -> Result<(), Fail> {
                 "A|divide",
             ),
         ],
-    )
+    ),
+];
+
+#[test]
+fn printf_writes_and_gives_what_c_says(rt: HostRuntime) -> Result<(), Fail> {
+    bodies_agree(&rt, rt.alloc(), BODIES)
 }

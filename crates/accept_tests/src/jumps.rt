@@ -2,13 +2,11 @@
 use crate::running::traced_agree;
 use std::test::Fail;
 
-// Each run has 5 turns outside the body of `main`: the 2 before it, its entry, and the 2 exits. Edges 0 and 1 are those of `#start`, 2
-// is that of the entry, and those of the body have the numbers from 3 on: the `goto` 3, the test 4 and 5, the outputs 6, 7 and 8.
-#[test]
-fn a_goto_leads_into_the_body_of_a_loop(rt: HostRuntime) -> Result<(), Fail> {
-    traced_agree(
-        &rt,
-        rt.alloc(),
+const TRACED: &[(&str, &[(&str, &[(&[u8], u32, &str)])])] = &[
+    // A `goto` leads into the body of a loop.
+    // Each run has 5 turns outside the body of `main`: the 2 before it, its entry, and the 2 exits. Edges 0 and 1 are those of `#start`, 2
+    // is that of the entry, and those of the body have the numbers from 3 on: the `goto` 3, the test 4 and 5, the outputs 6, 7 and 8.
+    (
         "",
         &[(
             "goto a; while (getchar() == 'A') { putchar('x'); a: putchar('y'); } putchar('.');",
@@ -17,15 +15,10 @@ fn a_goto_leads_into_the_body_of_a_loop(rt: HostRuntime) -> Result<(), Fail> {
                 (b"", 100, "y.|0 9 0,1,2,3,5,7,8"),
             ],
         )],
-    )
-}
-
-// The test has the edges 3 and 4, 'x' has 5, the `goto` 6, 'n' 7, 'm' 8, and the dot 9.
-#[test]
-fn a_goto_leads_out_of_blocks_and_loops(rt: HostRuntime) -> Result<(), Fail> {
-    traced_agree(
-        &rt,
-        rt.alloc(),
+    ),
+    // A `goto` leads out of blocks and loops.
+    // The test has the edges 3 and 4, 'x' has 5, the `goto` 6, 'n' 7, 'm' 8, and the dot 9.
+    (
         "",
         &[(
             "while (getchar() == 'A') { { putchar('x'); goto a; } putchar('n'); } putchar('m'); a: putchar('.');",
@@ -34,15 +27,10 @@ fn a_goto_leads_out_of_blocks_and_loops(rt: HostRuntime) -> Result<(), Fail> {
                 (b"", 100, "m.|0 8 0,1,2,4,8,9"),
             ],
         )],
-    )
-}
-
-// 'x' has the edge 3, the test 4 and 5, and the `goto` 6. Each A takes three turns, and the last round takes two.
-#[test]
-fn a_goto_makes_a_loop(rt: HostRuntime) -> Result<(), Fail> {
-    traced_agree(
-        &rt,
-        rt.alloc(),
+    ),
+    // A `goto` makes a loop.
+    // 'x' has the edge 3, the test 4 and 5, and the `goto` 6. Each A takes three turns, and the last round takes two.
+    (
         "",
         &[
             (
@@ -61,16 +49,11 @@ fn a_goto_makes_a_loop(rt: HostRuntime) -> Result<(), Fail> {
                 ],
             ),
         ],
-    )
-}
-
-// 'x' has the edge 3, the `goto` 4, 'n' 5, and the dot 6. The fourth turn writes 'x', and the fifth is that of the `goto`. An empty
-// statement has no point.
-#[test]
-fn a_goto_takes_a_turn_and_passes_over_statements(rt: HostRuntime) -> Result<(), Fail> {
-    traced_agree(
-        &rt,
-        rt.alloc(),
+    ),
+    // A `goto` takes a turn and passes over statements.
+    // 'x' has the edge 3, the `goto` 4, 'n' 5, and the dot 6. The fourth turn writes 'x', and the fifth is that of the `goto`. An empty
+    // statement has no point.
+    (
         "",
         &[
             (
@@ -88,19 +71,19 @@ fn a_goto_takes_a_turn_and_passes_over_statements(rt: HostRuntime) -> Result<(),
                 &[(b"", 100, "l|0 7 0,1,2,3,5")],
             ),
         ],
-    )
-}
-
-// The value isn't evaluated. The `goto` has the edge 3, the value 4 and 5, 'x' has 6, 'y' 7, 'd' 8, and the dot 9.
-#[test]
-fn a_goto_leads_into_a_switch(rt: HostRuntime) -> Result<(), Fail> {
-    traced_agree(
-        &rt,
-        rt.alloc(),
+    ),
+    // A `goto` leads into a `switch`.
+    // The value isn't evaluated. The `goto` has the edge 3, the value 4 and 5, 'x' has 6, 'y' 7, 'd' 8, and the dot 9.
+    (
         "",
         &[(
             "goto a; switch (getchar()) { case 'A': putchar('x'); a: putchar('y'); break; default: putchar('d'); } putchar('.');",
             &[(b"A", 100, "y.|0 8 0,1,2,3,7,9")],
         )],
-    )
+    ),
+];
+
+#[test]
+fn a_goto_leads_to_its_label(rt: HostRuntime) -> Result<(), Fail> {
+    traced_agree(&rt, rt.alloc(), TRACED)
 }

@@ -49,15 +49,17 @@ fn run_apart(
     Ok(wrote && both == [Status::Exit(0), Status::Exit(0)])
 }
 
+/// The same over the flat copy of a program.
+fn run_over_one_copy(alloc: Global, program: &Program) -> Result<bool, AllocError> {
+    let graph = Graph::build(alloc, program)?;
+    let flat = flatten_program(alloc, program, &graph)?;
+    run_apart(alloc, program, &graph, &flat)
+}
+
 #[test]
 fn machines_share_a_flat_copy(rt: HostRuntime) -> Result<(), Fail> {
-    let alloc = rt.alloc();
-    let program = program_of(
-        alloc,
-        "int main(void) { putchar(getchar() + 1); return 0; }",
-    )?;
-    let graph = Graph::build(alloc, &program)?;
-    let flat = flatten_program(alloc, &program, &graph)?;
-    assert!(rt; run_apart(alloc, &program, &graph, &flat)?);
+    let source = "int main(void) { putchar(getchar() + 1); return 0; }";
+    let program = program_of(rt.alloc(), source)?;
+    assert!(rt; run_over_one_copy(rt.alloc(), &program)?);
     Ok(())
 }

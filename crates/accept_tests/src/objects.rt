@@ -2,12 +2,13 @@
 use crate::running::bodies_agree;
 use std::test::Fail;
 
-// C11 6.7.9p10, p11, p16 to p21
-#[test]
-fn objects_of_file_scope_begin_with_their_contents(rt: HostRuntime) -> Result<(), Fail> {
-    bodies_agree(
-        &rt,
-        rt.alloc(),
+const TABLE: &str =
+    "int g[2][3] = { { 10, 11, 12 }, { 13, 14, 15 } }; struct pair { int x; char y; }; struct pair p[2] = { { 1, 2 }, { 3, 4 } };";
+
+const BODIES: &[(&str, &[(&str, &str)])] = &[
+    // Objects of file scope begin with their contents.
+    // C11 6.7.9p10, p11, p16 to p21
+    (
         "struct point { int x; char y; }; int plain; int given = 2 + 3 * 4; char small = 300; int row[4] = { 1, 2 }; struct point p = { 7 }; struct point ps[2] = { { 1, 2 }, { 3 } }; int grid[2][3] = { { 1 }, { 4, 5, 6 } };",
         &[
             ("printf(\"%d %d %d\", plain, given, small);", "0 14 44|0"),
@@ -25,15 +26,10 @@ fn objects_of_file_scope_begin_with_their_contents(rt: HostRuntime) -> Result<()
                 "1 0 4 6|0",
             ),
         ],
-    )
-}
-
-// C11 6.7.9p11 and p21
-#[test]
-fn objects_of_blocks_take_their_initialisers(rt: HostRuntime) -> Result<(), Fail> {
-    bodies_agree(
-        &rt,
-        rt.alloc(),
+    ),
+    // Objects of blocks take their initialisers.
+    // C11 6.7.9p11 and p21
+    (
         "struct point { int x; char y; }; int two(void) { return 2; }",
         &[
             (
@@ -50,15 +46,10 @@ fn objects_of_blocks_take_their_initialisers(rt: HostRuntime) -> Result<(), Fail
             ),
             ("int i = 4, j = i * 2; printf(\"%d\", j);", "8|0"),
         ],
-    )
-}
-
-// C11 6.5.2.1 and 6.5.2.3
-#[test]
-fn elements_and_members_are_places(rt: HostRuntime) -> Result<(), Fail> {
-    bodies_agree(
-        &rt,
-        rt.alloc(),
+    ),
+    // Elements and members are places.
+    // C11 6.5.2.1 and 6.5.2.3
+    (
         "struct item { int count; int marks[3]; }; struct item items[2]; enum color { RED = 1, GREEN };",
         &[
             (
@@ -75,18 +66,10 @@ fn elements_and_members_are_places(rt: HostRuntime) -> Result<(), Fail> {
                 "1 15 6|0",
             ),
         ],
-    )
-}
-
-const TABLE: &str =
-    "int g[2][3] = { { 10, 11, 12 }, { 13, 14, 15 } }; struct pair { int x; char y; }; struct pair p[2] = { { 1, 2 }, { 3, 4 } };";
-
-// An index beyond its own row is a trap, also where the element would still lie in the whole table.
-#[test]
-fn elements_lie_one_behind_the_other(rt: HostRuntime) -> Result<(), Fail> {
-    bodies_agree(
-        &rt,
-        rt.alloc(),
+    ),
+    // Elements lie one behind the other.
+    // An index beyond its own row is a trap, also where the element would still lie in the whole table.
+    (
         TABLE,
         &[
             ("return g[0][0];", "|10"),
@@ -101,30 +84,20 @@ fn elements_lie_one_behind_the_other(rt: HostRuntime) -> Result<(), Fail> {
             ("return p[1].x * 10 + p[1].y;", "|34"),
             ("return (p[1].y = 200) + 60;", "|4"),
         ],
-    )
-}
-
-// A place comes before what is assigned to it, its index is checked first, and it is found once.
-#[test]
-fn a_place_is_found_once_and_first(rt: HostRuntime) -> Result<(), Fail> {
-    bodies_agree(
-        &rt,
-        rt.alloc(),
+    ),
+    // A place is found once and first.
+    // A place comes before what is assigned to it, its index is checked first, and it is found once.
+    (
         TABLE,
         &[
             ("return g[putchar(65) - 65][1] = putchar(66);", "AB|66"),
             ("return g[2][1] = putchar(66);", "|bounds"),
             ("return g[putchar(65) - 65][1] += 5;", "A|16"),
         ],
-    )
-}
-
-// Entries are given in order, each at once, and then 0 to all others, also within each inner list before the entry behind it.
-#[test]
-fn an_entry_reads_what_entries_before_it_wrote(rt: HostRuntime) -> Result<(), Fail> {
-    bodies_agree(
-        &rt,
-        rt.alloc(),
+    ),
+    // An entry reads what entries before it wrote.
+    // Entries are given in order, each at once, and then 0 to all others, also within each inner list before the entry behind it.
+    (
         TABLE,
         &[
             ("int a[3] = { 7 }; return a[0] * 16 + a[1] + a[2];", "|112"),
@@ -143,5 +116,10 @@ fn an_entry_reads_what_entries_before_it_wrote(rt: HostRuntime) -> Result<(), Fa
             ("int a[2]; a[0] = 7; return a[0];", "|7"),
             ("int a[2]; a[0] = 7; return a[1];", "|unset"),
         ],
-    )
+    ),
+];
+
+#[test]
+fn objects_hold_what_c_says(rt: HostRuntime) -> Result<(), Fail> {
+    bodies_agree(&rt, rt.alloc(), BODIES)
 }

@@ -2,12 +2,10 @@
 use crate::running::bodies_agree;
 use std::test::Fail;
 
-// C11 6.5.5, 6.5.6, 6.5.7 and 6.5.10 to 6.5.12
-#[test]
-fn operators_on_ints_give_what_c_says(rt: HostRuntime) -> Result<(), Fail> {
-    bodies_agree(
-        &rt,
-        rt.alloc(),
+const BODIES: &[(&str, &[(&str, &str)])] = &[
+    // Operators on ints give what C says.
+    // C11 6.5.5, 6.5.6, 6.5.7 and 6.5.10 to 6.5.12
+    (
         "",
         &[
             (
@@ -31,15 +29,10 @@ fn operators_on_ints_give_what_c_says(rt: HostRuntime) -> Result<(), Fail> {
                 "101010|0",
             ),
         ],
-    )
-}
-
-// C11 6.2.5p9, 6.3.1.3 and 6.3.1.8
-#[test]
-fn unsigned_numbers_and_chars_wrap(rt: HostRuntime) -> Result<(), Fail> {
-    bodies_agree(
-        &rt,
-        rt.alloc(),
+    ),
+    // Unsigned numbers and chars wrap.
+    // C11 6.2.5p9, 6.3.1.3 and 6.3.1.8
+    (
         "",
         &[
             (
@@ -55,15 +48,10 @@ fn unsigned_numbers_and_chars_wrap(rt: HostRuntime) -> Result<(), Fail> {
             ("char c = 127; c++; printf(\"%d\", c);", "-128|0"),
             ("unsigned u = 1; u -= 2; printf(\"%u\", u >> 28);", "15|0"),
         ],
-    )
-}
-
-// C11 6.5.13 to 6.5.15: later operands are evaluated only where they are needed
-#[test]
-fn later_operands_that_are_not_needed_do_nothing(rt: HostRuntime) -> Result<(), Fail> {
-    bodies_agree(
-        &rt,
-        rt.alloc(),
+    ),
+    // Later operands that aren't needed do nothing.
+    // C11 6.5.13 to 6.5.15: later operands are evaluated only where they are needed
+    (
         "",
         &[
             ("int i = 0; 0 && i++; 1 || i++; printf(\"%d\", i);", "0|0"),
@@ -78,15 +66,10 @@ fn later_operands_that_are_not_needed_do_nothing(rt: HostRuntime) -> Result<(), 
             ),
             ("printf(\"%d\", 5 && 7);", "1|0"),
         ],
-    )
-}
-
-// C11 6.5.2.4, 6.5.3.1 and 6.5.16
-#[test]
-fn steps_and_assignments_give_their_values(rt: HostRuntime) -> Result<(), Fail> {
-    bodies_agree(
-        &rt,
-        rt.alloc(),
+    ),
+    // Steps and assignments give their values.
+    // C11 6.5.2.4, 6.5.3.1 and 6.5.16
+    (
         "",
         &[
             ("int i = 3; printf(\"%d %d\", i++, i);", "3 4|0"),
@@ -101,5 +84,10 @@ fn steps_and_assignments_give_their_values(rt: HostRuntime) -> Result<(), Fail> 
                 "1|0",
             ),
         ],
-    )
+    ),
+];
+
+#[test]
+fn operators_and_conversions_give_what_c_says(rt: HostRuntime) -> Result<(), Fail> {
+    bodies_agree(&rt, rt.alloc(), BODIES)
 }

@@ -2,42 +2,55 @@
 use crate::running::program_of;
 use csub_core::Program;
 use csub_semantics::{RPart, RStmt};
-use std::alloc::Global;
-use std::process::Abort;
+use std::alloc::{AllocError, Global};
 use std::test::Fail;
 
-/// The first part of `main`, which stands last in its source.
-fn first_part(program: &Program) -> Option<&RPart> {
-    let main = program.functions().last()?;
-    match main.body.as_slice().first()? {
-        RStmt::Parts(row) => row.as_slice().first(),
-        _ => None,
-    }
-}
-
-/// The place of the first part of `main`, whether it has an own point, and the places of its calls.
-fn part_of(alloc: Global, source: &str) -> Result<String, Fail> {
-    let program = program_of(alloc, source)?;
-    let mut text = String::new(alloc);
-    if let Some(part) = first_part(&program) {
-        let own = if part.main.is_some() {
-            "point"
-        } else {
-            "calls"
-        };
-        let place = format!(in alloc; "{} {} {own}", part.span.start, part.span.end)?;
+/// The place of a part, whether it has an own point, and the places of its calls.
+fn part_text(alloc: Global, part: &RPart) -> Result<String, AllocError> {
+    let own = if part.main.is_some() {
+        "point"
+    } else {
+        "calls"
+    };
+    let mut text = format!(in alloc; "{} {} {own}", part.span.start, part.span.end)?;
+    for call in part.calls.as_slice() {
+        let place = format!(in alloc; " {} {}", call.span.start, call.span.end)?;
         text.push_str(place.as_str())?;
-        for call in part.calls.as_slice() {
-            let place = format!(in alloc; " {} {}", call.span.start, call.span.end)?;
-            text.push_str(place.as_str())?;
-        }
     }
     Ok(text)
 }
 
-/// Each row has the first line of `main`, and the part that it stands for.
-fn parts_agree(rt: &impl Abort, alloc: Global, rows: &[(&str, &str)]) -> Result<(), Fail> {
-    for (line, expected) in rows {
+/// The same of the first part of `main`, which stands last in its source.
+fn first_part_text(alloc: Global, program: &Program) -> Result<String, Fail> {
+    let [.., main] = program.functions() else {
+        return Err("no function")?;
+    };
+    match main.body.as_slice() {
+        [RStmt::Parts(row), ..] => match row.as_slice() {
+            [part, ..] => Ok(part_text(alloc, part)?),
+            [] => Err("no part")?,
+        },
+        _ => Err("no parts")?,
+    }
+}
+
+/// The same of a source.
+fn part_of(alloc: Global, source: &str) -> Result<String, Fail> {
+    let program = program_of(alloc, source)?;
+    first_part_text(alloc, &program)
+}
+
+/// The first lines of `main`, and the parts that they stand for.
+const PARTS: &[(&str, &str)] = &[
+    ("(f(1));", "44 45 calls 45 46"),
+    ("f(f(1));", "44 45 calls 46 47 44 45"),
+    ("2 + f(1);", "44 45 point 48 49"),
+];
+
+#[test]
+fn a_part_that_is_a_call_stands_at_its_first_token(rt: HostRuntime) -> Result<(), Fail> {
+    let alloc = rt.alloc();
+    for (line, expected) in PARTS {
         let source = format!(in alloc;
             "int f(int a) {{ return a; }} int main(void) {{ {line} return 0; }}"
         )?;
@@ -45,17 +58,4 @@ fn parts_agree(rt: &impl Abort, alloc: Global, rows: &[(&str, &str)]) -> Result<
         assert!(rt; text.as_str() == *expected, "{line} gave {text}");
     }
     Ok(())
-}
-
-#[test]
-fn a_part_that_is_a_call_stands_at_its_first_token(rt: HostRuntime) -> Result<(), Fail> {
-    parts_agree(
-        &rt,
-        rt.alloc(),
-        &[
-            ("(f(1));", "44 45 calls 45 46"),
-            ("f(f(1));", "44 45 calls 46 47 44 45"),
-            ("2 + f(1);", "44 45 point 48 49"),
-        ],
-    )
 }

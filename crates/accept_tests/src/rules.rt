@@ -1,7 +1,6 @@
 //! The first rule that a source breaks, by the rules of C11 and of the language, with the place and the text there.
-use crate::running::refusal;
-use csub_accept::{SourceError, accept};
-use csub_text::Span;
+use crate::running::{answer, error_of};
+use csub_accept::SourceError;
 use std::alloc::Global;
 use std::process::Abort;
 use std::test::Fail;
@@ -25,72 +24,82 @@ mod unit;
 const DECLARED: &str = "struct point { int x; int row[2]; }; enum shade { SIX = 6 }; int total; \
     int add(int a, int b) { return a + b; } void work(void) { } int sum(int a[]) { return a[0]; } ";
 
-/// The rule, the text where it is broken, and the source with an `@` there.
-fn marked(alloc: Global, source: &str, rule: u8, at: Span) -> Result<String, Fail> {
-    let (start, end) = (at.start as usize, at.end as usize);
-    let before = source.get(..start).ok_or("past the end")?;
-    let text = source.get(start..end).ok_or("past the end")?;
-    let behind = source.get(start..).ok_or("past the end")?;
-    Ok(format!(in alloc; "{rule} {text} {before}@{behind}")?)
-}
-
-/// What is found of a source; 0 and no text where it breaks no rule, which a source that passes a limit doesn't.
-fn found(alloc: Global, source: &str) -> Result<String, Fail> {
-    match accept(alloc, source.as_bytes()) {
-        Ok(_) | Err(SourceError::Limit(_, _)) => Ok(format!(in alloc; "0  {source}")?),
-        Err(SourceError::Meaning(rule, at)) => marked(alloc, source, rule, at),
-        Err(error) => refusal(alloc, error),
+/// The rule that a source breaks, with the place in bytes and the text there; 0, 0 and no text where it breaks none, which a source
+/// that passes a limit doesn't.
+fn broken<'a>(alloc: Global, source: &'a str) -> Result<(u8, usize, &'a str), Fail> {
+    match error_of(alloc, source) {
+        None | Some(SourceError::Limit(_, _)) => Ok((0, 0, "")),
+        Some(SourceError::Meaning(rule, at)) => {
+            let (start, end) = (at.start as usize, at.end as usize);
+            Ok((rule, start, source.get(start..end).ok_or("past the end")?))
+        }
+        Some(_) => Err(answer(alloc, source)?.as_str().into()),
     }
 }
 
-/// A text with an `@`, without it.
-fn unmarked(alloc: Global, text: &str) -> Result<String, Fail> {
-    match text.split_once('@') {
-        None => Ok(String::from_str(alloc, text)?),
-        Some((before, behind)) => Ok(format!(in alloc; "{before}{behind}")?),
-    }
+/// What is found of a source that consists of these parts: the rule that it breaks and the text there, which has to stand behind the
+/// first two; 0 where it breaks none.
+fn found(
+    rt: &impl Abort,
+    alloc: Global,
+    (before, head, rest, behind): (&str, &str, &str, &str),
+) -> Result<String, Fail> {
+    let source = format!(in alloc; "{before}{head}{rest}{behind}")?;
+    let (rule, place, text) = broken(alloc, source.as_str())?;
+    let wanted = before.len().wrapping_add(head.len());
+    assert!(rt;
+        rule == 0 || place == wanted,
+        "M{rule} at {place} of {source}"
+    );
+    Ok(format!(in alloc; "{rule} {text}")?)
 }
 
-/// Each row has what stands between these two parts of a source, the rule that the source breaks, which is told at the `@`,
-/// and the text there; or 0 and no text where it breaks none.
+/// A row is a part of a source, which stands between these two, an arrow, and the rule that the source breaks, which is told at the
+/// `@`, with the text there; or 0 where it breaks none.
+fn row_agrees(
+    rt: &impl Abort,
+    alloc: Global,
+    (before, behind): (&str, &str),
+    row: &str,
+) -> Result<(), Fail> {
+    let (part, expected) = row.split_once(" => ").ok_or("no row")?;
+    let (head, rest) = part.split_once('@').unwrap_or((part, ""));
+    let found = found(rt, alloc, (before, head, rest, behind))?;
+    assert!(rt; found.as_str().trim_end() == expected, "{row} gave {found}");
+    Ok(())
+}
+
+/// Whether a line of a table is a row: it is none where it is empty or begins as a comment does.
+fn is_row(line: &str) -> bool {
+    !line.is_empty() && !line.starts_with("//")
+}
+
+/// Each row of a table, which has one in a line, agrees.
 fn rows_agree(
     rt: &impl Abort,
     alloc: Global,
-    before: &str,
-    behind: &str,
-    rows: &[(&str, u8, &str)],
+    parts: (&str, &str),
+    table: &str,
 ) -> Result<(), Fail> {
-    for (part, rule, text) in rows {
-        let plain = unmarked(alloc, part)?;
-        let source = format!(in alloc; "{before}{plain}{behind}")?;
-        let expected = format!(in alloc; "{rule} {text} {before}{part}{behind}")?;
-        let found = found(alloc, source.as_str())?;
-        assert!(rt;
-            found.as_str() == expected.as_str(),
-            "{source} gave {found}"
-        );
+    for line in table.lines() {
+        if is_row(line) {
+            row_agrees(rt, alloc, parts, line)?;
+        }
     }
     Ok(())
 }
 
-/// Each row has the lines of a function with this head, and what they break.
-pub fn agrees(
-    rt: &impl Abort,
-    alloc: Global,
-    head: &str,
-    rows: &[(&str, u8, &str)],
-) -> Result<(), Fail> {
-    let before = format!(in alloc; "{DECLARED}{head} {{ ")?;
-    let behind = " } int main(void) { return 0; }";
-    rows_agree(rt, alloc, before.as_str(), behind, rows)
+/// Each table has the head of a function, and rows of its lines.
+pub fn lines_agree(rt: &impl Abort, alloc: Global, tables: &[(&str, &str)]) -> Result<(), Fail> {
+    for (head, rows) in tables {
+        let before = format!(in alloc; "{DECLARED}{head} {{ ")?;
+        let parts = (before.as_str(), " } int main(void) { return 0; }");
+        rows_agree(rt, alloc, parts, rows)?;
+    }
+    Ok(())
 }
 
-/// Each row has a part of a source, which stands before this end of it, and what the source breaks.
-pub fn sources_agree(
-    rt: &impl Abort,
-    alloc: Global,
-    end: &str,
-    rows: &[(&str, u8, &str)],
-) -> Result<(), Fail> {
-    rows_agree(rt, alloc, "", end, rows)
+/// The rows are sources without this end.
+pub fn sources_agree(rt: &impl Abort, alloc: Global, end: &str, rows: &str) -> Result<(), Fail> {
+    rows_agree(rt, alloc, ("", end), rows)
 }

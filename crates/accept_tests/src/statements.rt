@@ -2,12 +2,10 @@
 use crate::running::{bodies_agree, runs_agree};
 use std::test::Fail;
 
-// C11 6.8.4.1 and 6.8.5
-#[test]
-fn loops_and_ifs_go_by_their_tests(rt: HostRuntime) -> Result<(), Fail> {
-    bodies_agree(
-        &rt,
-        rt.alloc(),
+const BODIES: &[(&str, &[(&str, &str)])] = &[
+    // Loops and `if`s go by their tests.
+    // C11 6.8.4.1 and 6.8.5
+    (
         "",
         &[
             (
@@ -29,15 +27,10 @@ fn loops_and_ifs_go_by_their_tests(rt: HostRuntime) -> Result<(), Fail> {
                 "21|0",
             ),
         ],
-    )
-}
-
-// C11 6.8.4.2 and 6.8.6
-#[test]
-fn a_switch_enters_at_its_case_and_a_jump_at_its_label(rt: HostRuntime) -> Result<(), Fail> {
-    bodies_agree(
-        &rt,
-        rt.alloc(),
+    ),
+    // A `switch` enters at its case, and a jump at its label.
+    // C11 6.8.4.2 and 6.8.6
+    (
         "enum { A = 3, B, C = 10 };",
         &[
             (
@@ -59,36 +52,10 @@ fn a_switch_enters_at_its_case_and_a_jump_at_its_label(rt: HostRuntime) -> Resul
                 "|8",
             ),
         ],
-    )
-}
-
-// C11 7.21.7.6: -1 is given at the end of the input
-#[test]
-fn input_is_read_to_its_end(rt: HostRuntime) -> Result<(), Fail> {
-    runs_agree(
-        &rt,
-        rt.alloc(),
-        &[
-            (
-                "int main(void) { int c; int n = 0; while ((c = getchar()) != EOF) { putchar(c + 1); n++; } return n; }",
-                "HAL",
-                "IBM|3",
-            ),
-            (
-                "#include <stdio.h>\nint main(void) { return getchar() == -1; }",
-                "",
-                "|1",
-            ),
-        ],
-    )
-}
-
-// C11 7.22.4.4 and 5.1.2.2.3; a status has 8 bits
-#[test]
-fn a_run_ends_with_the_low_8_bits_of_its_value(rt: HostRuntime) -> Result<(), Fail> {
-    bodies_agree(
-        &rt,
-        rt.alloc(),
+    ),
+    // A run ends with the low 8 bits of its value.
+    // C11 7.22.4.4 and 5.1.2.2.3; a status has 8 bits
+    (
         "void leave(int n) { exit(n); } int none(void) { }",
         &[
             ("", "|0"),
@@ -97,5 +64,29 @@ fn a_run_ends_with_the_low_8_bits_of_its_value(rt: HostRuntime) -> Result<(), Fa
             ("leave(7); return 1;", "|7"),
             ("exit(3); putchar('n');", "|3"),
         ],
-    )
+    ),
+];
+
+#[test]
+fn statements_do_what_c_says(rt: HostRuntime) -> Result<(), Fail> {
+    bodies_agree(&rt, rt.alloc(), BODIES)
+}
+
+const SOURCES: &[(&str, &str, &str)] = &[
+    (
+        "int main(void) { int c; int n = 0; while ((c = getchar()) != EOF) { putchar(c + 1); n++; } return n; }",
+        "HAL",
+        "IBM|3",
+    ),
+    (
+        "#include <stdio.h>\nint main(void) { return getchar() == -1; }",
+        "",
+        "|1",
+    ),
+];
+
+// C11 7.21.7.6: -1 is given at the end of the input
+#[test]
+fn input_is_read_to_its_end(rt: HostRuntime) -> Result<(), Fail> {
+    runs_agree(&rt, rt.alloc(), SOURCES)
 }

@@ -1,126 +1,111 @@
 //! Runs through `switch` (C11 6.8.4.2). Beside the outputs a run has 6 turns: the 2 before `main`, its entry, the value of the
 //! `switch`, and the 2 exits; labels of cases and a `break` are no points.
-use crate::running::{timed_agree, traced_agree};
+use crate::running::traced_agree;
 use std::test::Fail;
 
-// C11 6.8.4.2p5 and p7
-#[test]
-fn a_switch_without_default_is_passed_over_by_other_values(rt: HostRuntime) -> Result<(), Fail> {
-    timed_agree(
-        &rt,
-        rt.alloc(),
+const TRACED: &[(&str, &[(&str, &[(&[u8], u32, &str)])])] = &[
+    // A `switch` without a `default` is passed over by other values.
+    // C11 6.8.4.2p5 and p7
+    (
+        "",
         &[
             (
                 "switch (getchar()) { case 'A': putchar('a'); break; case 'B': putchar('b'); } putchar('.');",
                 &[
-                    (b"A", "a.|0 8"),
-                    (b"B", "b.|0 8"),
-                    (b"C", ".|0 7"),
-                    (b"", ".|0 7"),
+                    (b"A", 100, "a.|0 8"),
+                    (b"B", 100, "b.|0 8"),
+                    (b"C", 100, ".|0 7"),
+                    (b"", 100, ".|0 7"),
                 ],
             ),
-            ("switch (getchar()) {  } putchar('.');", &[(b"A", ".|0 7")]),
+            (
+                "switch (getchar()) {  } putchar('.');",
+                &[(b"A", 100, ".|0 7")],
+            ),
         ],
-    )
-}
-
-// C11 6.8.4.2p5: a value of a case takes that case, also where `default` stands before it.
-#[test]
-fn a_default_is_for_all_other_values_wherever_it_stands(rt: HostRuntime) -> Result<(), Fail> {
-    timed_agree(
-        &rt,
-        rt.alloc(),
+    ),
+    // A `default` is for all other values, wherever it stands.
+    // C11 6.8.4.2p5: a value of a case takes that case, also where `default` stands before it.
+    (
+        "",
         &[
             (
                 "switch (getchar()) { default: putchar('d'); break; case 'A': putchar('a'); break; case 'B': putchar('b'); break;  } putchar('.');",
                 &[
-                    (b"A", "a.|0 8"),
-                    (b"B", "b.|0 8"),
-                    (b"C", "d.|0 8"),
-                    (b"", "d.|0 8"),
+                    (b"A", 100, "a.|0 8"),
+                    (b"B", 100, "b.|0 8"),
+                    (b"C", 100, "d.|0 8"),
+                    (b"", 100, "d.|0 8"),
                 ],
             ),
             (
                 "switch (getchar()) { case 'A': putchar('a'); break; default: putchar('d'); break; case 'B': putchar('b'); break;  } putchar('.');",
                 &[
-                    (b"A", "a.|0 8"),
-                    (b"B", "b.|0 8"),
-                    (b"C", "d.|0 8"),
-                    (b"", "d.|0 8"),
+                    (b"A", 100, "a.|0 8"),
+                    (b"B", 100, "b.|0 8"),
+                    (b"C", 100, "d.|0 8"),
+                    (b"", 100, "d.|0 8"),
                 ],
             ),
             (
                 "switch (getchar()) { case 'A': putchar('a'); break; case 'B': putchar('b'); break; default: putchar('d'); } putchar('.');",
                 &[
-                    (b"A", "a.|0 8"),
-                    (b"B", "b.|0 8"),
-                    (b"C", "d.|0 8"),
-                    (b"", "d.|0 8"),
+                    (b"A", 100, "a.|0 8"),
+                    (b"B", 100, "b.|0 8"),
+                    (b"C", 100, "d.|0 8"),
+                    (b"", 100, "d.|0 8"),
                 ],
             ),
         ],
-    )
-}
-
-// Labels alone don't change where control goes (C11 6.8.1p4).
-#[test]
-fn a_case_falls_into_the_lines_behind_it(rt: HostRuntime) -> Result<(), Fail> {
-    timed_agree(
-        &rt,
-        rt.alloc(),
+    ),
+    // A case falls into the lines behind it.
+    // Labels alone don't change where control goes (C11 6.8.1p4).
+    (
+        "",
         &[
             (
                 "switch (getchar()) { case 'A': putchar('a'); case 'B': putchar('b'); default: putchar('d'); case 'C': putchar('c'); } putchar('.');",
                 &[
-                    (b"A", "abdc.|0 11"),
-                    (b"B", "bdc.|0 10"),
-                    (b"D", "dc.|0 9"),
-                    (b"C", "c.|0 8"),
+                    (b"A", 100, "abdc.|0 11"),
+                    (b"B", 100, "bdc.|0 10"),
+                    (b"D", 100, "dc.|0 9"),
+                    (b"C", 100, "c.|0 8"),
                 ],
             ),
             (
                 "switch (getchar()) { case 'A': case 'B': default: putchar('b'); break; case 'D': putchar('d'); } putchar('.');",
                 &[
-                    (b"A", "b.|0 8"),
-                    (b"B", "b.|0 8"),
-                    (b"C", "b.|0 8"),
-                    (b"D", "d.|0 8"),
+                    (b"A", 100, "b.|0 8"),
+                    (b"B", 100, "b.|0 8"),
+                    (b"C", 100, "b.|0 8"),
+                    (b"D", 100, "d.|0 8"),
                 ],
             ),
         ],
-    )
-}
-
-#[test]
-fn a_label_as_the_last_line_leads_past_its_switch(rt: HostRuntime) -> Result<(), Fail> {
-    timed_agree(
-        &rt,
-        rt.alloc(),
+    ),
+    // A label as the last line leads past its switch.
+    (
+        "",
         &[
             (
                 "switch (getchar()) { case 'A': putchar('a'); break; case 'B': } putchar('.');",
-                &[(b"A", "a.|0 8"), (b"B", ".|0 7")],
+                &[(b"A", 100, "a.|0 8"), (b"B", 100, ".|0 7")],
             ),
             (
                 "switch (getchar()) { case 'A': putchar('a'); break; default: } putchar('.');",
-                &[(b"C", ".|0 7")],
+                &[(b"C", 100, ".|0 7")],
             ),
             (
                 "switch (getchar()) { case 'A': case 'B': default: } putchar('.');",
-                &[(b"A", ".|0 7")],
+                &[(b"A", 100, ".|0 7")],
             ),
         ],
-    )
-}
-
-// A line before the first label is never reached. 2 is the edge of the entry; in the first program 3 to 5 are those of the cases and of
-// all other values, 6 to 9 those of the outputs in the `switch`, and 10 that of the dot; in the second 3 is that of the case, 4 that of
-// `default`, 5 and 6 are those of the outputs, and 7 is that of the return.
-#[test]
-fn each_case_crosses_its_own_edge(rt: HostRuntime) -> Result<(), Fail> {
-    traced_agree(
-        &rt,
-        rt.alloc(),
+    ),
+    // Each case crosses its own edge.
+    // A line before the first label is never reached. 2 is the edge of the entry; in the first program 3 to 5 are those of the cases and of
+    // all other values, 6 to 9 those of the outputs in the `switch`, and 10 that of the dot; in the second 3 is that of the case, 4 that of
+    // `default`, 5 and 6 are those of the outputs, and 7 is that of the return.
+    (
         "",
         &[
             (
@@ -140,66 +125,61 @@ fn each_case_crosses_its_own_edge(rt: HostRuntime) -> Result<(), Fail> {
                 ],
             ),
         ],
-    )
-}
-
-// C11 6.8.6.3p2 and 6.8.6.2p2. Outside the loop there are 5 turns. The rounds of A and C take 5 (test, value, output, dot,
-// semicolon), that of B takes 3, and that of D takes 4; the last test is a turn too.
-#[test]
-fn a_break_leaves_the_switch_and_a_continue_goes_on_in_the_loop(
-    rt: HostRuntime,
-) -> Result<(), Fail> {
-    timed_agree(
-        &rt,
-        rt.alloc(),
+    ),
+    // A `break` leaves the `switch`, and a `continue` goes on in the loop.
+    // C11 6.8.6.3p2 and 6.8.6.2p2. Outside the loop there are 5 turns. The rounds of A and C take 5 (test, value, output, dot,
+    // semicolon), that of B takes 3, and that of D takes 4; the last test is a turn too.
+    (
+        "",
         &[(
             "for (; getchar() == '+'; putchar(';')) { switch (getchar()) { case 'A': putchar('a'); break; case 'B': continue; case 'C': putchar('c'); } putchar('.'); }",
-            &[(b"+A+B+C+D", "a.;;c.;.;|0 23")],
+            &[(b"+A+B+C+D", 100, "a.;;c.;.;|0 23")],
         )],
-    )
-}
-
-// C11 6.8.6.3p2 and 6.8.4.2p4: a case belongs to the nearest `switch`.
-#[test]
-fn a_break_leaves_the_nearest_switch(rt: HostRuntime) -> Result<(), Fail> {
-    timed_agree(
-        &rt,
-        rt.alloc(),
+    ),
+    // A `break` leaves the nearest `switch`.
+    // C11 6.8.6.3p2 and 6.8.4.2p4: a case belongs to the nearest `switch`.
+    (
+        "",
         &[(
             "switch (getchar()) { case 'A': switch (getchar()) { case 'A': putchar('a'); break; case 'E': putchar('e'); break; default: putchar('b'); } putchar('o'); break; default: putchar('d'); } putchar('.');",
             &[
-                (b"AA", "ao.|0 10"),
-                (b"AE", "eo.|0 10"),
-                (b"AB", "bo.|0 10"),
-                (b"E", "d.|0 8"),
+                (b"AA", 100, "ao.|0 10"),
+                (b"AE", 100, "eo.|0 10"),
+                (b"AB", 100, "bo.|0 10"),
+                (b"E", 100, "d.|0 8"),
             ],
         )],
-    )
-}
-
-// C11 6.8.4.2p5, 6.3.1.1p2 and 6.3.1.3p2: a `char` of the byte 200 is -56, and -1 is 4294967295 as an `unsigned int`.
-#[test]
-fn a_switch_is_over_its_promoted_number(rt: HostRuntime) -> Result<(), Fail> {
-    timed_agree(
-        &rt,
-        rt.alloc(),
+    ),
+    // A `switch` is over its promoted number.
+    // C11 6.8.4.2p5, 6.3.1.1p2 and 6.3.1.3p2: a `char` of the byte 200 is -56, and -1 is 4294967295 as an `unsigned int`.
+    (
+        "",
         &[
             (
                 "switch ((char) getchar()) { case 200: putchar('a'); break; case -56: putchar('b'); break; default: putchar('d'); } putchar('.');",
-                &[(b"\xc8", "b.|0 8"), (b"A", "d.|0 8")],
+                &[(b"\xc8", 100, "b.|0 8"), (b"A", 100, "d.|0 8")],
             ),
             (
                 "switch (getchar()) { case 200: putchar('a'); break; case -56: putchar('b'); break; default: putchar('d'); } putchar('.');",
-                &[(b"\xc8", "a.|0 8")],
+                &[(b"\xc8", 100, "a.|0 8")],
             ),
             (
                 "switch ((unsigned) getchar()) { case 255: putchar('a'); break; case 4294967295u: putchar('b'); break; default: putchar('d'); } putchar('.');",
-                &[(b"", "b.|0 8"), (b"\xff", "a.|0 8"), (b"A", "d.|0 8")],
+                &[
+                    (b"", 100, "b.|0 8"),
+                    (b"\xff", 100, "a.|0 8"),
+                    (b"A", 100, "d.|0 8"),
+                ],
             ),
             (
                 "switch (getchar()) { case 255: putchar('a'); break; case -1: putchar('b'); break; default: putchar('d'); } putchar('.');",
-                &[(b"", "b.|0 8")],
+                &[(b"", 100, "b.|0 8")],
             ),
         ],
-    )
+    ),
+];
+
+#[test]
+fn a_switch_goes_on_where_c_says(rt: HostRuntime) -> Result<(), Fail> {
+    traced_agree(&rt, rt.alloc(), TRACED)
 }

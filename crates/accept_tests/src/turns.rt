@@ -1,16 +1,13 @@
 //! Runs turn by turn: their ends, their output and the edges that they cross.
-use crate::running::{long_run, traced_agree};
-use csub_core::{Status, Trap};
-use std::process::Abort;
+use crate::running::{run_agrees, traced_agree};
+use std::alloc::{AllocError, Global};
 use std::test::Fail;
 
-// The entry, the call and the exit of `#start`, the entry and the exit of `main`. The edge of the call has the number 1 and is crossed
-// as `main` ends.
-#[test]
-fn an_empty_main_takes_five_turns(rt: HostRuntime) -> Result<(), Fail> {
-    traced_agree(
-        &rt,
-        rt.alloc(),
+const TRACED: &[(&str, &[(&str, &[(&[u8], u32, &str)])])] = &[
+    // An empty `main` takes five turns.
+    // The entry, the call and the exit of `#start`, the entry and the exit of `main`. The edge of the call has the number 1 and is crossed
+    // as `main` ends.
+    (
         "",
         &[(
             "",
@@ -24,16 +21,11 @@ fn an_empty_main_takes_five_turns(rt: HostRuntime) -> Result<(), Fail> {
                 (b"", 9, "|0 5 0,1,2"),
             ],
         )],
-    )
-}
-
-// The edges of `main` are those of its entry, 2, of the test, of the outputs and of the return, in the order of the text. At the end of
-// the input `getchar` gives -1 (C11 7.21.7.6).
-#[test]
-fn a_test_of_the_input_chooses_what_is_written(rt: HostRuntime) -> Result<(), Fail> {
-    traced_agree(
-        &rt,
-        rt.alloc(),
+    ),
+    // A test of the input chooses what is written.
+    // The edges of `main` are those of its entry, 2, of the test, of the outputs and of the return, in the order of the text. At the end of
+    // the input `getchar` gives -1 (C11 7.21.7.6).
+    (
         "",
         &[
             (
@@ -53,16 +45,11 @@ fn a_test_of_the_input_chooses_what_is_written(rt: HostRuntime) -> Result<(), Fa
                 ],
             ),
         ],
-    )
-}
-
-// The exit status is the low 8 bits of what `main` returned. Beside the frame of `#start` there is room for 255 frames of `main`, each
-// with a turn at its entry and one at its call.
-#[test]
-fn a_turn_that_traps_counts_and_crosses_nothing(rt: HostRuntime) -> Result<(), Fail> {
-    traced_agree(
-        &rt,
-        rt.alloc(),
+    ),
+    // A turn that traps counts and crosses nothing.
+    // The exit status is the low 8 bits of what `main` returned. Beside the frame of `#start` there is room for 255 frames of `main`, each
+    // with a turn at its entry and one at its call.
+    (
         "",
         &[
             ("return 300;", &[(b"", 100, "|44 6 0,1,2,3")]),
@@ -74,38 +61,23 @@ fn a_turn_that_traps_counts_and_crosses_nothing(rt: HostRuntime) -> Result<(), F
             ("int x; return x;", &[(b"", 100, "|unset 4 0,2")]),
             ("main();", &[(b"", 10000, "|depth 512 0,2")]),
         ],
-    )
-}
-
-// Beside the frames of `#start` and `main` there is room for 254 of `f`. How large the frames are changes nothing.
-#[test]
-fn a_recursion_without_end_traps_at_the_257th_frame(rt: HostRuntime) -> Result<(), Fail> {
-    traced_agree(
-        &rt,
-        rt.alloc(),
+    ),
+    // A recursion without end traps at the 257th frame.
+    // Beside the frames of `#start` and `main` there is room for 254 of `f`. How large the frames are changes nothing.
+    (
         "int f(int n) { return f(n + 1); }",
         &[("return f(0);", &[(b"", 1000, "|depth 512 0,2,5")])],
-    )
-}
-
-#[test]
-fn a_large_frame_is_a_frame(rt: HostRuntime) -> Result<(), Fail> {
-    traced_agree(
-        &rt,
-        rt.alloc(),
+    ),
+    // A large frame is a frame.
+    (
         "int f(int n) { int pad[1000]; return f(n + 1); }",
         &[("return f(0);", &[(b"", 1000, "|depth 512 0,2,5")])],
-    )
-}
-
-// The edges of `f` are those of its entry, 2, of its test, 3 and 4, of the return of 1, 5, of its call, 6, and of the return of its
-// result, 7; those of `main` follow. The first run takes 2 turns in `#start` and 3 in `main` to the call; then `f` takes 3 to a call,
-// three times, and 4 to its exit for 0; then each of the three takes 2, as `main` does, and `#start` takes one.
-#[test]
-fn a_recursion_comes_back_through_its_frames(rt: HostRuntime) -> Result<(), Fail> {
-    traced_agree(
-        &rt,
-        rt.alloc(),
+    ),
+    // A recursion comes back through its frames.
+    // The edges of `f` are those of its entry, 2, of its test, 3 and 4, of the return of 1, 5, of its call, 6, and of the return of its
+    // result, 7; those of `main` follow. The first run takes 2 turns in `#start` and 3 in `main` to the call; then `f` takes 3 to a call,
+    // three times, and 4 to its exit for 0; then each of the three takes 2, as `main` does, and `#start` takes one.
+    (
         "int f(int n) { if (n == 0) { return 1; } return f(n - 1); }",
         &[(
             "if (getchar() == 65) { return f(3); } return 0;",
@@ -114,15 +86,10 @@ fn a_recursion_comes_back_through_its_frames(rt: HostRuntime) -> Result<(), Fail
                 (b"B", 100, "|0 7 0,1,8,10,13"),
             ],
         )],
-    )
-}
-
-// The second call reads `x` in a frame where it was never written (C11 6.2.4p6).
-#[test]
-fn what_one_frame_stored_is_not_in_the_next(rt: HostRuntime) -> Result<(), Fail> {
-    traced_agree(
-        &rt,
-        rt.alloc(),
+    ),
+    // What one frame stored isn't in the next.
+    // The second call reads `x` in a frame where it was never written (C11 6.2.4p6).
+    (
         "int f(int n) { int x; if (n == 0) { x = 5; } return x; }",
         &[
             (
@@ -134,16 +101,11 @@ fn what_one_frame_stored_is_not_in_the_next(rt: HostRuntime) -> Result<(), Fail>
                 &[(b"", 100, "|unset 13 0,2,3,4,5,6,7,8")],
             ),
         ],
-    )
-}
-
-// Outside the loops there are 6 turns. A `for` takes 1 turn for its first part, 5 for Axx (test, two `if`s, '2', '1'), 4 for AxC, whose
-// `continue` leads to '1', and 2 for AB, whose `break` passes over '1'; the `do` takes 2 for A and 2 for the end of the input.
-#[test]
-fn loops_turn_until_a_test_or_a_break_ends_them(rt: HostRuntime) -> Result<(), Fail> {
-    traced_agree(
-        &rt,
-        rt.alloc(),
+    ),
+    // Loops turn until a test or a `break` ends them.
+    // Outside the loops there are 6 turns. A `for` takes 1 turn for its first part, 5 for Axx (test, two `if`s, '2', '1'), 4 for AxC, whose
+    // `continue` leads to '1', and 2 for AB, whose `break` passes over '1'; the `do` takes 2 for A and 2 for the end of the input.
+    (
         "",
         &[(
             "for (putchar('0'); getchar() == 'A'; putchar('1')) { if (getchar() == 'B') break; if (getchar() == 'C') continue; putchar('2'); } do putchar('3'); while (getchar() == 'A'); return 7;",
@@ -157,55 +119,67 @@ fn loops_turn_until_a_test_or_a_break_ends_them(rt: HostRuntime) -> Result<(), F
                 (b"", 100, "03|7 10 0,1,2,3,5,12,14,15"),
             ],
         )],
-    )
-}
-
-// A parameter is an object of its own. `#start` takes three turns, `main` five and `next` four.
-#[test]
-fn a_call_passes_an_argument_and_gives_a_result(rt: HostRuntime) -> Result<(), Fail> {
-    traced_agree(
-        &rt,
-        rt.alloc(),
+    ),
+    // A call passes an argument and gives a result.
+    // A parameter is an object of its own. `#start` takes three turns, `main` five and `next` four.
+    (
         "int next(int x) { x += 1; return x; }",
         &[(
             "int x = 41; return next(x) + x;",
             &[(b"", 100, "|83 12 0,1,2,3,4,5,6,7,8")],
         )],
-    )
+    ),
+];
+
+#[test]
+fn turns_ends_outputs_and_crossed_edges_are_those_of_c(rt: HostRuntime) -> Result<(), Fail> {
+    traced_agree(&rt, rt.alloc(), TRACED)
 }
 
-// The first run takes the 2 turns before `main`, its entry, the first assignment, 3 for each byte (test, output, step), the
-// last test, the return, and the 2 exits. The second takes the same to the step behind the last byte, and then those of the
-// test and of the output that is too much.
+/// Sources whose outputs are full: with how many `x` the output begins, and what is shown behind them.
+const FLOODS: &[(&str, u32, &str)] = &[
+    // This takes the 2 turns before `main`, its entry, the first assignment, 3 for each byte (test, output, step), the last test,
+    // the return, and the 2 exits: 4 + 3 * 16,384 + 4.
+    (
+        "int main(void) { int i; for (i = 0; i < 16384; i++) putchar('x'); return 0; }",
+        16_384,
+        "|0 49160",
+    ),
+    // The same to the step behind the last byte, and then the turns of the test and of the output that is too much:
+    // 4 + 3 * 16,384 + 2.
+    (
+        "int main(void) { int i; for (i = 0; i < 16385; i++) putchar('x'); return 0; }",
+        16_384,
+        "|flood 49158",
+    ),
+    // Of a number within which the output is full, what has room is written.
+    (
+        "int main(void) { int i; for (i = 0; i < 16380; i++) putchar('x'); printf(\"%d\", 12345); return 0; }",
+        16_380,
+        "1234|flood",
+    ),
+];
+
+/// So many `x`, and then this.
+fn behind_x(alloc: Global, count: u32, end: &str) -> Result<String, AllocError> {
+    let mut text = String::new(alloc);
+    for _ in 0..count {
+        text.push('x')?;
+    }
+    text.push_str(end)?;
+    Ok(text)
+}
+
 #[test]
 fn an_output_has_at_most_16384_bytes(rt: HostRuntime) -> Result<(), Fail> {
-    let rows: [(&str, Status, u32); 2] = [
-        (
-            "int main(void) { int i; for (i = 0; i < 16384; i++) putchar('x'); return 0; }",
-            Status::Exit(0),
-            4 + 3 * 16_384 + 4,
-        ),
-        (
-            "int main(void) { int i; for (i = 0; i < 16385; i++) putchar('x'); return 0; }",
-            Status::Trap(Trap::Flood),
-            4 + 3 * 16_384 + 2,
-        ),
-    ];
-    for (source, status, turns) in rows {
-        let shown = long_run(rt.alloc(), source)?;
-        assert!(rt; shown.status == status && shown.turns == turns);
-        assert!(rt; shown.output.len() == 16_384);
+    for &(source, count, end) in FLOODS {
+        let expected = behind_x(rt.alloc(), count, end)?;
+        run_agrees(
+            &rt,
+            rt.alloc(),
+            source,
+            (b"", 10_000_000, expected.as_str()),
+        )?;
     }
-    Ok(())
-}
-
-// Of a number within which the output is full, what has room is written.
-#[test]
-fn a_format_may_flood_within_a_number(rt: HostRuntime) -> Result<(), Fail> {
-    let source =
-        "int main(void) { int i; for (i = 0; i < 16380; i++) putchar('x'); printf(\"%d\", 12345); return 0; }";
-    let shown = long_run(rt.alloc(), source)?;
-    assert!(rt; shown.status == Status::Trap(Trap::Flood));
-    assert!(rt; shown.output.len() == 16_384 && shown.output.ends_with(b"x1234"));
     Ok(())
 }

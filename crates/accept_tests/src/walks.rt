@@ -2,10 +2,11 @@
 ghost use Rattle.std.specs.Prelude.{◌≡◌, ◌+◌, ◌<◌, ◌≤◌};
 ghost use Rattle.flow_graph.specs.Graph.{edge_count, point_count};
 
-use crate::running::{listed, program_of};
+use crate::running::program_of;
 use call_walk::WalkResult;
 use edge_label::Steps;
 use flow_graph::Graph;
+use program_runs::push_edges;
 use std::alloc::{AllocError, Global};
 use std::marker::Brand;
 use std::process::Abort;
@@ -49,44 +50,55 @@ fn graph_of(alloc: Global, items: &str) -> Result<Graph, Fail> {
     Ok(Graph::build(alloc, &program)?)
 }
 
-/// The dangerous edges of the walk of two sources, and behind a bar how many pairs it reached.
-fn walked(alloc: Global, old: &str, new: &str) -> Result<String, Fail> {
-    let old = graph_of(alloc, old)?;
-    let new = graph_of(alloc, new)?;
-    let walked = walk(alloc, &old, &new)?;
-    let mut edges = Vec::new(alloc);
-    for edge in 0..walked.danger.edges() {
-        if walked.danger.has(edge) {
-            edges.push(edge)?;
-        }
-    }
-    let text = listed(alloc, edges.as_slice())?;
-    Ok(format!(in alloc; "{text}|{}", walked.facts.len())?)
+/// How many edges and points the graph of a source has.
+pub fn sizes(alloc: Global, source: &str) -> Result<(u32, u32), Fail> {
+    let graph = graph_of(alloc, source)?;
+    Ok((graph.edges(), graph.points()))
 }
 
-/// Each row has what stands behind the end of the old source, what stands there in the new one, and the walk.
-fn walks_agree(
+/// The dangerous edges of the walk of two graphs, and behind a bar how many pairs it reached.
+fn walk_text(alloc: Global, old: &Graph, new: &Graph) -> Result<String, Fail> {
+    let walked = walk(alloc, old, new)?;
+    let mut text = String::new(alloc);
+    push_edges(alloc, &mut text, &walked.danger)?;
+    let pairs = format!(in alloc; "|{}", walked.facts.len())?;
+    text.push_str(pairs.as_str())?;
+    Ok(text)
+}
+
+/// The same of a graph and a source.
+fn walked_from(alloc: Global, old: &Graph, new: &str) -> Result<String, Fail> {
+    let new = graph_of(alloc, new)?;
+    walk_text(alloc, old, &new)
+}
+
+/// The same of two sources. Each graph is dropped in one place alone.
+fn walked(alloc: Global, old: &str, new: &str) -> Result<String, Fail> {
+    let old = graph_of(alloc, old)?;
+    walked_from(alloc, &old, new)
+}
+
+/// The walk of two sources that begin so is told so.
+fn walk_agrees(
     rt: &impl Abort,
     alloc: Global,
     before: &str,
-    rows: &[(&str, &str, &str)],
+    (old, new, expected): (&str, &str, &str),
 ) -> Result<(), Fail> {
-    for (old, new, expected) in rows {
-        let old = format!(in alloc; "{before}{old}")?;
-        let new = format!(in alloc; "{before}{new}")?;
-        let text = walked(alloc, old.as_str(), new.as_str())?;
-        assert!(rt; text.as_str() == *expected, "{new} gave {text}");
-    }
+    let old = format!(in alloc; "{before}{old}")?;
+    let new = format!(in alloc; "{before}{new}")?;
+    let text = walked(alloc, old.as_str(), new.as_str())?;
+    assert!(rt; text.as_str() == expected, "{new} gave {text}");
     Ok(())
 }
 
-// Points: 0 to 2 of `#start`, and of `main` its entry 3, the test 4, the two lines 5 and 6, the return 7 and the exit 8. The edges 3
-// and 4 leave the test, and 2 the entry of `main`.
-#[test]
-fn a_changed_line_makes_the_edge_to_it_dangerous(rt: HostRuntime) -> Result<(), Fail> {
-    walks_agree(
-        &rt,
-        rt.alloc(),
+/// Each table has what both sources begin with, and rows of what stands behind it in the old source, what stands there in the new
+/// one, and their walk.
+const WALKS: &[(&str, &[(&str, &str, &str)])] = &[
+    // A changed line makes the edge to it dangerous.
+    // Points: 0 to 2 of `#start`, and of `main` its entry 3, the test 4, the two lines 5 and 6, the return 7 and the exit 8. The edges 3
+    // and 4 leave the test, and 2 the entry of `main`.
+    (
         "int main(void) { ",
         &[
             (
@@ -105,49 +117,22 @@ fn a_changed_line_makes_the_edge_to_it_dangerous(rt: HostRuntime) -> Result<(), 
                 "2|3",
             ),
         ],
-    )
-}
-
-// The 9 edges and 13 points for which `walk_asking` says that at most 117 questions are asked, and the 13 pairs.
-#[test]
-fn an_unrolled_loop_is_walked_with_117_questions_at_most(rt: HostRuntime) -> Result<(), Fail> {
-    let alloc = rt.alloc();
-    let old = graph_of(
-        alloc,
-        "int main(void) { int c; c = getchar(); while (c != -1) { putchar(c); c = getchar(); } return 0; }",
-    )?;
-    let new = graph_of(
-        alloc,
-        "int main(void) { int c; c = getchar(); if (c != -1) { putchar(c); c = getchar(); while (c != -1) { putchar(c); c = getchar(); } } return 0; }",
-    )?;
-    assert_eq!(rt; (old.edges(), new.points()), (9, 13));
-    assert_eq!(rt; walk(alloc, &old, &new)?.facts.len(), 13);
-    Ok(())
-}
-
-// The old line `putchar(67);`, point 7, has a partner in each branch of the new program. Behind the one both programs return, behind
-// the other only the old one does, by its edge 7.
-#[test]
-fn an_old_point_is_walked_with_each_of_its_partners(rt: HostRuntime) -> Result<(), Fail> {
-    walks_agree(
-        &rt,
-        rt.alloc(),
+    ),
+    // An old point is walked with each of its partners.
+    // The old line `putchar(67);`, point 7, has a partner in each branch of the new program. Behind the one both programs return, behind
+    // the other only the old one does, by its edge 7.
+    (
         "int main(void) { ",
         &[(
             "if (getchar() == 65) putchar(66); else putchar(66); putchar(67); return 0; }",
             "if (getchar() == 65) { putchar(66); putchar(67); return 0; } else putchar(66); putchar(67); putchar(68); return 0; }",
             "7|11",
         )],
-    )
-}
-
-// `main` has the entry 3, the call 4, the return 5 and the exit 6, and `work` the entry 7, its line 8 and its exit 9. The edge 3 leaves
-// the call, and 5 the entry of `work`. Where `work` doesn't come back, nothing behind the call is reached.
-#[test]
-fn a_call_is_passed_over_where_its_callee_comes_back(rt: HostRuntime) -> Result<(), Fail> {
-    walks_agree(
-        &rt,
-        rt.alloc(),
+    ),
+    // A call is passed over where its callee comes back.
+    // `main` has the entry 3, the call 4, the return 5 and the exit 6, and `work` the entry 7, its line 8 and its exit 9. The edge 3 leaves
+    // the call, and 5 the entry of `work`. Where `work` doesn't come back, nothing behind the call is reached.
+    (
         "void work(void); int main(void) { ",
         &[
             (
@@ -166,16 +151,11 @@ fn a_call_is_passed_over_where_its_callee_comes_back(rt: HostRuntime) -> Result<
                 "3|7",
             ),
         ],
-    )
-}
-
-// A changed type: the edge 4 leads from the test to the line that names `k`. A changed initial number: the edge 3 leads to the return
-// that names it. An object that nothing names changes nothing.
-#[test]
-fn a_changed_object_reaches_what_names_it(rt: HostRuntime) -> Result<(), Fail> {
-    walks_agree(
-        &rt,
-        rt.alloc(),
+    ),
+    // A changed object reaches what names it.
+    // A changed type: the edge 4 leads from the test to the line that names `k`. A changed initial number: the edge 3 leads to the return
+    // that names it. An object that nothing names changes nothing.
+    (
         "",
         &[
             (
@@ -209,17 +189,12 @@ fn a_changed_object_reaches_what_names_it(rt: HostRuntime) -> Result<(), Fail> {
                 "2|3",
             ),
         ],
-    )
-}
-
-// `main` has the entry 3, the line 4, the `goto` 5, the labelled lines 6 and 7, the return 8 and the exit 9. The edge 4 leaves the
-// `goto`, and 5 leads from the one labelled line to the other. A `goto` is the same wherever it leads: the line at its new target
-// decides. The names of labels are no part of what is done.
-#[test]
-fn a_goto_is_followed_to_its_target(rt: HostRuntime) -> Result<(), Fail> {
-    walks_agree(
-        &rt,
-        rt.alloc(),
+    ),
+    // A `goto` is followed to its target.
+    // `main` has the entry 3, the line 4, the `goto` 5, the labelled lines 6 and 7, the return 8 and the exit 9. The edge 4 leaves the
+    // `goto`, and 5 leads from the one labelled line to the other. A `goto` is the same wherever it leads: the line at its new target
+    // decides. The names of labels are no part of what is done.
+    (
         "int main(void) { ",
         &[
             (
@@ -243,15 +218,10 @@ fn a_goto_is_followed_to_its_target(rt: HostRuntime) -> Result<(), Fail> {
                 "|10",
             ),
         ],
-    )
-}
-
-// The edge 3 leads to the `exit`, and no edge leaves it, so that no call of its function is passed over.
-#[test]
-fn nothing_behind_an_exit_is_reached(rt: HostRuntime) -> Result<(), Fail> {
-    walks_agree(
-        &rt,
-        rt.alloc(),
+    ),
+    // Nothing behind an `exit` is reached.
+    // The edge 3 leads to the `exit`, and no edge leaves it, so that no call of its function is passed over.
+    (
         "int main(void) { ",
         &[
             (
@@ -270,30 +240,20 @@ fn nothing_behind_an_exit_is_reached(rt: HostRuntime) -> Result<(), Fail> {
                 "|4",
             ),
         ],
-    )
-}
-
-#[test]
-fn nothing_behind_a_call_that_exits_is_reached(rt: HostRuntime) -> Result<(), Fail> {
-    walks_agree(
-        &rt,
-        rt.alloc(),
+    ),
+    // Nothing behind a call that exits is reached.
+    (
         "void work(void); int main(void) { ",
         &[(
             "work(); return 0; } void work(void) { exit(1); }",
             "work(); putchar(66); return 0; } void work(void) { exit(1); }",
             "|6",
         )],
-    )
-}
-
-// `main` has the entry 3, the `switch` 4, the lines 5 to 7 that write, the return 8 and the exit 9. The edges 3 and 4 lead to the lines
-// of the cases, 5 to that of the default, and 6 to 8 from these lines to the return.
-#[test]
-fn a_changed_line_marks_the_edge_of_its_case_alone(rt: HostRuntime) -> Result<(), Fail> {
-    walks_agree(
-        &rt,
-        rt.alloc(),
+    ),
+    // A changed line marks the edge of its case alone.
+    // `main` has the entry 3, the `switch` 4, the lines 5 to 7 that write, the return 8 and the exit 9. The edges 3 and 4 lead to the lines
+    // of the cases, 5 to that of the default, and 6 to 8 from these lines to the return.
+    (
         "int main(void) { ",
         &[
             (
@@ -317,15 +277,10 @@ fn a_changed_line_marks_the_edge_of_its_case_alone(rt: HostRuntime) -> Result<()
                 "4,5|8",
             ),
         ],
-    )
-}
-
-// A `default` is the same way out only where all case values are. The order of the cases is no part of it.
-#[test]
-fn a_changed_case_value_marks_the_edge_of_the_default(rt: HostRuntime) -> Result<(), Fail> {
-    walks_agree(
-        &rt,
-        rt.alloc(),
+    ),
+    // A changed case value marks the edge of the `default`.
+    // A `default` is the same way out only where all case values are. The order of the cases is no part of it.
+    (
         "int main(void) { ",
         &[
             (
@@ -349,17 +304,12 @@ fn a_changed_case_value_marks_the_edge_of_the_default(rt: HostRuntime) -> Result
                 "|10",
             ),
         ],
-    )
-}
-
-// The edge 3 leads to the line 5, the default's edge 4 to the line 6, the edge 5 from the one to the other, and 6 from there to the
-// return. Where the lines of the default stand first, they go on to those of the case. Without a default the edge 4 leads past the
-// `switch`. A line of its own for the default is a second partner of the line 6.
-#[test]
-fn a_default_is_followed_to_its_lines(rt: HostRuntime) -> Result<(), Fail> {
-    walks_agree(
-        &rt,
-        rt.alloc(),
+    ),
+    // A `default` is followed to its lines.
+    // The edge 3 leads to the line 5, the default's edge 4 to the line 6, the edge 5 from the one to the other, and 6 from there to the
+    // return. Where the lines of the default stand first, they go on to those of the case. Without a default the edge 4 leads past the
+    // `switch`. A line of its own for the default is a second partner of the line 6.
+    (
         "int main(void) { ",
         &[
             (
@@ -383,5 +333,31 @@ fn a_default_is_followed_to_its_lines(rt: HostRuntime) -> Result<(), Fail> {
                 "5|9",
             ),
         ],
-    )
+    ),
+];
+
+#[test]
+fn walks_mark_the_edges_behind_which_the_versions_part(rt: HostRuntime) -> Result<(), Fail> {
+    for (before, rows) in WALKS {
+        for row in *rows {
+            walk_agrees(&rt, rt.alloc(), before, *row)?;
+        }
+    }
+    Ok(())
+}
+
+/// A loop, and the same with its first round before it.
+const LOOP: &str =
+    "int main(void) { int c; c = getchar(); while (c != -1) { putchar(c); c = getchar(); } return 0; }";
+
+const UNROLLED: &str =
+    "int main(void) { int c; c = getchar(); if (c != -1) { putchar(c); c = getchar(); while (c != -1) { putchar(c); c = getchar(); } } return 0; }";
+
+// The 9 edges and 13 points for which `walk_asking` says that at most 117 questions are asked, and the 13 pairs.
+#[test]
+fn an_unrolled_loop_is_walked_with_117_questions_at_most(rt: HostRuntime) -> Result<(), Fail> {
+    let (edges, _) = sizes(rt.alloc(), LOOP)?;
+    let (_, points) = sizes(rt.alloc(), UNROLLED)?;
+    assert_eq!(rt; (edges, points), (9, 13));
+    walk_agrees(&rt, rt.alloc(), "", (LOOP, UNROLLED, "|13"))
 }

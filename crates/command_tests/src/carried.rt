@@ -1,8 +1,6 @@
 //! Histories that are brought to a changed program. The expected texts are written out by hand, with sums by Python's hashlib or
 //! `sha256sum`.
-use crate::files::{
-    ASSIGNED, ASSIGNED_HISTORY, Counter, OTHER_BYTE, TWO, answer_counted, recorded,
-};
+use crate::files::{ASSIGNED, Counter, OTHER_BYTE, TWO, answer_counted, recorded};
 use dejavu_cli::Status8;
 use std::alloc::Global;
 use std::process::Abort;
@@ -21,9 +19,10 @@ fn carried_is<R: Threads + Abort + Sync>(
         let gate = Counter::new();
         let words = ["carry", "old", "new", "history", "--workers", workers];
         let (status, text) = answer_counted(rt, alloc, &files, &words, &gate)?;
-        assert_eq!(rt; status, Status8::Done);
-        assert_eq!(rt; text.as_slice(), expected.as_bytes());
-        assert_eq!(rt; gate.count(), 1);
+        assert!(rt;
+            status == Status8::Done && text.as_str() == expected && gate.count() == 1,
+            "{new} by {workers} gave {status:?} and {text}"
+        );
     }
     Ok(())
 }
@@ -32,9 +31,7 @@ fn carried_is<R: Threads + Abort + Sync>(
 fn carry_agrees<R: Threads + Abort + Sync>(
     rt: &R,
     alloc: Global,
-    old: &str,
-    new: &str,
-    suite: &str,
+    (old, new, suite): (&str, &str, &str),
     expected: &str,
 ) -> Result<(), Fail> {
     let history = recorded(rt, alloc, old, suite)?;
@@ -45,11 +42,6 @@ fn carry_agrees<R: Threads + Abort + Sync>(
 
 const OF_OTHER_BYTE: &str =
     "dejavu history 3\nsource 4527ee34a73cbe49b1963da290f1fd8d7b5f74648e52c258c77127032cca9bd8\nedges 9\ntests 2\ntest A\nbudget 100\ninput 41\nstatus exit 0\nturns 9\noutput 42\ncrossed 5f01\ntest B\nbudget 100\ninput 42\nstatus exit 0\nturns 9\noutput 44\ncrossed af01\nend 6269f2c327604259b4e89e7834eff8b2bfcbfaa56db82953e732821f7bff3384\n";
-
-#[test]
-fn a_left_test_is_carried_and_a_selected_one_runs(rt: HostRuntime) -> Result<(), Fail> {
-    carry_agrees(&rt, rt.alloc(), ASSIGNED, OTHER_BYTE, TWO, OF_OTHER_BYTE)
-}
 
 /// A source of 9 edges that writes what it reads.
 pub const LOOP: &str =
@@ -65,12 +57,6 @@ const EARLY: &str = "dejavu suite 1\ntest E 100 -\ntest Q 4 -\n";
 const OF_UNROLLED: &str =
     "dejavu history 3\nsource 35465d543a348607518c6be3ab72e0fba465fba53f37bf23e2987e11b7d8c150\nedges 13\ntests 2\ntest E\nbudget 100\ninput -\nstatus exit 0\nturns 8\noutput -\ncrossed 2f10\ntest Q\nbudget 4\ninput -\nstatus turns\nturns 4\noutput -\ncrossed 0d00\nend 2275ed23aa2aab419b284316ef969b54c166ad20a04d0f43598d707236f578ed\n";
 
-// Q ends before the way out of the loop, which has two images.
-#[test]
-fn a_left_test_runs_where_an_edge_of_its_has_two_images(rt: HostRuntime) -> Result<(), Fail> {
-    carry_agrees(&rt, rt.alloc(), LOOP, UNROLLED, EARLY, OF_UNROLLED)
-}
-
 /// A source of 8 edges that writes one byte for 65 and another one for all else.
 pub const CHOICE: &str =
     "int main(void) { switch (getchar()) { case 65: putchar(97); break; default: putchar(63); } return 0; }";
@@ -85,18 +71,22 @@ const FIRST_AND_LAST: &str = "dejavu suite 1\ntest A 100 41\ntest Z 100 5a\n";
 const OF_WIDER_CHOICE: &str =
     "dejavu history 3\nsource 54da7b9a756a13ecc695da2a34cc330e392bab1150c60cc1aae6047ebcf3af42\nedges 10\ntests 2\ntest A\nbudget 100\ninput 41\nstatus exit 0\nturns 8\noutput 61\ncrossed 4f02\ntest Z\nbudget 100\ninput 5a\nstatus exit 0\nturns 8\noutput 3f\ncrossed 2703\nend fae1e5b680cec6f315580e2cd59d06edb82168c60c5b5c4db80f0021f339e376\n";
 
+/// An old source, a new one, a suite, and the history of the new one.
+const CARRIED: &[(&str, &str, &str, &str)] = &[
+    // A left test is carried, and a selected one runs.
+    (ASSIGNED, OTHER_BYTE, TWO, OF_OTHER_BYTE),
+    // A left test runs where an edge of its has two images. Q ends before the way out of the loop, which has two.
+    (LOOP, UNROLLED, EARLY, OF_UNROLLED),
+    // The edges of a carried test get the numbers of their images.
+    (CHOICE, WIDER_CHOICE, FIRST_AND_LAST, OF_WIDER_CHOICE),
+];
+
 #[test]
-fn the_edges_of_a_carried_test_get_the_numbers_of_their_images(
-    rt: HostRuntime,
-) -> Result<(), Fail> {
-    carry_agrees(
-        &rt,
-        rt.alloc(),
-        CHOICE,
-        WIDER_CHOICE,
-        FIRST_AND_LAST,
-        OF_WIDER_CHOICE,
-    )
+fn a_left_test_is_carried_where_its_edges_have_one_image(rt: HostRuntime) -> Result<(), Fail> {
+    for &(old, new, suite, expected) in CARRIED {
+        carry_agrees(&rt, rt.alloc(), (old, new, suite), expected)?;
+    }
+    Ok(())
 }
 
 /// The outputs of the two tests of a history, and the sum of its text by `sha256sum`.
@@ -116,29 +106,32 @@ fn with_outputs(alloc: Global, history: &str, outputs: Outputs<'_>) -> Result<St
     Ok(text)
 }
 
-/// A history that has these outputs in place of its own becomes the expected one with those outputs.
+/// The history that is recorded of a suite, with these outputs in place of its own, becomes the expected one with those outputs.
 fn outputs_agree<R: Threads + Abort + Sync>(
     rt: &R,
     alloc: Global,
-    (old, new, history): (&str, &str, &str),
+    (old, new, suite): (&str, &str, &str),
     given: Outputs<'_>,
     expected: &str,
     kept: Outputs<'_>,
 ) -> Result<(), Fail> {
-    let history = with_outputs(alloc, history, given)?;
+    let history = recorded(rt, alloc, old, suite)?;
+    let history = with_outputs(alloc, history.as_str(), given)?;
     let expected = with_outputs(alloc, expected, kept)?;
     carried_is(rt, alloc, (old, new, history.as_str()), expected.as_str())
 }
 
-// No run gives the outputs of these histories. The test that may stay keeps its one; the other has the output of a run.
-#[test]
-fn the_one_that_runs_is_the_test_that_may_not_stay(rt: HostRuntime) -> Result<(), Fail> {
-    let alloc = rt.alloc();
+/// An old source, a new one and a suite; the outputs that stand in the history; the history of the new source, and the outputs that
+/// stand there. No run gives the outputs of these histories. The test that may stay keeps its one; the other has the output of a run.
+const KEPT: &[(
+    (&str, &str, &str),
+    (&str, &str, &str),
+    &str,
+    (&str, &str, &str),
+)] = &[
     // A stays, and B runs
-    outputs_agree(
-        &rt,
-        alloc,
-        (ASSIGNED, OTHER_BYTE, ASSIGNED_HISTORY),
+    (
+        (ASSIGNED, OTHER_BYTE, TWO),
         (
             "61",
             "62",
@@ -150,13 +143,10 @@ fn the_one_that_runs_is_the_test_that_may_not_stay(rt: HostRuntime) -> Result<()
             "44",
             "de27f5c3df459beae8af142648ccf16c157561b8052c59f899a601bce1b4542f",
         ),
-    )?;
+    ),
     // E runs, and Q stays
-    let history = recorded(&rt, alloc, LOOP, EARLY)?;
-    outputs_agree(
-        &rt,
-        alloc,
-        (LOOP, UNROLLED, history.as_str()),
+    (
+        (LOOP, UNROLLED, EARLY),
         (
             "61",
             "62",
@@ -168,13 +158,10 @@ fn the_one_that_runs_is_the_test_that_may_not_stay(rt: HostRuntime) -> Result<()
             "62",
             "d19cce58f22532d87c9ed43f64a59c8f981750edc49083405dbf6731770d4c7d",
         ),
-    )?;
+    ),
     // A stays, and Z runs
-    let history = recorded(&rt, alloc, CHOICE, FIRST_AND_LAST)?;
-    outputs_agree(
-        &rt,
-        alloc,
-        (CHOICE, WIDER_CHOICE, history.as_str()),
+    (
+        (CHOICE, WIDER_CHOICE, FIRST_AND_LAST),
         (
             "78",
             "79",
@@ -186,5 +173,13 @@ fn the_one_that_runs_is_the_test_that_may_not_stay(rt: HostRuntime) -> Result<()
             "3f",
             "f989addbb41825a6e5adda7dd63996a9c4048ecc799f3730b7fd0722e40634bd",
         ),
-    )
+    ),
+];
+
+#[test]
+fn the_one_that_runs_is_the_test_that_may_not_stay(rt: HostRuntime) -> Result<(), Fail> {
+    for &(change, given, expected, kept) in KEPT {
+        outputs_agree(&rt, rt.alloc(), change, given, expected, kept)?;
+    }
+    Ok(())
 }

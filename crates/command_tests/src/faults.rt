@@ -1,5 +1,7 @@
 //! Faults of the files and of the output.
-use crate::files::{ASSIGNED_SELECTION, EMPTY_HISTORY, FILES, files_of, owned_words, shelf_of};
+use crate::files::{
+    ASSIGNED_SELECTION, EMPTY_HISTORY, FILES, files_of, owned_words, shelf_of, text_of,
+};
 use dejavu_cli::{Status8, dejavu};
 use dv_outside::{FailingShelf, FailingSink, MemorySink, OpenGate};
 use std::alloc::Global;
@@ -13,41 +15,50 @@ fn answer_with_fault<R: Threads + Sync>(
     alloc: Global,
     words: &[&str],
     call: u32,
-) -> Result<(Status8, Vec<u8>), Fail> {
+) -> Result<(Status8, String), Fail> {
     let words = owned_words(alloc, words)?;
     let mut shelf = FailingShelf::new(alloc, files_of(alloc, FILES)?, [call].to_vec(alloc)?);
     let mut out = MemorySink::new(alloc, 1000, 7)?;
     let status = dejavu(rt, alloc, &words, &mut shelf, &mut out, &OpenGate);
-    Ok((status, out.bytes().to_vec(alloc)?))
+    Ok((status, text_of(alloc, out.bytes())?))
 }
 
-/// The first calls, so many, are faults of reading; where none fails, the command is done.
-fn each_file_may_fail<R: Threads + Abort + Sync>(
+/// That command has this answer and this text.
+fn fault_agrees<R: Threads + Abort + Sync>(
     rt: &R,
     alloc: Global,
     words: &[&str],
-    files: u32,
-    text: &str,
+    call: u32,
+    (status, text): (Status8, &str),
 ) -> Result<(), Fail> {
-    for before in 0..files {
-        let (status, bytes) = answer_with_fault(rt, alloc, words, before.wrapping_add(1))?;
-        assert_eq!(rt; status, Status8::ReadFault);
-        assert_eq!(rt; bytes.as_slice(), b"refused: read fault\n".as_slice());
-    }
-    let (status, bytes) = answer_with_fault(rt, alloc, words, files.wrapping_add(1))?;
-    assert_eq!(rt; status, Status8::Done);
-    assert_eq!(rt; bytes.as_slice(), text.as_bytes());
+    let (got, told) = answer_with_fault(rt, alloc, words, call)?;
+    assert!(rt;
+        got == status && told.as_str() == text,
+        "{words:?} gave {got:?} and {told}"
+    );
     Ok(())
 }
 
 /// A selection of one test of two.
 const SELECT: &[&str] = &["select", "assigned", "other byte", "assigned history"];
 
+/// Words, how many files they name, and the text where no call fails.
+const FILES_OF: &[(&[&str], u32, &str)] = &[
+    (&["record", "empty", "one"], 2, EMPTY_HISTORY),
+    (SELECT, 3, ASSIGNED_SELECTION),
+];
+
 #[test]
 fn a_fault_at_any_of_the_files_is_a_read_fault(rt: HostRuntime) -> Result<(), Fail> {
-    let alloc = rt.alloc();
-    each_file_may_fail(&rt, alloc, &["record", "empty", "one"], 2, EMPTY_HISTORY)?;
-    each_file_may_fail(&rt, alloc, SELECT, 3, ASSIGNED_SELECTION)
+    for &(words, files, text) in FILES_OF {
+        for call in 1..=files {
+            let fault = (Status8::ReadFault, "refused: read fault\n");
+            fault_agrees(&rt, rt.alloc(), words, call, fault)?;
+        }
+        let done = (Status8::Done, text);
+        fault_agrees(&rt, rt.alloc(), words, files.wrapping_add(1), done)?;
+    }
+    Ok(())
 }
 
 /// The answer and the text of a command whose output takes 4 bytes at a call and fails at one.
@@ -56,52 +67,60 @@ fn answer_cut<R: Threads + Sync>(
     alloc: Global,
     words: &[&str],
     call: u32,
-) -> Result<(Status8, Vec<u8>), Fail> {
+) -> Result<(Status8, String), Fail> {
     let words = owned_words(alloc, words)?;
     let mut shelf = shelf_of(alloc, FILES)?;
     let mut out = FailingSink::new(alloc, 1000, 4, call)?;
     let status = dejavu(rt, alloc, &words, &mut shelf, &mut out, &OpenGate);
-    Ok((status, out.bytes().to_vec(alloc)?))
+    Ok((status, text_of(alloc, out.bytes())?))
 }
 
-/// Such an output may fail at each of the calls, so many, that take the text of a command. What was taken before is a beginning
-/// of the text.
-fn each_call_of_the_output_may_fail<R: Threads + Abort + Sync>(
+/// The answer of that command is a fault, and this beginning of the text was taken before.
+fn cut_agrees<R: Threads + Abort + Sync>(
     rt: &R,
     alloc: Global,
     words: &[&str],
-    calls: u32,
-    text: &str,
+    call: u32,
+    beginning: &str,
 ) -> Result<(), Fail> {
-    for before in 0..calls {
-        let (status, bytes) = answer_cut(rt, alloc, words, before.wrapping_add(1))?;
-        assert_eq!(rt; status, Status8::WriteFault);
-        assert_eq!(rt; bytes.len(), (before as usize).wrapping_mul(4));
-        assert!(rt; text.as_bytes().starts_with(bytes.as_slice()));
-    }
+    let (status, told) = answer_cut(rt, alloc, words, call)?;
+    assert!(rt;
+        status == Status8::WriteFault && told.as_str() == beginning,
+        "{words:?} gave {status:?} and {told}"
+    );
     Ok(())
 }
 
-// The history has 240 bytes, and the selection 36.
+/// Words, how many calls take the text of their command, and the text. The history has 240 bytes, and the selection 36.
+const CALLS: &[(&[&str], usize, &str)] = &[
+    (&["record", "empty", "one"], 60, EMPTY_HISTORY),
+    (SELECT, 9, ASSIGNED_SELECTION),
+];
+
 #[test]
 fn a_fault_of_the_output_at_any_call_leaves_a_beginning_of_the_text(
     rt: HostRuntime,
 ) -> Result<(), Fail> {
-    let alloc = rt.alloc();
-    let words = ["record", "empty", "one"];
-    each_call_of_the_output_may_fail(&rt, alloc, &words, 60, EMPTY_HISTORY)?;
-    each_call_of_the_output_may_fail(&rt, alloc, SELECT, 9, ASSIGNED_SELECTION)
+    for &(words, calls, text) in CALLS {
+        let mut call: u32 = 0;
+        for before in 0..calls {
+            call = call.wrapping_add(1);
+            let beginning = text.get(..before.wrapping_mul(4)).ok_or("no such place")?;
+            cut_agrees(&rt, rt.alloc(), words, call, beginning)?;
+        }
+    }
+    Ok(())
 }
+
+/// Words, the call that fails, and what was taken before.
+const BEGINNINGS: &[(&[&str], u32, &str)] = &[(SELECT, 3, "left A\nr"), (&[], 2, "refu")];
 
 #[test]
 fn a_fault_of_the_output_leaves_a_beginning_of_the_text_or_the_line(
     rt: HostRuntime,
 ) -> Result<(), Fail> {
-    let rows: &[(&[&str], u32, &str)] = &[(SELECT, 3, "left A\nr"), (&[], 2, "refu")];
-    for &(words, call, beginning) in rows {
-        let (status, bytes) = answer_cut(&rt, rt.alloc(), words, call)?;
-        assert_eq!(rt; status, Status8::WriteFault);
-        assert_eq!(rt; bytes.as_slice(), beginning.as_bytes());
+    for &(words, call, beginning) in BEGINNINGS {
+        cut_agrees(&rt, rt.alloc(), words, call, beginning)?;
     }
     Ok(())
 }

@@ -106,7 +106,7 @@ pub fn answer_about<R: Threads + Sync>(
     alloc: Global,
     texts: &[(&str, &str)],
     words: &[&str],
-) -> Result<(Status8, Vec<u8>), Fail> {
+) -> Result<(Status8, String), Fail> {
     answer_counted(rt, alloc, texts, words, &OpenGate)
 }
 
@@ -117,12 +117,17 @@ pub fn answer_counted<R: Threads + Sync, G: Gate>(
     texts: &[(&str, &str)],
     words: &[&str],
     gate: &G,
-) -> Result<(Status8, Vec<u8>), Fail> {
+) -> Result<(Status8, String), Fail> {
     let owned = owned_words(alloc, words)?;
     let mut shelf = shelf_of(alloc, texts)?;
     let mut out = MemorySink::new(alloc, 100_000, 7)?;
     let status = dejavu(rt, alloc, &owned, &mut shelf, &mut out, gate);
-    Ok((status, out.bytes().to_vec(alloc)?))
+    Ok((status, text_of(alloc, out.bytes())?))
+}
+
+/// The bytes of an output as a text.
+pub fn text_of(alloc: Global, bytes: &[u8]) -> Result<String, Fail> {
+    Ok(String::from_utf8(bytes.to_vec(alloc)?)?)
 }
 
 /// The words about these texts give the answer and the text.
@@ -131,11 +136,9 @@ pub fn answer_agrees<R: Threads + Abort + Sync>(
     alloc: Global,
     texts: &[(&str, &str)],
     words: &[&str],
-    status: Status8,
-    text: &str,
+    (status, text): (Status8, &str),
 ) -> Result<(), Fail> {
-    let (got, bytes) = answer_about(rt, alloc, texts, words)?;
-    let told = String::from_utf8(bytes)?;
+    let (got, told) = answer_about(rt, alloc, texts, words)?;
     assert!(rt;
         got == status && told.as_str() == text,
         "{words:?} gave {got:?} and {told}"
@@ -149,10 +152,22 @@ pub fn versions_agree<R: Threads + Abort + Sync>(
     alloc: Global,
     (old, new, history): (&str, &str, &str),
     words: &[&str],
-    (status, text): (Status8, &str),
+    told: (Status8, &str),
 ) -> Result<(), Fail> {
     let files = [("old", old), ("new", new), ("history", history)];
-    answer_agrees(rt, alloc, &files, words, status, text)
+    answer_agrees(rt, alloc, &files, words, told)
+}
+
+/// The same, where the history is recorded of a suite.
+pub fn change_agrees<R: Threads + Abort + Sync>(
+    rt: &R,
+    alloc: Global,
+    (old, new, suite): (&str, &str, &str),
+    words: &[&str],
+    told: (Status8, &str),
+) -> Result<(), Fail> {
+    let history = recorded(rt, alloc, old, suite)?;
+    versions_agree(rt, alloc, (old, new, history.as_str()), words, told)
 }
 
 /// Each row's words about these texts give its answer and its text.
@@ -163,7 +178,7 @@ pub fn answers_agree<R: Threads + Abort + Sync>(
     rows: &[(&[&str], Status8, &str)],
 ) -> Result<(), Fail> {
     for &(words, status, text) in rows {
-        answer_agrees(rt, alloc, texts, words, status, text)?;
+        answer_agrees(rt, alloc, texts, words, (status, text))?;
     }
     Ok(())
 }
@@ -203,7 +218,7 @@ pub fn recorded<R: Threads + Sync>(
 ) -> Result<String, Fail> {
     let files = [("source", source), ("suite", suite)];
     match answer_about(rt, alloc, &files, &["record", "source", "suite"])? {
-        (Status8::Done, bytes) => Ok(String::from_utf8(bytes)?),
+        (Status8::Done, history) => Ok(history),
         _ => Err("not recorded".into()),
     }
 }

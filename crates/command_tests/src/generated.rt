@@ -6,22 +6,18 @@ use std::process::Abort;
 use std::test::Fail;
 use std::thread::Threads;
 
-/// The text on what is made of a seed and a size begins so.
-fn generated_begins<R: Threads + Abort + Sync>(
-    rt: &R,
-    alloc: Global,
-    (seed, size): (&str, &str),
-    beginning: &str,
-) -> Result<(), Fail> {
-    let (status, bytes) = answer_about(rt, alloc, &[], &["gen", seed, size])?;
-    assert_eq!(rt; status, Status8::Done);
-    let text = String::from_utf8(bytes)?;
-    assert!(rt;
-        text.as_str().starts_with(beginning),
-        "{seed} {size} gave {text}"
-    );
-    Ok(())
-}
+const SMALL: &[(&[&str], Status8, &str)] = &[
+    (
+        &["gen", "1", "1"],
+        Status8::Done,
+        "gen seed 1 size 1\nfunctions 2 points 16 edges 14 tests 4\ndangerous 1 selected 2 differ 2\n",
+    ),
+    (
+        &["gen", "2", "2"],
+        Status8::Done,
+        "gen seed 2 size 2\nfunctions 3 points 24 edges 22 tests 8\ndangerous 1 selected 8 differ 8\n",
+    ),
+];
 
 // The old source has N functions and a `main` that calls each of them once. `#start` has three points and two edges. Each of
 // the N has its entry, its test, an assignment on either side, its `return` and its exit: 6 points, and 6 edges, since two leave
@@ -31,30 +27,29 @@ fn generated_begins<R: Threads + Abort + Sync>(
 // first pair, 95 and 1, which aren't greater than 149, and all 8 in the second.
 #[test]
 fn a_small_pair_is_measured(rt: HostRuntime) -> Result<(), Fail> {
-    let rows: &[(&[&str], Status8, &str)] = &[
-        (
-            &["gen", "1", "1"],
-            Status8::Done,
-            "gen seed 1 size 1\nfunctions 2 points 16 edges 14 tests 4\ndangerous 1 selected 2 differ 2\n",
-        ),
-        (
-            &["gen", "2", "2"],
-            Status8::Done,
-            "gen seed 2 size 2\nfunctions 3 points 24 edges 22 tests 8\ndangerous 1 selected 8 differ 8\n",
-        ),
-    ];
-    answers_agree(&rt, rt.alloc(), &[], rows)
+    answers_agree(&rt, rt.alloc(), &[], SMALL)
 }
 
-#[test]
-fn the_largest_pair_is_accepted_and_measured(rt: HostRuntime) -> Result<(), Fail> {
-    let beginning =
-        "gen seed 7 size 400\nfunctions 401 points 3208 edges 3206 tests 1600\ndangerous 1 ";
-    generated_begins(&rt, rt.alloc(), ("7", "400"), beginning)
+/// The text on what is made of a seed and a size begins so.
+fn generated_begins<R: Threads + Abort + Sync>(
+    rt: &R,
+    alloc: Global,
+    (seed, size): (&str, &str),
+    beginning: &str,
+) -> Result<(), Fail> {
+    let (status, text) = answer_about(rt, alloc, &[], &["gen", seed, size])?;
+    assert!(rt;
+        status == Status8::Done && text.as_str().starts_with(beginning),
+        "{seed} {size} gave {text}"
+    );
+    Ok(())
 }
 
 #[test]
 fn pairs_of_many_seeds_and_sizes_are_accepted(rt: HostRuntime) -> Result<(), Fail> {
+    let largest =
+        "gen seed 7 size 400\nfunctions 401 points 3208 edges 3206 tests 1600\ndangerous 1 ";
+    generated_begins(&rt, rt.alloc(), ("7", "400"), largest)?;
     for seed in ["0", "3", "1000", "65535"] {
         for size in ["1", "5", "40"] {
             generated_begins(&rt, rt.alloc(), (seed, size), "gen seed ")?;

@@ -35,36 +35,47 @@ fn changed(alloc: Global, that: &str, this: &str) -> Result<String, Fail> {
     Ok(format!(in alloc; "{before}{this}{behind}")?)
 }
 
+/// What stands in `ASSIGNED_HISTORY`, what stands there in its place, and the line that says why that is refused. The digests of
+/// both texts of a history with another output are those of `sha256sum`.
+const CHANGES: &[(&str, &str, &str)] = &[
+    ("history 3", "history 1", "refused: history version 1\n"),
+    ("history 3", "history 2", "refused: history version 2\n"),
+    ("history 3", "history", "refused: history line 1 rule H1\n"),
+    (
+        "edges 9",
+        "edges 10001",
+        "refused: history line 3 rule H3\n",
+    ),
+    ("test B", "test A", "refused: history line 12 rule H6\n"),
+    ("turns 9", "turns 101", "refused: history line 9 rule H10\n"),
+    (
+        "crossed 5f01",
+        "crossed 5F01",
+        "refused: history line 11 rule H12\n",
+    ),
+    (
+        "crossed 5f01",
+        "crossed 5f0100",
+        "refused: history line 11 rule H12\n",
+    ),
+    (
+        "crossed 5f01",
+        "crossed -",
+        "refused: history line 11 rule H12\n",
+    ),
+    // a line more
+    ("b43c\n", "b43c\nx\n", "refused: history line 20 rule H14\n"),
+    // another output
+    (
+        "output 42",
+        "output 52",
+        "refused: history sum eac55876d49f0d1fe32a649b9e1751d299b9e79be91b030c71dd123e5014b43c 640248bad311aaef3e47f513bddef1b4e21bd313467b3099c777144e995a9d53\n",
+    ),
+];
+
 #[test]
-fn the_line_says_which_rule_a_history_breaks(rt: HostRuntime) -> Result<(), Fail> {
-    let rows: &[(&str, &str, &str)] = &[
-        ("history 3", "history 1", "refused: history version 1\n"),
-        ("history 3", "history 2", "refused: history version 2\n"),
-        ("history 3", "history", "refused: history line 1 rule H1\n"),
-        (
-            "edges 9",
-            "edges 10001",
-            "refused: history line 3 rule H3\n",
-        ),
-        ("test B", "test A", "refused: history line 12 rule H6\n"),
-        ("turns 9", "turns 101", "refused: history line 9 rule H10\n"),
-        (
-            "crossed 5f01",
-            "crossed 5F01",
-            "refused: history line 11 rule H12\n",
-        ),
-        (
-            "crossed 5f01",
-            "crossed 5f0100",
-            "refused: history line 11 rule H12\n",
-        ),
-        (
-            "crossed 5f01",
-            "crossed -",
-            "refused: history line 11 rule H12\n",
-        ),
-    ];
-    for &(that, this, line) in rows {
+fn the_line_says_why_a_changed_history_is_refused(rt: HostRuntime) -> Result<(), Fail> {
+    for &(that, this, line) in CHANGES {
         let history = changed(rt.alloc(), that, this)?;
         history_is_refused(&rt, rt.alloc(), history.as_str(), line)?;
     }
@@ -112,27 +123,13 @@ fn a_history_that_was_cut_names_the_first_line_that_is_not_whole(
     Ok(())
 }
 
+// The digests of both sources are those of `sha256sum`.
 #[test]
-fn a_history_with_a_line_more_breaks_the_rule_on_its_end(rt: HostRuntime) -> Result<(), Fail> {
-    let longer = format!(in rt.alloc(); "{ASSIGNED_HISTORY}x\n")?;
-    let line = "refused: history line 20 rule H14\n";
-    history_is_refused(&rt, rt.alloc(), longer.as_str(), line)
-}
-
-// The digests of both texts and of both sources are those of `sha256sum`.
-#[test]
-fn a_history_with_another_output_or_of_another_source_is_refused(
-    rt: HostRuntime,
-) -> Result<(), Fail> {
-    let alloc = rt.alloc();
-    let spoiled = changed(alloc, "output 42", "output 52")?;
-    let line =
-        "refused: history sum eac55876d49f0d1fe32a649b9e1751d299b9e79be91b030c71dd123e5014b43c 640248bad311aaef3e47f513bddef1b4e21bd313467b3099c777144e995a9d53\n";
-    history_is_refused(&rt, alloc, spoiled.as_str(), line)?;
+fn a_history_of_another_source_is_refused(rt: HostRuntime) -> Result<(), Fail> {
     let versions = (CHOICE, WIDER_CHOICE, ASSIGNED_HISTORY);
     let line =
         "refused: history source f3e7b98b7d4d95f021635d364627ee64e4acd311669841db52966ba816eaeb96 55cf063fed0c1ff01247b560531e02480cc1cbeec6f682006c15fe2eef004f1f\n";
-    selection_is_refused(&rt, alloc, versions, line)
+    selection_is_refused(&rt, rt.alloc(), versions, line)
 }
 
 // `ASSIGNED_HISTORY` with 10 edges in place of its 9, and the sum of that text by `sha256sum`.

@@ -7,128 +7,94 @@ use std::process::Abort;
 use std::test::Fail;
 use std::thread::Threads;
 
-/// What stands for one change: both versions, the suite, the status and the text, and how many tests run.
-#[derive(Clone, Copy)]
-struct Change<'a> {
-    old: &'a str,
-    new: &'a str,
-    suite: &'a str,
-    status: Status8,
-    text: &'a str,
-    runs: u64,
-}
+/// Both versions of a source, a suite, the status and the text on its tests, and how many of them run.
+type Rerun<'a> = (&'a str, &'a str, &'a str, Status8, &'a str, u64);
 
-/// The selected tests of the change run again by so many workers, and the text is what is told.
+/// The selected tests of a history run again by so many workers, and that is told.
 fn rerun_agrees<R: Threads + Abort + Sync>(
     rt: &R,
     alloc: Global,
-    change: &Change<'_>,
     history: &str,
     workers: &str,
+    (old, new, _, status, text, runs): Rerun<'_>,
 ) -> Result<(), Fail> {
     let gate = Counter::new();
-    let files = [
-        ("old", change.old),
-        ("new", change.new),
-        ("history", history),
-    ];
+    let files = [("old", old), ("new", new), ("history", history)];
     let words = ["rerun", "old", "new", "history", "--workers", workers];
-    let (status, text) = answer_counted(rt, alloc, &files, &words, &gate)?;
-    assert_eq!(rt; status, change.status);
-    assert_eq!(rt; text.as_slice(), change.text.as_bytes());
-    assert_eq!(rt; gate.count(), change.runs);
+    let (got, told) = answer_counted(rt, alloc, &files, &words, &gate)?;
+    assert!(rt;
+        got == status && told.as_str() == text && gate.count() == runs,
+        "{new} by {workers} gave {got:?} and {told}"
+    );
     Ok(())
 }
 
-/// The same by 1, 2 and 64 workers.
+/// The same of the history that is recorded of the suite, by 1, 2 and 64 workers.
 fn reruns_agree<R: Threads + Abort + Sync>(
     rt: &R,
     alloc: Global,
-    change: &Change<'_>,
+    row: Rerun<'_>,
 ) -> Result<(), Fail> {
-    let history = recorded(rt, alloc, change.old, change.suite)?;
+    let history = recorded(rt, alloc, row.0, row.2)?;
     for workers in ["1", "2", "64"] {
-        rerun_agrees(rt, alloc, change, history.as_str(), workers)?;
+        rerun_agrees(rt, alloc, history.as_str(), workers, row)?;
     }
     Ok(())
 }
 
-#[test]
-fn a_selected_test_differs_by_its_turns_alone_or_by_its_output(
-    rt: HostRuntime,
-) -> Result<(), Fail> {
-    let alloc = rt.alloc();
-    reruns_agree(
-        &rt,
-        alloc,
-        &Change {
-            old: ASSIGNED,
-            new: "int main(void) { int c; c = getchar(); if (c == 65) { putchar(66); } else { c = c; putchar(67); } return 0; }",
-            suite: TWO,
-            status: Status8::Differs,
-            text: "left A\ndiffers B turns 9 to 10\ndiffer 1 of 2\n",
-            runs: 1,
-        },
-    )?;
-    reruns_agree(
-        &rt,
-        alloc,
-        &Change {
-            old: ASSIGNED,
-            new: "int main(void) { int c; c = getchar(); if (c == 65) { putchar(66); } else { putchar(68); } return 0; }",
-            suite: TWO,
-            status: Status8::Differs,
-            text: "left A\ndiffers B output 43 to 44\ndiffer 1 of 2\n",
-            runs: 1,
-        },
-    )?;
-    reruns_agree(
-        &rt,
-        alloc,
-        &Change {
-            old: "int k = 1; int main(void) { if (getchar() == 65) { putchar(k); } return 0; }",
-            new: "int k = 2; int main(void) { if (getchar() == 65) { putchar(k); } return 0; }",
-            suite: TWO,
-            status: Status8::Differs,
-            text: "differs A output 01 to 02\nleft B\ndiffer 1 of 2\n",
-            runs: 1,
-        },
-    )
-}
+const RERUNS: &[(&str, &str, &str, Status8, &str, u64)] = &[
+    // A selected test differs by its turns alone or by its output.
+    (
+        ASSIGNED,
+        "int main(void) { int c; c = getchar(); if (c == 65) { putchar(66); } else { c = c; putchar(67); } return 0; }",
+        TWO,
+        Status8::Differs,
+        "left A\ndiffers B turns 9 to 10\ndiffer 1 of 2\n",
+        1,
+    ),
+    (
+        ASSIGNED,
+        "int main(void) { int c; c = getchar(); if (c == 65) { putchar(66); } else { putchar(68); } return 0; }",
+        TWO,
+        Status8::Differs,
+        "left A\ndiffers B output 43 to 44\ndiffer 1 of 2\n",
+        1,
+    ),
+    (
+        "int k = 1; int main(void) { if (getchar() == 65) { putchar(k); } return 0; }",
+        "int k = 2; int main(void) { if (getchar() == 65) { putchar(k); } return 0; }",
+        TWO,
+        Status8::Differs,
+        "differs A output 01 to 02\nleft B\ndiffer 1 of 2\n",
+        1,
+    ),
+    // Where nothing is selected nothing runs.
+    (
+        ASSIGNED,
+        "int main(void) /* a */ {int c; (c) = (getchar()); if ((c == 65)) putchar(66); else { { putchar((67)); } } return (0); }",
+        TWO,
+        Status8::Done,
+        "left A\nleft B\ndiffer 0 of 2\n",
+        0,
+    ),
+    // A selected test that does as before is the same.
+    // The type of `g` is another one, but what is written to it and to the output isn't.
+    (
+        "int g; int main(void) { putchar(65); if (getchar() == 66) { g = 300; } return 0; }",
+        "char g; int main(void) { putchar(65); if (getchar() == 66) { g = 300; } return 0; }",
+        TWO,
+        Status8::Done,
+        "left A\nsame B\ndiffer 0 of 2\n",
+        1,
+    ),
+];
 
 #[test]
-fn where_nothing_is_selected_nothing_runs(rt: HostRuntime) -> Result<(), Fail> {
-    let alloc = rt.alloc();
-    reruns_agree(
-        &rt,
-        alloc,
-        &Change {
-            old: ASSIGNED,
-            new: "int main(void) /* a */ {int c; (c) = (getchar()); if ((c == 65)) putchar(66); else { { putchar((67)); } } return (0); }",
-            suite: TWO,
-            status: Status8::Done,
-            text: "left A\nleft B\ndiffer 0 of 2\n",
-            runs: 0,
-        },
-    )
-}
-
-// The type of `g` is another one, but what is written to it and to the output isn't.
-#[test]
-fn a_selected_test_that_does_as_before_is_the_same(rt: HostRuntime) -> Result<(), Fail> {
-    let alloc = rt.alloc();
-    reruns_agree(
-        &rt,
-        alloc,
-        &Change {
-            old: "int g; int main(void) { putchar(65); if (getchar() == 66) { g = 300; } return 0; }",
-            new: "char g; int main(void) { putchar(65); if (getchar() == 66) { g = 300; } return 0; }",
-            suite: TWO,
-            status: Status8::Done,
-            text: "left A\nsame B\ndiffer 0 of 2\n",
-            runs: 1,
-        },
-    )
+fn a_selected_test_is_the_same_or_differs(rt: HostRuntime) -> Result<(), Fail> {
+    for row in RERUNS {
+        reruns_agree(&rt, rt.alloc(), *row)?;
+    }
+    Ok(())
 }
 
 const COUNTED_AGAIN: &str =
@@ -138,18 +104,14 @@ const COUNTED_AGAIN: &str =
 fn three_of_twelve_tests_of_the_word_counter_run_again_and_differ(
     rt: HostRuntime,
 ) -> Result<(), Fail> {
-    let alloc = rt.alloc();
-    let changed = changed_counter(alloc)?;
-    reruns_agree(
-        &rt,
-        alloc,
-        &Change {
-            old: WORD_COUNTER,
-            new: changed.as_str(),
-            suite: COUNTED,
-            status: Status8::Differs,
-            text: COUNTED_AGAIN,
-            runs: 3,
-        },
-    )
+    let changed = changed_counter(rt.alloc())?;
+    let row = (
+        WORD_COUNTER,
+        changed.as_str(),
+        COUNTED,
+        Status8::Differs,
+        COUNTED_AGAIN,
+        3,
+    );
+    reruns_agree(&rt, rt.alloc(), row)
 }

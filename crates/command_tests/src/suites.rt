@@ -1,5 +1,5 @@
 //! Suites that are none, and the line that says why.
-use crate::files::answer_agrees;
+use crate::files::{answer_agrees, repeated};
 use dejavu_cli::Status8;
 use std::alloc::Global;
 use std::process::Abort;
@@ -17,37 +17,39 @@ fn suite_is_refused<R: Threads + Abort + Sync>(
 ) -> Result<(), Fail> {
     let files = [("source", SOURCE), ("suite", suite)];
     let words = ["record", "source", "suite"];
-    answer_agrees(rt, alloc, &files, &words, Status8::Suite, line)
+    answer_agrees(rt, alloc, &files, &words, (Status8::Suite, line))
 }
+
+/// Suites, and the lines that say why they are refused.
+const REFUSED: &[(&str, &str)] = &[
+    ("", "refused: suite line 1 rule S1\n"),
+    ("dejavu suite 2\n", "refused: suite line 1 rule S1\n"),
+    ("dejavu suite 1", "refused: suite line 1 rule S2\n"),
+    (
+        "dejavu suite 1\ntest A 1 \n",
+        "refused: suite line 2 rule S3\n",
+    ),
+    (
+        "dejavu suite 1\ntest A/ 1 -\n",
+        "refused: suite line 2 rule S4\n",
+    ),
+    (
+        "dejavu suite 1\ntest A 10000001 -\n",
+        "refused: suite line 2 rule S5\n",
+    ),
+    (
+        "dejavu suite 1\ntest A 1 4\n",
+        "refused: suite line 2 rule S6\n",
+    ),
+    (
+        "dejavu suite 1\ntest A 1 -\ntest A 2 -\n",
+        "refused: suite line 3 twice\n",
+    ),
+];
 
 #[test]
 fn the_line_says_why_a_suite_is_refused(rt: HostRuntime) -> Result<(), Fail> {
-    let rows: &[(&str, &str)] = &[
-        ("", "refused: suite line 1 rule S1\n"),
-        ("dejavu suite 2\n", "refused: suite line 1 rule S1\n"),
-        ("dejavu suite 1", "refused: suite line 1 rule S2\n"),
-        (
-            "dejavu suite 1\ntest A 1 \n",
-            "refused: suite line 2 rule S3\n",
-        ),
-        (
-            "dejavu suite 1\ntest A/ 1 -\n",
-            "refused: suite line 2 rule S4\n",
-        ),
-        (
-            "dejavu suite 1\ntest A 10000001 -\n",
-            "refused: suite line 2 rule S5\n",
-        ),
-        (
-            "dejavu suite 1\ntest A 1 4\n",
-            "refused: suite line 2 rule S6\n",
-        ),
-        (
-            "dejavu suite 1\ntest A 1 -\ntest A 2 -\n",
-            "refused: suite line 3 twice\n",
-        ),
-    ];
-    for &(suite, line) in rows {
+    for &(suite, line) in REFUSED {
         suite_is_refused(&rt, rt.alloc(), suite, line)?;
     }
     Ok(())
@@ -66,10 +68,6 @@ fn a_suite_may_have_8192_tests(rt: HostRuntime) -> Result<(), Fail> {
 
 #[test]
 fn a_suite_may_have_16777216_bytes(rt: HostRuntime) -> Result<(), Fail> {
-    let alloc = rt.alloc();
-    let mut suite = String::from_str(alloc, "dejavu suite 1\n")?;
-    for _ in 0..16_777_202 {
-        suite.push('x')?;
-    }
-    suite_is_refused(&rt, alloc, suite.as_str(), "refused: suite too long\n")
+    let suite = repeated(rt.alloc(), "dejavu suite 1\n", "x", 16_777_202, "")?;
+    suite_is_refused(&rt, rt.alloc(), suite.as_str(), "refused: suite too long\n")
 }

@@ -17,28 +17,29 @@ fn history<R: Threads + Sync>(
     source: &str,
     suite: &str,
     workers: &str,
-) -> Result<Vec<u8>, Fail> {
+) -> Result<String, Fail> {
     let files = [("source", source), ("suite", suite)];
     let words = ["record", "--workers", workers, "source", "suite"];
     match answer_about(rt, alloc, &files, &words)? {
-        (Status8::Done, bytes) => Ok(bytes),
+        (Status8::Done, history) => Ok(history),
         _ => Err("refused".into()),
     }
 }
 
+/// Sources and suites.
+const RECORDED: &[(&str, &str)] = &[
+    (WORD_COUNTER, COUNTED),
+    (ASSIGNED, "dejavu suite 1\n"),
+    (ASSIGNED, TWO),
+];
+
 #[test]
 fn any_number_of_workers_records_the_same(rt: HostRuntime) -> Result<(), Fail> {
-    let alloc = rt.alloc();
-    let rows = &[
-        (WORD_COUNTER, COUNTED),
-        (ASSIGNED, "dejavu suite 1\n"),
-        (ASSIGNED, TWO),
-    ];
-    for &(source, suite) in rows {
-        let one = history(&rt, alloc, source, suite, "1")?;
+    for &(source, suite) in RECORDED {
+        let one = history(&rt, rt.alloc(), source, suite, "1")?;
         for workers in ["2", "3", "64"] {
-            let more = history(&rt, alloc, source, suite, workers)?;
-            assert!(rt; one.as_slice() == more.as_slice(), "{workers} workers");
+            let more = history(&rt, rt.alloc(), source, suite, workers)?;
+            assert!(rt; one.as_str() == more.as_str(), "{workers} workers");
         }
     }
     Ok(())
@@ -105,9 +106,11 @@ fn two_workers_meet<R: Threads + Abort + Sync>(
 ) -> Result<(), Fail> {
     let gate = Marks::new(first, second);
     let (status, _) = answer_counted(rt, alloc, texts, words, &gate)?;
-    assert_eq!(rt; status, Status8::Done);
-    assert_eq!(rt; gate.passed.load(Ordering::SeqCst), passed);
-    assert_eq!(rt; gate.seen.load(Ordering::SeqCst), 2);
+    let counts = (
+        gate.passed.load(Ordering::SeqCst),
+        gate.seen.load(Ordering::SeqCst),
+    );
+    assert!(rt; status == Status8::Done && counts == (passed, 2));
     Ok(())
 }
 

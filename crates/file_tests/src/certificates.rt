@@ -1,7 +1,8 @@
 //! Certificates that are read and written. The sums were taken by Python's hashlib; the digests of `abc` and of no bytes are
 //! the examples of FIPS 180-4.
+use crate::known_history::lines_before;
 use cert_text::{Bounds, Certificate, CertificateError, read_text, write_certificate};
-use line_text::{cut_line, read_digest};
+use line_text::read_digest;
 use std::alloc::{AllocError, Global};
 use std::test::Fail;
 
@@ -51,16 +52,7 @@ fn refusal_of(alloc: Global, text: &[u8], old: &[u8], new: &[u8]) -> Option<Cert
 
 /// The lines of `TEXT` before its line `number`, and then these bytes.
 fn after_lines(alloc: Global, number: u32, bytes: &[u8]) -> Result<Vec<u8>, AllocError> {
-    let mut out = Vec::new(alloc);
-    let mut rest = TEXT;
-    for _ in 1..number {
-        let Some(line) = cut_line(rest) else {
-            break;
-        };
-        out.extend_from_slice(line.bytes)?;
-        out.push(b'\n')?;
-        rest = line.rest;
-    }
+    let mut out = lines_before(alloc, TEXT, number)?;
     out.extend_from_slice(bytes)?;
     Ok(out)
 }

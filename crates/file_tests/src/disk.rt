@@ -16,6 +16,18 @@ fn long_content(alloc: Global) -> Result<Vec<u8>, AllocError> {
     Ok(content)
 }
 
+/// How much is asked for, and how much comes.
+const LIMITS: &[(usize, usize)] = &[
+    (0, 0),
+    (1, 1),
+    (8_192, 8_192),
+    (8_193, 8_193),
+    (9_999, 9_999),
+    (10_000, 10_000),
+    (10_001, 10_000),
+    (100_000, 10_000),
+];
+
 #[test]
 fn a_real_file_is_read_up_to_the_limit(rt: HostRuntime) -> Result<(), Fail> {
     let alloc = rt.alloc();
@@ -23,16 +35,7 @@ fn a_real_file_is_read_up_to_the_limit(rt: HostRuntime) -> Result<(), Fail> {
     let path = format!(in alloc; "file_tests-{}", process::id(rt.process()))?;
     fs::write(&rt, path.as_str(), content.as_slice())?;
     let mut shelf = DiskShelf::new(&rt, alloc);
-    for &(most, wanted) in &[
-        (0, 0),
-        (1, 1),
-        (8_192, 8_192),
-        (8_193, 8_193),
-        (9_999, 9_999),
-        (10_000, 10_000),
-        (10_001, 10_000),
-        (100_000, 10_000),
-    ] {
+    for &(most, wanted) in LIMITS {
         let bytes = shelf.fetch(path.as_str(), most)?;
         assert_eq!(rt;
             Some(bytes.as_slice()),

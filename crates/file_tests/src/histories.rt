@@ -66,60 +66,6 @@ fn text_again(alloc: Global, text: &[u8]) -> Result<Vec<u8>, Fail> {
     Ok(again)
 }
 
-#[test]
-fn an_entry_has_seven_lines(rt: HostRuntime) -> Result<(), Fail> {
-    let text = text_of(
-        rt.alloc(),
-        b"dejavu suite 1\ntest A 100 41\ntest B 100 42\n",
-        &[
-            (Status::Exit(0), 9, b"B", &[0, 1, 2, 3, 4, 6, 8]),
-            (Status::Exit(0), 9, b"C", &[8, 7, 5, 3, 2, 1, 0, 0]),
-        ],
-    )?;
-    let want = "dejavu history 3\n\
-         source f3e7b98b7d4d95f021635d364627ee64e4acd311669841db52966ba816eaeb96\n\
-         edges 9\ntests 2\n\
-         test A\nbudget 100\ninput 41\nstatus exit 0\nturns 9\noutput 42\ncrossed 5f01\n\
-         test B\nbudget 100\ninput 42\nstatus exit 0\nturns 9\noutput 43\ncrossed af01\n\
-         end eac55876d49f0d1fe32a649b9e1751d299b9e79be91b030c71dd123e5014b43c\n";
-    assert!(rt; text.as_slice() == want.as_bytes());
-    assert!(rt; text_again(rt.alloc(), &text)?.as_slice() == want.as_bytes());
-    Ok(())
-}
-
-#[test]
-fn what_is_empty_is_a_dash(rt: HostRuntime) -> Result<(), Fail> {
-    let text = text_of(
-        rt.alloc(),
-        b"dejavu suite 1\ntest Z 0 -\n",
-        &[(Status::Turns, 0, b"", &[])],
-    )?;
-    let want = "dejavu history 3\n\
-         source f3e7b98b7d4d95f021635d364627ee64e4acd311669841db52966ba816eaeb96\n\
-         edges 9\ntests 1\n\
-         test Z\nbudget 0\ninput -\nstatus turns\nturns 0\noutput -\ncrossed 0000\n\
-         end 1398e80858f678d15cbe6bb52aec344480156fe865a408c4058537b25a4b9b36\n";
-    assert!(rt; text.as_slice() == want.as_bytes());
-    assert!(rt; text_again(rt.alloc(), &text)?.as_slice() == want.as_bytes());
-    Ok(())
-}
-
-#[test]
-fn a_history_may_have_no_entry(rt: HostRuntime) -> Result<(), Fail> {
-    let text = text_of(rt.alloc(), b"dejavu suite 1\n", &[])?;
-    let want = "dejavu history 3\n\
-         source f3e7b98b7d4d95f021635d364627ee64e4acd311669841db52966ba816eaeb96\n\
-         edges 9\ntests 0\n\
-         end 8db80b913844150239fb5ef64f6950d627052b93e5984d18fc02d408ab46cb0a\n";
-    assert!(rt; text.as_slice() == want.as_bytes());
-    assert!(rt; text_again(rt.alloc(), &text)?.as_slice() == want.as_bytes());
-    Ok(())
-}
-
-fn trapped(trap: Trap) -> Results<'static> {
-    (Status::Trap(trap), 5, b"x", &[0, 2, 3])
-}
-
 /// The tests of runs of all ends.
 const ALL_ENDS: &[u8] = b"dejavu suite 1\n\
     test overflow 100 -\n\
@@ -146,40 +92,84 @@ const ALL_ENDS_TEXT: &str = "dejavu history 3\n\
     test exit\nbudget 10000000\ninput 00ff\nstatus exit 255\nturns 10000000\noutput -\ncrossed 0001\n\
     end e310979df4ec9ea873650f2454a21d81a38aefb7232c6187d458a9286fd8c69d\n";
 
-#[test]
-fn every_end_of_a_run_has_its_words(rt: HostRuntime) -> Result<(), Fail> {
-    let text = text_of(
-        rt.alloc(),
+/// Suites, what the runs of their tests gave, and the texts of the histories.
+const WRITTEN: &[(&[u8], &[(Status, u32, &[u8], &[u32])], &str)] = &[
+    // An entry has seven lines.
+    (
+        b"dejavu suite 1\ntest A 100 41\ntest B 100 42\n",
+        &[
+            (Status::Exit(0), 9, b"B", &[0, 1, 2, 3, 4, 6, 8]),
+            (Status::Exit(0), 9, b"C", &[8, 7, 5, 3, 2, 1, 0, 0]),
+        ],
+        "dejavu history 3\n\
+         source f3e7b98b7d4d95f021635d364627ee64e4acd311669841db52966ba816eaeb96\n\
+         edges 9\ntests 2\n\
+         test A\nbudget 100\ninput 41\nstatus exit 0\nturns 9\noutput 42\ncrossed 5f01\n\
+         test B\nbudget 100\ninput 42\nstatus exit 0\nturns 9\noutput 43\ncrossed af01\n\
+         end eac55876d49f0d1fe32a649b9e1751d299b9e79be91b030c71dd123e5014b43c\n",
+    ),
+    // What is empty is a dash.
+    (
+        b"dejavu suite 1\ntest Z 0 -\n",
+        &[(Status::Turns, 0, b"", &[])],
+        "dejavu history 3\n\
+         source f3e7b98b7d4d95f021635d364627ee64e4acd311669841db52966ba816eaeb96\n\
+         edges 9\ntests 1\n\
+         test Z\nbudget 0\ninput -\nstatus turns\nturns 0\noutput -\ncrossed 0000\n\
+         end 1398e80858f678d15cbe6bb52aec344480156fe865a408c4058537b25a4b9b36\n",
+    ),
+    // A history may have no entry.
+    (
+        b"dejavu suite 1\n",
+        &[],
+        "dejavu history 3\n\
+         source f3e7b98b7d4d95f021635d364627ee64e4acd311669841db52966ba816eaeb96\n\
+         edges 9\ntests 0\n\
+         end 8db80b913844150239fb5ef64f6950d627052b93e5984d18fc02d408ab46cb0a\n",
+    ),
+    // Every end of a run has its words.
+    (
         ALL_ENDS,
         &[
-            trapped(Trap::Overflow),
-            trapped(Trap::Divide),
-            trapped(Trap::Shift),
-            trapped(Trap::Bounds),
-            trapped(Trap::Unset),
-            trapped(Trap::Flood),
-            trapped(Trap::Depth),
-            trapped(Trap::Missing),
+            (Status::Trap(Trap::Overflow), 5, b"x", &[0, 2, 3]),
+            (Status::Trap(Trap::Divide), 5, b"x", &[0, 2, 3]),
+            (Status::Trap(Trap::Shift), 5, b"x", &[0, 2, 3]),
+            (Status::Trap(Trap::Bounds), 5, b"x", &[0, 2, 3]),
+            (Status::Trap(Trap::Unset), 5, b"x", &[0, 2, 3]),
+            (Status::Trap(Trap::Flood), 5, b"x", &[0, 2, 3]),
+            (Status::Trap(Trap::Depth), 5, b"x", &[0, 2, 3]),
+            (Status::Trap(Trap::Missing), 5, b"x", &[0, 2, 3]),
             (Status::Exit(255), 10_000_000, b"", &[8]),
         ],
-    )?;
-    assert!(rt; text.as_slice() == ALL_ENDS_TEXT.as_bytes());
-    assert!(rt; text_again(rt.alloc(), &text)?.as_slice() == ALL_ENDS_TEXT.as_bytes());
+        ALL_ENDS_TEXT,
+    ),
+];
+
+#[test]
+fn a_history_is_written_and_read_again(rt: HostRuntime) -> Result<(), Fail> {
+    for &(suite, results, want) in WRITTEN {
+        let text = text_of(rt.alloc(), suite, results)?;
+        assert!(rt; text.as_slice() == want.as_bytes(), "{want}");
+        let again = text_again(rt.alloc(), &text)?;
+        assert!(rt; again.as_slice() == want.as_bytes(), "{want}");
+    }
     Ok(())
 }
 
+const DIGESTS: &[(&str, &str)] = &[
+    (
+        "",
+        "e3b0c44298fc1c149afbf4c8996fb92427ae41e4649b934ca495991b7852b855",
+    ),
+    (
+        "abc",
+        "ba7816bf8f01cfea414140de5dae2223b00361a396177a9cb410ff61f20015ad",
+    ),
+];
+
 #[test]
 fn digests_are_those_of_the_standard(rt: HostRuntime) -> Result<(), Fail> {
-    for &(source, want) in &[
-        (
-            "",
-            "e3b0c44298fc1c149afbf4c8996fb92427ae41e4649b934ca495991b7852b855",
-        ),
-        (
-            "abc",
-            "ba7816bf8f01cfea414140de5dae2223b00361a396177a9cb410ff61f20015ad",
-        ),
-    ] {
+    for &(source, want) in DIGESTS {
         let mut digits = Vec::new(rt.alloc());
         push_hex(&mut digits, &digest_of(source.as_bytes()))?;
         assert!(rt; digits.as_slice() == want.as_bytes(), "{source}");

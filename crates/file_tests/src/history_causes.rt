@@ -1,5 +1,5 @@
 //! A history that is read, and the causes of which one hides the next. The digests and sums were taken by `sha256sum`.
-use crate::known_history::{DIGEST, OTHER, SOURCE, TWO_TESTS, refusal, with_line};
+use crate::known_history::{DIGEST, OTHER, SOURCE, TWO_TESTS, refusal, refusal_with, with_line};
 use csub_core::Status;
 use line_text::read_digest;
 use std::test::Fail;
@@ -13,6 +13,19 @@ const SUM_WITH_52: &[u8] = b"640248bad311aaef3e47f513bddef1b4e21bd313467b3099c77
 /// The digest of the other source.
 const OTHER_DIGEST: &[u8] = b"55cf063fed0c1ff01247b560531e02480cc1cbeec6f682006c15fe2eef004f1f";
 
+/// The edges that B crossed.
+const CROSSED: &[(u32, bool)] = &[
+    (0, true),
+    (1, true),
+    (2, true),
+    (3, true),
+    (4, false),
+    (5, true),
+    (6, false),
+    (7, true),
+    (8, true),
+];
+
 #[test]
 fn a_history_is_read_and_written_as_it_was(rt: HostRuntime) -> Result<(), Fail> {
     let history = read_history(rt.alloc(), TWO_TESTS, SOURCE, 9)?;
@@ -25,17 +38,7 @@ fn a_history_is_read_and_written_as_it_was(rt: HostRuntime) -> Result<(), Fail> 
     assert!(rt; second.output() == b"C".as_slice());
     let crossed = second.crossed();
     assert_eq!(rt; crossed.edges(), 9);
-    for &(edge, want) in &[
-        (0, true),
-        (1, true),
-        (2, true),
-        (3, true),
-        (4, false),
-        (5, true),
-        (6, false),
-        (7, true),
-        (8, true),
-    ] {
+    for &(edge, want) in CROSSED {
         assert!(rt;
             edge < crossed.edges() && crossed.has(edge) == want,
             "{edge}"
@@ -44,20 +47,19 @@ fn a_history_is_read_and_written_as_it_was(rt: HostRuntime) -> Result<(), Fail> 
     Ok(())
 }
 
+const VERSIONS: &[(&str, u32)] = &[
+    ("dejavu history 1\n", 1),
+    ("dejavu history 2\n", 2),
+    ("dejavu history 4\n", 4),
+    ("dejavu history 0\n", 0),
+    ("dejavu history 999999999\n", 999_999_999),
+];
+
 #[test]
 fn another_version_is_told(rt: HostRuntime) -> Result<(), Fail> {
-    for &(line, version) in &[
-        ("dejavu history 1\n", 1),
-        ("dejavu history 2\n", 2),
-        ("dejavu history 4\n", 4),
-        ("dejavu history 0\n", 0),
-        ("dejavu history 999999999\n", 999_999_999),
-    ] {
-        let text = with_line(rt.alloc(), TWO_TESTS, 1, line)?;
-        assert!(rt;
-            refusal(rt.alloc(), &text) == Some(HistoryError::Version(version)),
-            "{line}"
-        );
+    for &(line, version) in VERSIONS {
+        let answer = refusal_with(rt.alloc(), 1, line)?;
+        assert!(rt; answer == Some(HistoryError::Version(version)), "{line}");
         assert!(rt; refusal(rt.alloc(), line.as_bytes()) == Some(HistoryError::Version(version)));
     }
     // without its newline the line is none

@@ -1,24 +1,7 @@
 //! The rules of a history's lines.
-use crate::known_history::{TWO_TESTS, refusal, with_line};
-use line_text::cut_line;
-use std::alloc::{AllocError, Global};
+use crate::known_history::{TWO_TESTS, lines_before, refusal, refusal_with, with_line};
 use std::test::Fail;
 use test_history::HistoryError;
-
-/// The lines of a text before its line `number`.
-fn lines_before(alloc: Global, text: &[u8], number: u32) -> Result<Vec<u8>, AllocError> {
-    let mut out = Vec::new(alloc);
-    let mut rest = text;
-    for _ in 1..number {
-        let Some(line) = cut_line(rest) else {
-            break;
-        };
-        out.extend_from_slice(line.bytes)?;
-        out.push(b'\n')?;
-        rest = line.rest;
-    }
-    Ok(out)
-}
 
 /// The rule of a line of `TWO_TESTS`; of lines 5 and 12 the lesser.
 fn rule_of(line: u32) -> u8 {
@@ -153,15 +136,38 @@ const REFUSED: &[(u32, &str, u32, u8)] = &[
     (4, "tests 0\n", 5, 13),
 ];
 
+/// A number of a line, and what may stand in its place.
+const WITHIN: &[(u32, &str)] = &[
+    (3, "edges 16\n"),
+    (5, "test _9.a-B\n"),
+    (6, "budget 9\n"),
+    (6, "budget 10000000\n"),
+    (7, "input -\n"),
+    (7, "input 00ff\n"),
+    (8, "status exit 255\n"),
+    (8, "status trap missing\n"),
+    (8, "status turns\n"),
+    (9, "turns 0\n"),
+    (9, "turns 100\n"),
+    (10, "output -\n"),
+    (11, "crossed 0000\n"),
+    (11, "crossed 0001\n"),
+    (11, "crossed ff01\n"),
+];
+
 #[test]
 fn every_line_has_a_rule(rt: HostRuntime) -> Result<(), Fail> {
-    for (number, bytes, line, rule) in REFUSED {
-        let text = with_line(rt.alloc(), TWO_TESTS, *number, bytes)?;
-        let answer = refusal(rt.alloc(), &text);
+    for &(number, bytes, line, rule) in REFUSED {
+        let answer = refusal_with(rt.alloc(), number, bytes)?;
         assert!(rt;
-            answer == Some(HistoryError::Malformed(*line, *rule)),
+            answer == Some(HistoryError::Malformed(line, rule)),
             "{bytes}"
         );
+    }
+    for &(number, bytes) in WITHIN {
+        // the sum alone is wrong
+        let answer = refusal_with(rt.alloc(), number, bytes)?;
+        assert!(rt; matches!(answer, Some(HistoryError::Sum(_, _))), "{bytes}");
     }
     Ok(())
 }
@@ -175,33 +181,6 @@ fn a_line_that_is_missing_or_has_no_newline_breaks_its_rule(rt: HostRuntime) -> 
         let mut unended = lines_before(rt.alloc(), TWO_TESTS, line + 1)?;
         unended.pop();
         assert!(rt; refusal(rt.alloc(), &unended) == want, "{line}");
-    }
-    Ok(())
-}
-
-#[test]
-fn what_is_within_the_limits_is_no_fault(rt: HostRuntime) -> Result<(), Fail> {
-    for &(number, bytes) in &[
-        (3, "edges 16\n"),
-        (5, "test _9.a-B\n"),
-        (6, "budget 9\n"),
-        (6, "budget 10000000\n"),
-        (7, "input -\n"),
-        (7, "input 00ff\n"),
-        (8, "status exit 255\n"),
-        (8, "status trap missing\n"),
-        (8, "status turns\n"),
-        (9, "turns 0\n"),
-        (9, "turns 100\n"),
-        (10, "output -\n"),
-        (11, "crossed 0000\n"),
-        (11, "crossed 0001\n"),
-        (11, "crossed ff01\n"),
-    ] {
-        // the sum alone is wrong
-        let text = with_line(rt.alloc(), TWO_TESTS, number, bytes)?;
-        let answer = refusal(rt.alloc(), &text);
-        assert!(rt; matches!(answer, Some(HistoryError::Sum(_, _))), "{bytes}");
     }
     Ok(())
 }

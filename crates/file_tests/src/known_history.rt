@@ -55,6 +55,21 @@ pub const TWO_TESTS_2: &[u8] = b"dejavu history 2\n\
     crossed 0 1 2 3 5 7 8\n\
     end 9174ede2403bebc220bab3f30412b8655668d061f0330d0457b2082fb2652a96\n";
 
+/// The lines of a text before its line `number`.
+pub fn lines_before(alloc: Global, text: &[u8], number: u32) -> Result<Vec<u8>, AllocError> {
+    let mut out = Vec::new(alloc);
+    let mut rest = text;
+    for _ in 1..number {
+        let Some(line) = cut_line(rest) else {
+            break;
+        };
+        out.extend_from_slice(line.bytes)?;
+        out.push(b'\n')?;
+        rest = line.rest;
+    }
+    Ok(out)
+}
+
 /// The text with another in place of its line `number`, newline and all.
 pub fn with_line(
     alloc: Global,
@@ -98,4 +113,24 @@ pub fn refusal(alloc: Global, text: &[u8]) -> Option<HistoryError> {
 /// Why a text is refused as a history of `SOURCE` in version 2.
 pub fn refusal_2(alloc: Global, text: &[u8]) -> Option<HistoryError> {
     read_history_2(alloc, text, SOURCE, 9).err()
+}
+
+/// Why `TWO_TESTS` is refused with another line in place of its line `number`.
+pub fn refusal_with(
+    alloc: Global,
+    number: u32,
+    line: &str,
+) -> Result<Option<HistoryError>, AllocError> {
+    let text = with_line(alloc, TWO_TESTS, number, line)?;
+    Ok(refusal(alloc, &text))
+}
+
+/// The same of `TWO_TESTS_2`.
+pub fn refusal_2_with(
+    alloc: Global,
+    number: u32,
+    line: &str,
+) -> Result<Option<HistoryError>, AllocError> {
+    let text = with_line(alloc, TWO_TESTS_2, number, line)?;
+    Ok(refusal_2(alloc, &text))
 }

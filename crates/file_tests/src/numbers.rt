@@ -6,81 +6,89 @@ use line_text::{
 };
 use std::test::Fail;
 
+const UNSIGNED: &[(&str, Option<u64>)] = &[
+    ("0", Some(0)),
+    ("9", Some(9)),
+    ("10", Some(10)),
+    ("18446744073709551615", Some(u64::MAX)),
+    ("18446744073709551616", None),
+    ("99999999999999999999", None),
+    ("100000000000000000000", None),
+    ("", None),
+    ("00", None),
+    ("01", None),
+    ("+1", None),
+    ("-1", None),
+    (" 1", None),
+    ("1 ", None),
+    ("1a", None),
+];
+
 #[test]
 fn unsigned_numbers_have_one_text(rt: HostRuntime) {
-    for &(text, want) in &[
-        ("0", Some(0)),
-        ("9", Some(9)),
-        ("10", Some(10)),
-        ("18446744073709551615", Some(u64::MAX)),
-        ("18446744073709551616", None),
-        ("99999999999999999999", None),
-        ("100000000000000000000", None),
-        ("", None),
-        ("00", None),
-        ("01", None),
-        ("+1", None),
-        ("-1", None),
-        (" 1", None),
-        ("1 ", None),
-        ("1a", None),
-    ] {
+    for &(text, want) in UNSIGNED {
         assert!(rt; read_decimal(text.as_bytes(), u64::MAX) == want, "{text}");
     }
     assert!(rt; read_decimal(b"255", 255) == Some(255));
     assert!(rt; read_decimal(b"256", 255).is_none());
 }
 
+const SIGNED: &[(&str, Option<i64>)] = &[
+    ("0", Some(0)),
+    ("-1", Some(-1)),
+    ("9223372036854775807", Some(i64::MAX)),
+    ("9223372036854775808", None),
+    ("-9223372036854775808", Some(i64::MIN)),
+    ("-9223372036854775809", None),
+    ("-0", None),
+    ("-01", None),
+    ("--1", None),
+    ("+1", None),
+    ("-", None),
+    ("", None),
+];
+
 #[test]
 fn signed_numbers_have_one_text(rt: HostRuntime) {
-    for &(text, want) in &[
-        ("0", Some(0)),
-        ("-1", Some(-1)),
-        ("9223372036854775807", Some(i64::MAX)),
-        ("9223372036854775808", None),
-        ("-9223372036854775808", Some(i64::MIN)),
-        ("-9223372036854775809", None),
-        ("-0", None),
-        ("-01", None),
-        ("--1", None),
-        ("+1", None),
-        ("-", None),
-        ("", None),
-    ] {
+    for &(text, want) in SIGNED {
         assert!(rt; read_signed(text.as_bytes()) == want, "{text}");
     }
 }
 
+const HEXADECIMAL: &[(&str, Option<&[u8]>)] = &[
+    ("", Some(b"")),
+    ("00", Some(b"\x00")),
+    ("ff", Some(b"\xff")),
+    ("0a0b", Some(b"\x0a\x0b")),
+    ("FF", None),
+    ("0A0b", None),
+    ("f", None),
+    ("0g", None),
+    ("-", None),
+];
+
 #[test]
 fn hexadecimal_has_one_text(rt: HostRuntime) -> Result<(), Fail> {
     let alloc = rt.alloc();
-    for &(text, want) in &[
-        ("", Some(b"".as_slice())),
-        ("00", Some(b"\x00".as_slice())),
-        ("ff", Some(b"\xff".as_slice())),
-        ("0a0b", Some(b"\x0a\x0b".as_slice())),
-        ("FF", None),
-        ("0A0b", None),
-        ("f", None),
-        ("0g", None),
-        ("-", None),
-    ] {
+    for &(text, want) in HEXADECIMAL {
         let read = read_hex(alloc, text.as_bytes())?;
         assert!(rt; read.as_deref() == want, "{text}");
     }
     Ok(())
 }
 
+const OR_DASH: &[(&str, Option<&[u8]>)] = &[
+    ("-", Some(b"")),
+    ("2d", Some(b"-")),
+    ("", None),
+    ("--", None),
+    ("-00", None),
+];
+
 #[test]
 fn no_bytes_are_a_dash(rt: HostRuntime) -> Result<(), Fail> {
     let alloc = rt.alloc();
-    for &(text, want) in &[
-        ("-", Some(b"".as_slice())),
-        ("2d", Some(b"-".as_slice())),
-        ("", None),
-        ("--", None),
-        ("-00", None),
-    ] {
+    for &(text, want) in OR_DASH {
         let read = read_bytes_or_dash(alloc, text.as_bytes())?;
         assert!(rt; read.as_deref() == want, "{text}");
     }

@@ -69,40 +69,45 @@ fn ordering<R: Threads + Sync, G: Gate>(
     Ok((placed, text))
 }
 
+const ALL: [Choice; 3] = [SELECTED, SELECTED, SELECTED];
+
+/// None of the tests crossed an edge.
+const NOTHING: [&[u32]; 3] = [&[], &[], &[]];
+
+/// The edges that the tests crossed, which ones are selected, and the text on their order.
+const ORDERS: &[([&[u32]; 3], [Choice; 3], &str)] = &[
+    (
+        TWO_ALIKE,
+        ALL,
+        "A adds 7\nB adds 2\nC adds 0\nordered 3 of 3\n",
+    ),
+    (
+        TWO_ALIKE,
+        [Choice::Left, SELECTED, SELECTED],
+        "C adds 7\nB adds 2\nordered 2 of 3\n",
+    ),
+    (
+        TWO_ALIKE,
+        [Choice::Left, Choice::Left, Choice::Left],
+        "ordered 0 of 3\n",
+    ),
+    (
+        TWO_EQUALS,
+        ALL,
+        "C adds 2\nA adds 1\nB adds 0\nordered 3 of 3\n",
+    ),
+    (
+        NOTHING,
+        ALL,
+        "A adds 0\nC adds 0\nB adds 0\nordered 3 of 3\n",
+    ),
+];
+
 #[test]
 fn the_order_goes_by_what_each_test_adds(rt: HostRuntime) -> Result<(), Fail> {
-    let alloc = rt.alloc();
-    let all = [SELECTED, SELECTED, SELECTED];
-    let cases: [([&[u32]; 3], [Choice; 3], &str); 5] = [
-        (
-            TWO_ALIKE,
-            all,
-            "A adds 7\nB adds 2\nC adds 0\nordered 3 of 3\n",
-        ),
-        (
-            TWO_ALIKE,
-            [Choice::Left, SELECTED, SELECTED],
-            "C adds 7\nB adds 2\nordered 2 of 3\n",
-        ),
-        (
-            TWO_ALIKE,
-            [Choice::Left, Choice::Left, Choice::Left],
-            "ordered 0 of 3\n",
-        ),
-        (
-            TWO_EQUALS,
-            all,
-            "C adds 2\nA adds 1\nB adds 0\nordered 3 of 3\n",
-        ),
-        (
-            [&[], &[], &[]],
-            all,
-            "A adds 0\nC adds 0\nB adds 0\nordered 3 of 3\n",
-        ),
-    ];
-    for (crossed, choices, want) in cases {
+    for &(crossed, choices, want) in ORDERS {
         for workers in [1, 2, 64] {
-            let (_, text) = ordering(&rt, alloc, crossed, choices, workers, &OpenGate)?;
+            let (_, text) = ordering(&rt, rt.alloc(), crossed, choices, workers, &OpenGate)?;
             assert!(rt;
                 text.as_slice() == want.as_bytes(),
                 "{workers} workers: {want}"
@@ -114,8 +119,7 @@ fn the_order_goes_by_what_each_test_adds(rt: HostRuntime) -> Result<(), Fail> {
 
 #[test]
 fn a_place_has_the_place_in_the_history_and_the_gain(rt: HostRuntime) -> Result<(), Fail> {
-    let choices = [SELECTED, SELECTED, SELECTED];
-    let (placed, _) = ordering(&rt, rt.alloc(), TWO_ALIKE, choices, 2, &OpenGate)?;
+    let (placed, _) = ordering(&rt, rt.alloc(), TWO_ALIKE, ALL, 2, &OpenGate)?;
     let want = [
         Placed { at: 0, gain: 7 },
         Placed { at: 2, gain: 2 },
@@ -137,17 +141,18 @@ impl Gate for Turnstile {
     }
 }
 
+/// The edges that the tests crossed, and how often waiting tests are counted: 3 for the first place, 2 for the second and 1 for the
+/// third; where no test adds an edge, for the first place alone.
+const COUNTS: &[([&[u32]; 3], u64)] = &[(TWO_ALIKE, 6), (NOTHING, 3)];
+
 #[test]
 fn each_waiting_test_is_counted_for_each_place(rt: HostRuntime) -> Result<(), Fail> {
-    // 3 for the first place, 2 for the second and 1 for the third; where no test adds an edge, for the first place alone
-    let cases: [([&[u32]; 3], u64); 2] = [(TWO_ALIKE, 6), ([&[], &[], &[]], 3)];
-    for (crossed, want) in cases {
+    for &(crossed, want) in COUNTS {
         for workers in [1, 2, 64] {
             let gate = Turnstile {
                 passed: AtomicU64::new(0),
             };
-            let choices = [SELECTED, SELECTED, SELECTED];
-            let _ordering = ordering(&rt, rt.alloc(), crossed, choices, workers, &gate)?;
+            let _ordering = ordering(&rt, rt.alloc(), crossed, ALL, workers, &gate)?;
             assert_eq!(rt;
                 gate.passed.load(Ordering::SeqCst),
                 want,

@@ -20,15 +20,18 @@ fn two_files(alloc: Global) -> Result<Vec<(String, Vec<u8>)>, AllocError> {
     Ok(files)
 }
 
+/// A name, how much is asked for, and what comes.
+const BEGINNINGS: &[(&str, usize, &str)] = &[
+    ("one.c", 100, "int x;"),
+    ("one.c", 6, "int x;"),
+    ("one.c", 3, "int"),
+    ("one.c", 0, ""),
+    ("empty", 4, ""),
+];
+
 // Whether the shelf gives as much of a file as was asked for.
 fn gives_beginnings<S: Shelf>(shelf: &mut S) -> bool {
-    for &(name, most, wanted) in &[
-        ("one.c", 100, "int x;"),
-        ("one.c", 6, "int x;"),
-        ("one.c", 3, "int"),
-        ("one.c", 0, ""),
-        ("empty", 4, ""),
-    ] {
+    for &(name, most, wanted) in BEGINNINGS {
         match shelf.fetch(name, most) {
             Ok(bytes) if bytes.as_slice() == wanted.as_bytes() => {}
             _ => return false,

@@ -8,14 +8,16 @@ use std::test::Fail;
 use std::thread;
 use std::thread::Threads;
 
+/// Numbers, their bytes, how many they are, and whether 5 is one.
+const BYTES: &[(&[u32], [u8; 2], u32, bool)] = &[
+    (&[0, 1, 2, 3, 4, 6, 8], [0x5f, 0x01], 7, false),
+    (&[8, 0, 7, 5, 3, 2, 1, 1], [0xaf, 0x01], 7, true),
+    (&[], [0, 0], 0, false),
+];
+
 #[test]
 fn bytes_hold_eight_numbers_each_lowest_first(rt: HostRuntime) -> Result<(), Fail> {
-    let cases: &[(&[u32], [u8; 2], u32, bool)] = &[
-        (&[0, 1, 2, 3, 4, 6, 8], [0x5f, 0x01], 7, false),
-        (&[8, 0, 7, 5, 3, 2, 1, 1], [0xaf, 0x01], 7, true),
-        (&[], [0, 0], 0, false),
-    ];
-    for &(numbers, bytes, count, has_5) in cases {
+    for &(numbers, bytes, count, has_5) in BYTES {
         let row = row_of_numbers(rt.alloc(), 9, numbers)?;
         let same = row.copy()?;
         assert_eq!(rt; same.edges(), 9);
@@ -29,21 +31,23 @@ fn bytes_hold_eight_numbers_each_lowest_first(rt: HostRuntime) -> Result<(), Fai
     Ok(())
 }
 
+const FIRST: &[u32] = &[5, 63, 64, 127, 128];
+
+/// Numbers, the least one in `FIRST`, how many are not there, and how many are in either.
+const MEETINGS: &[(&[u32], Option<u32>, u32, u32)] = &[
+    (&[63, 64, 128], Some(63), 0, 5),
+    (&[64, 128], Some(64), 0, 5),
+    (&[62, 65, 127, 128], Some(127), 2, 7),
+    (&[0, 126, 128, 129], Some(128), 3, 8),
+    (&[4, 6, 69, 126, 129], None, 5, 10),
+    (&[], None, 0, 5),
+    (&[5, 63, 64, 127, 128], Some(5), 0, 5),
+];
+
 #[test]
 fn sets_meet_across_the_borders_of_words(rt: HostRuntime) -> Result<(), Fail> {
-    let first: [u32; 5] = [5, 63, 64, 127, 128];
-    // other numbers, the least common one, how many are not in `first`, how many are in either
-    let cases: &[(&[u32], Option<u32>, u32, u32)] = &[
-        (&[63, 64, 128], Some(63), 0, 5),
-        (&[64, 128], Some(64), 0, 5),
-        (&[62, 65, 127, 128], Some(127), 2, 7),
-        (&[0, 126, 128, 129], Some(128), 3, 8),
-        (&[4, 6, 69, 126, 129], None, 5, 10),
-        (&[], None, 0, 5),
-        (&[5, 63, 64, 127, 128], Some(5), 0, 5),
-    ];
-    for &(numbers, least, new, either) in cases {
-        let mut seen = row_of_numbers(rt.alloc(), 130, &first)?;
+    for &(numbers, least, new, either) in MEETINGS {
+        let mut seen = row_of_numbers(rt.alloc(), 130, FIRST)?;
         let row = row_of_numbers(rt.alloc(), 130, numbers)?;
         assert_eq!(rt; row.meets(&seen), least);
         assert_eq!(rt; row.beyond(&seen), new);

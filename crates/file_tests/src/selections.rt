@@ -48,41 +48,41 @@ fn selection(alloc: Global, suite: &[u8], danger: &[u32]) -> Result<(Vec<Choice>
     Ok((choices, text))
 }
 
-#[test]
-fn the_least_dangerous_edge_of_each_test_is_named(rt: HostRuntime) -> Result<(), Fail> {
-    let suite = b"dejavu suite 1\ntest A 100 41\ntest B 100 42\n";
-    let cases: &[(&[u32], [Choice; 2], &str)] = &[
-        (
-            &[4],
-            [Choice::Left, Choice::Selected(4)],
-            "left A\nrun B edge 4\nselected 1 of 2\n",
-        ),
-        (
-            &[],
-            [Choice::Left, Choice::Left],
-            "left A\nleft B\nselected 0 of 2\n",
-        ),
-        (
-            &[7, 2],
-            [Choice::Selected(2), Choice::Selected(2)],
-            "run A edge 2\nrun B edge 2\nselected 2 of 2\n",
-        ),
-    ];
-    for &(danger, want_choices, want_text) in cases {
-        let (choices, text) = selection(rt.alloc(), suite, danger)?;
-        assert!(rt;
-            choices.as_slice() == want_choices.as_slice(),
-            "{want_text}"
-        );
-        assert!(rt; text.as_slice() == want_text.as_bytes(), "{want_text}");
-    }
-    Ok(())
-}
+const TWO: &[u8] = b"dejavu suite 1\ntest A 100 41\ntest B 100 42\n";
+
+/// A suite, the dangerous edges, what is chosen for each test, and the text.
+const SELECTIONS: &[(&[u8], &[u32], &[Choice], &str)] = &[
+    // The least dangerous edge of each test is named.
+    (
+        TWO,
+        &[4],
+        &[Choice::Left, Choice::Selected(4)],
+        "left A\nrun B edge 4\nselected 1 of 2\n",
+    ),
+    (
+        TWO,
+        &[],
+        &[Choice::Left, Choice::Left],
+        "left A\nleft B\nselected 0 of 2\n",
+    ),
+    (
+        TWO,
+        &[7, 2],
+        &[Choice::Selected(2), Choice::Selected(2)],
+        "run A edge 2\nrun B edge 2\nselected 2 of 2\n",
+    ),
+    // A history without tests has a count alone.
+    (b"dejavu suite 1\n", &[0, 7], &[], "selected 0 of 0\n"),
+];
 
 #[test]
-fn a_history_without_tests_has_a_count_alone(rt: HostRuntime) -> Result<(), Fail> {
-    let (choices, text) = selection(rt.alloc(), b"dejavu suite 1\n", &[0, 7])?;
-    assert!(rt; choices.is_empty());
-    assert!(rt; text.as_slice() == b"selected 0 of 0\n".as_slice());
+fn the_least_dangerous_edge_of_each_test_is_named(rt: HostRuntime) -> Result<(), Fail> {
+    for &(suite, danger, want_choices, want_text) in SELECTIONS {
+        let (choices, text) = selection(rt.alloc(), suite, danger)?;
+        assert!(rt;
+            choices.as_slice() == want_choices && text.as_slice() == want_text.as_bytes(),
+            "{want_text}"
+        );
+    }
     Ok(())
 }

@@ -18,15 +18,18 @@ fn push_line(text: &mut Vec<u8>, name: &[u8], budget: u64, input: usize) -> Resu
     Ok(())
 }
 
+/// The bytes of a name, a budget, the bytes of an input, and the rule that is broken.
+const PARTS: &[(usize, u64, usize, Option<u8>)] = &[
+    (1, 0, 1, None),
+    (64, 10_000_000, 16_384, None),
+    (65, 10_000_000, 16_384, Some(4)),
+    (64, 10_000_001, 16_384, Some(5)),
+    (64, 10_000_000, 16_385, Some(7)),
+];
+
 #[test]
 fn the_parts_of_a_test_have_limits(rt: HostRuntime) -> Result<(), Fail> {
-    for &(name, budget, input, rule) in &[
-        (1, 0, 1, None),
-        (64, 10_000_000, 16_384, None),
-        (65, 10_000_000, 16_384, Some(4)),
-        (64, 10_000_001, 16_384, Some(5)),
-        (64, 10_000_000, 16_385, Some(7)),
-    ] {
+    for &(name, budget, input, rule) in PARTS {
         let mut text = b"dejavu suite 1\n".to_vec(rt.alloc())?;
         let name = vec![in rt.alloc(); b'n'; name]?;
         push_line(&mut text, &name, budget, input)?;

@@ -1,5 +1,5 @@
 //! The numbered graphs of small programs, whose points have their numbers as places.
-use csub_core::{ExitLabel, Label, Point};
+use csub_core::{ExitLabel, Label, Point, Program};
 use flow_graph::Graph;
 use program_words::read_program;
 use std::alloc::Global;
@@ -9,7 +9,12 @@ use std::test::Fail;
 pub fn graph_of(alloc: Global, lines: &str) -> Result<Graph, Fail> {
     let text = format!(in alloc; "start main {{ {lines} }}")?;
     let program = read_program(alloc, text.as_str())?.ok_or("refused")?;
-    Ok(Graph::build(alloc, &program)?)
+    built(alloc, &program)
+}
+
+/// The graph of a program, which is dropped where it was made.
+fn built(alloc: Global, program: &Program) -> Result<Graph, Fail> {
+    Ok(Graph::build(alloc, program)?)
 }
 
 /// Whether the edges are those between the points, and each is found by its exit label.

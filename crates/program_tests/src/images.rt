@@ -27,47 +27,61 @@ fn images_of(alloc: Global, old: &str, new: &str) -> Result<Vec<Image>, Fail> {
     Ok(images(alloc, &old, &new, &walked)?)
 }
 
+/// Two programs, and the images of the edges of the first one in the other.
+const IMAGES: &[(&str, &str, &[Image])] = &[
+    // An edge has itself as its image where nothing changed.
+    (
+        SMALL,
+        SMALL,
+        &[
+            Image::One(0),
+            Image::One(1),
+            Image::One(2),
+            Image::One(3),
+            Image::One(4),
+            Image::One(5),
+            Image::One(6),
+            Image::One(7),
+        ],
+    ),
+    // An edge that no pair reaches has no image.
+    (
+        SMALL,
+        ONE_MORE,
+        &[
+            Image::One(0),
+            Image::One(1),
+            Image::One(2),
+            Image::One(3),
+            Image::One(4),
+            Image::One(5),
+            Image::Absent,
+            Image::One(8),
+        ],
+    ),
+    // An edge whose point is reached with two has several.
+    (
+        JOINED,
+        COPIED,
+        &[
+            Image::One(0),
+            Image::One(1),
+            Image::One(2),
+            Image::One(3),
+            Image::One(4),
+            Image::One(5),
+            Image::One(8),
+            Image::Many,
+            Image::One(7),
+        ],
+    ),
+];
+
 #[test]
-fn an_edge_has_itself_as_its_image_where_nothing_changed(rt: HostRuntime) -> Result<(), Fail> {
-    let found = images_of(rt.alloc(), SMALL, SMALL)?;
-    assert!(rt; found.len() == 8);
-    for edge in 0..found.len() {
-        assert!(rt; found[edge] == Image::One(edge as u32));
+fn an_edge_has_the_images_that_its_point_is_reached_with(rt: HostRuntime) -> Result<(), Fail> {
+    for &(old, new, want) in IMAGES {
+        let found = images_of(rt.alloc(), old, new)?;
+        assert!(rt; found.as_slice() == want, "{new}");
     }
-    Ok(())
-}
-
-#[test]
-fn an_edge_that_no_pair_reaches_has_no_image(rt: HostRuntime) -> Result<(), Fail> {
-    let found = images_of(rt.alloc(), SMALL, ONE_MORE)?;
-    let want = &[
-        Image::One(0),
-        Image::One(1),
-        Image::One(2),
-        Image::One(3),
-        Image::One(4),
-        Image::One(5),
-        Image::Absent,
-        Image::One(8),
-    ];
-    assert!(rt; found.as_slice() == want.as_slice());
-    Ok(())
-}
-
-#[test]
-fn an_edge_whose_point_is_reached_with_two_has_several(rt: HostRuntime) -> Result<(), Fail> {
-    let found = images_of(rt.alloc(), JOINED, COPIED)?;
-    let want = &[
-        Image::One(0),
-        Image::One(1),
-        Image::One(2),
-        Image::One(3),
-        Image::One(4),
-        Image::One(5),
-        Image::One(8),
-        Image::Many,
-        Image::One(7),
-    ];
-    assert!(rt; found.as_slice() == want.as_slice());
     Ok(())
 }

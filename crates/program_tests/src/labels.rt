@@ -18,10 +18,14 @@ const DIFFERENT: &str =
     call:f:char:1 member:x int value 5 call:f:void:0 member:x int value 5 call:f:int:1 member:x int value 6 call:f:int:2 member:x int value 5 \
     jump exit 7 switch_value getchar init local:x:1 int one 5 init local:x:1 array:2 int list:2 one 5 one read element global:a array:2 int 1";
 
-/// The numbers that a book gives to a new build of these labels.
-fn numbers(alloc: Global, book: &mut LabelBook) -> Result<Vec<u32>, Fail> {
+/// The numbers that a book gives to labels.
+fn numbers_of(
+    alloc: Global,
+    book: &mut LabelBook,
+    labels: &[Label],
+) -> Result<Vec<u32>, AllocError> {
     let mut numbers = Vec::new(alloc);
-    for label in &read_labels(alloc, DIFFERENT)? {
+    for label in labels {
         numbers.push(book.intern(label, &[])?)?;
     }
     Ok(numbers)
@@ -35,14 +39,26 @@ fn copied(alloc: Global, label: &Label) -> Result<Label, AllocError> {
     }
 }
 
+/// Copies of labels.
+fn copies_of(alloc: Global, labels: &[Label]) -> Result<Vec<Label>, AllocError> {
+    let mut copies = Vec::new(alloc);
+    for label in labels {
+        copies.push(copied(alloc, label)?)?;
+    }
+    Ok(copies)
+}
+
+/// The numbers that a book gives to a new build of these labels.
+fn numbers(alloc: Global, book: &mut LabelBook) -> Result<Vec<u32>, Fail> {
+    let labels = read_labels(alloc, DIFFERENT)?;
+    Ok(numbers_of(alloc, book, &labels)?)
+}
+
 /// The numbers that a book gives to copies of these labels.
 fn numbers_of_copies(alloc: Global, book: &mut LabelBook) -> Result<Vec<u32>, Fail> {
-    let mut numbers = Vec::new(alloc);
-    for label in &read_labels(alloc, DIFFERENT)? {
-        let copy = copied(alloc, label)?;
-        numbers.push(book.intern(&copy, &[])?)?;
-    }
-    Ok(numbers)
+    let labels = read_labels(alloc, DIFFERENT)?;
+    let copies = copies_of(alloc, &labels)?;
+    Ok(numbers_of(alloc, book, &copies)?)
 }
 
 /// The numbers of two builds of these labels, and those of copies.
@@ -147,18 +163,22 @@ fn ask<L: Ledger>(
     (first, second)
 }
 
-/// What is said of the entries of functions, and of an entry and a `return`.
-fn asked(book: &mut LabelBook) -> Result<(bool, bool), AllocError> {
-    let entry = book.intern(&Label::Entry, &[])?;
-    let other = book.intern(&Label::Return(None), &[])?;
-    let again = book.intern(&Label::Entry, &[])?;
-    Ok(ask::<Brand>(book, entry, again, other, Blank::new(1)))
+/// What is said of two equal labels, and of one of them and another one.
+fn asked(book: &mut LabelBook, label: &Label, other: &Label) -> Result<(bool, bool), Fail> {
+    let first = book.intern(label, &[])?;
+    let second = book.intern(other, &[])?;
+    let again = book.intern(label, &[])?;
+    Ok(ask::<Brand>(book, first, again, second, Blank::new(1)))
 }
 
-/// The same in a new book.
-fn asked_anew(alloc: Global) -> Result<(bool, bool), AllocError> {
+/// The same of the entries of functions, and of an entry and a `return`, in a new book.
+fn asked_anew(alloc: Global) -> Result<(bool, bool), Fail> {
+    let labels = read_labels(alloc, "entry return")?;
+    let [entry, other] = labels.as_slice() else {
+        return Err("not two labels")?;
+    };
     let mut book = LabelBook::new(alloc);
-    asked(&mut book)
+    asked(&mut book, entry, other)
 }
 
 // A caller that counts nothing names the ledger itself.
