@@ -6,7 +6,7 @@ import sys
 from contextlib import suppress
 from typing import Callable, Iterable, Tuple, Union
 
-from .errors import ToolError
+from .errors import Told, ToolError
 
 OUTPUT, ERROR = 1, 2  # the descriptors of standard output and standard error
 
@@ -71,6 +71,9 @@ def ended(name: str, work: Callable[[], int]) -> int:
     """
     try:
         return work()
+    except Told as error:
+        say(*error.lines)
+        return error.status
     except ToolError as error:
         say(f"{name}: {error}")
         return error.status

@@ -250,3 +250,25 @@ def read_entry(lines: Lines, edges: int, names: Container[str]) -> Entry:
         lines.value(b"output", "H11", partial(read_short, most=limits.MOST_OUTPUT)),
         lines.value(b"crossed", "H12", partial(read_row, edges=edges)),
     )
+
+
+def history_text(history: History) -> bytes:
+    """The history of version 3 that tells this."""
+    head = f"source {history.source}\nedges {history.edges}\ntests {len(history.entries)}\n"
+    text = b"".join((HISTORY_LINE, b"\n", head.encode("ascii"), *map(lines_of_entry, history.entries)))
+    return text + f"end {sha256(text).hexdigest()}\n".encode("ascii")
+
+
+def lines_of_entry(entry: Entry) -> bytes:
+    """The seven lines of an entry in a history."""
+    test = entry.test
+    words = (
+        ("test", test.name),
+        ("budget", test.budget),
+        ("input", test.input.hex() or "-"),
+        ("status", entry.status),
+        ("turns", entry.turns),
+        ("output", entry.output.hex() or "-"),
+        ("crossed", entry.crossed.hex() or "-"),
+    )
+    return "".join(f"{word} {value}\n" for word, value in words).encode("ascii")

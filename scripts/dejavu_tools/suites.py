@@ -11,7 +11,7 @@ from dataclasses import dataclass
 from io import BytesIO
 from itertools import accumulate, zip_longest
 from pathlib import Path
-from typing import Dict, Iterator, List, Mapping, Optional, Sequence
+from typing import Dict, Iterator, List, Mapping, Optional, Sequence, Tuple
 
 from . import limits
 from .console import escaped, parts_around, readable
@@ -170,12 +170,21 @@ def cut_escaped(data: bytes, width: int) -> str:
 
 
 @dataclass(frozen=True)
+class Expected:
+    """What a folder expects of a test."""
+
+    output: bytes
+    status: str  # `exit N`
+
+
+@dataclass(frozen=True)
 class Verdict:
     """Whether a test did what a folder expects of it: `pass`, `fail` with what differs, or `none`."""
 
     kind: str
     name: str
     why: str = ""
+    expected: Optional[Expected] = None
 
     def __str__(self) -> str:
         return f"{self.kind} {self.name} {self.why}" if self.why else f"{self.kind} {self.name}"
@@ -194,22 +203,23 @@ def verdict_of(entry: Entry, output: Optional[Path]) -> Verdict:
     """Whether a test did what is expected of it; `output` is the file of its expected output, if there is one."""
     if output is None:
         return Verdict("none", entry.test.name)
-    expected, status = read_file(output), number_in(output.with_suffix(STATUS), limits.MOST_STATUS, 0)
+    status = number_in(output.with_suffix(STATUS), limits.MOST_STATUS, 0)
+    expected = Expected(read_file(output), f"exit {status}")
     faults = []
-    if entry.output != expected:
-        faults.append(f"output {first_difference(entry.output, expected)}")
-    if entry.status != f"exit {status}":
-        faults.append(f"status recorded {status_in_words(entry)}, expected exit {status}")
-    return Verdict("fail" if faults else "pass", entry.test.name, "; ".join(faults))
+    if entry.output != expected.output:
+        faults.append(f"output {first_difference(entry.output, expected.output)}")
+    if entry.status != expected.status:
+        faults.append(f"status recorded {status_in_words(entry)}, expected {expected.status}")
+    return Verdict("fail" if faults else "pass", entry.test.name, "; ".join(faults), expected)
 
 
-def first_difference(recorded: bytes, expected: bytes) -> str:
-    """The place of the first byte at which two outputs differ, and both lines with it."""
-    lines = enumerate(zip_longest(BytesIO(recorded), BytesIO(expected), fillvalue=b""), 1)
+def first_difference(one: bytes, other: bytes, names: Tuple[str, str] = ("recorded", "expected")) -> str:
+    """The place of the first byte at which two outputs differ, and both lines with it, by these names."""
+    lines = enumerate(zip_longest(BytesIO(one), BytesIO(other), fillvalue=b""), 1)
     number, pair = next((number, pair) for number, pair in lines if pair[0] != pair[1])
     at = len(os.path.commonprefix(pair))
     shown = [f'"{"".join(parts_around(line, at, ROOM, escaped))}"' if line else "the end" for line in pair]
-    return f"at {number}:{at + 1} recorded {shown[0]}, expected {shown[1]}"
+    return f"at {number}:{at + 1} {names[0]} {shown[0]}, {names[1]} {shown[1]}"
 
 
 def status_in_words(entry: Entry) -> str:

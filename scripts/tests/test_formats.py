@@ -5,7 +5,7 @@ from pathlib import Path
 from support import TOP, InFolder, sealed
 
 from dejavu_tools.errors import ToolError
-from dejavu_tools.formats import Entry, History, Test, read_history, read_suite, suite_text
+from dejavu_tools.formats import Entry, History, Test, history_text, read_history, read_suite, suite_text
 from dejavu_tools.words import HISTORY_RULES, SUITE_RULES
 
 DIGEST = "f3e7b98b7d4d95f021635d364627ee64e4acd311669841db52966ba816eaeb96"
@@ -243,6 +243,14 @@ class Histories(Broken):
         history = read_history(self.write("history", sealed(text + "crossed -\n")))
         self.assertEqual(history.entries, [Entry(Test("E", 9, b""), "exit 0", 5, b"", b"")])
         self.check_broken(read_history, HISTORY_RULES, text + "crossed 00\n", 11, "H12")
+
+    def test_text_of_what_was_read(self):
+        crossed_none = NOTHING.replace("tests 0", "tests 1") + (
+            "test E\nbudget 9\ninput -\nstatus trap bounds\nturns 5\noutput -\ncrossed -\n"
+        )
+        for text in (TWO_TESTS.encode("ascii"), sealed(ALL_ENDS), sealed(NOTHING), sealed(crossed_none)):
+            with self.subTest(text[-200:]):
+                self.assertEqual(history_text(read_history(self.write("history", text))), text)
 
     def test_broken_lines(self):
         for number, line, broken, rule in BROKEN_HISTORIES:

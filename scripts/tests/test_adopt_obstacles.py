@@ -1,0 +1,44 @@
+"""The obstacles of a program that has one of nearly every kind: all are told in one run, at their places."""
+import subprocess
+import sys
+import unittest
+
+from support import SCRIPTS
+
+from dejavu_tools.adopt.words import OBSTACLES
+
+FOLDER = SCRIPTS / "tests" / "obstacles"
+
+
+class Told(unittest.TestCase):
+    """What is told of scripts/tests/obstacles, against the list that was made by hand."""
+
+    maxDiff = None
+
+    def adopt(self, *words):
+        done = subprocess.run(
+            [sys.executable, str(SCRIPTS / "adopt"), *words], cwd=FOLDER, stdout=subprocess.PIPE, stderr=subprocess.PIPE,
+            text=True, timeout=60, check=False,
+        )
+        self.assertEqual((done.stdout, done.returncode), ("", 1))
+        *told, last = done.stderr.splitlines()
+        self.assertEqual(last, f"{len(told)} obstacles")
+        return told
+
+    def test_all(self):
+        told = self.adopt("first.c", "second.c")
+        expected = (FOLDER / "expected.txt").read_text(encoding="utf-8").splitlines()
+        self.assertEqual([line.rsplit(": ", 1)[0] for line in told], expected)
+        remedies = {words.todo for words in OBSTACLES.values()}
+        for line in told:
+            self.assertIn(line.rsplit(": ", 1)[1], remedies)
+
+    def test_with_the_flags(self):
+        without = set(self.adopt("first.c", "second.c"))
+        told = self.adopt("--drop-stderr", "--long-as-int", "first.c", "second.c")
+        gone = sorted(line.split(": ")[1] for line in without - set(told))
+        self.assertEqual(gone, ["`long` has 64 bits", "output to stderr"])
+
+
+if __name__ == "__main__":
+    unittest.main()
