@@ -1,0 +1,123 @@
+"""Runs of `dejavu` on two versions, and what it writes. Histories of the old version are named by their files."""
+from __future__ import annotations
+
+import os
+import re
+import subprocess
+from pathlib import Path
+from typing import Dict, List, NamedTuple, Optional, Sequence, Tuple
+
+from .errors import Told, ToolError
+from .files import write_whole
+from .formats import History, Test, read_history, suite_text
+from .histories import NoHistory
+from .programs import Answer
+from .refusals import Message, Place, files_of, message_of
+from .sides import Side
+
+HISTORY_REFUSED = 5  # the status of `dejavu` where it refuses a history
+MOST_WORKERS = 64
+
+# The lines that the program writes.
+CHOICE = re.compile(r"left ([\w.-]+)|run ([\w.-]+) edge (\d{1,9})", re.ASCII)
+EDGE = re.compile(r"edge (\d{1,9}) (\S+) (\d{1,9}):(\d{1,9}) \S.*", re.ASCII)
+DANGER = re.compile(r"danger \d{1,9} (?:\d{1,9} )?(?:next|true|false|case -?\d{1,10}|default)"
+                    r" (?:(\d{1,9}):(\d{1,9})|none)", re.ASCII)
+
+
+class Edge(NamedTuple):
+    """A dangerous edge: where it begins in the old unit, and where the new version goes on along it."""
+
+    number: int
+    function: str
+    old: Tuple[int, int]  # line and column
+    new: Optional[Tuple[int, int]]  # none where the new version has no such way out
+
+
+class Runs:
+    """The program, on an old version and a new one. What it reads besides is written into a folder."""
+
+    def __init__(self, program: Path, old: Side, new: Side, scratch: Path) -> None:
+        self.program, self.old, self.new, self.scratch = program, old, new, scratch
+        self.workers = str(min(MOST_WORKERS, len(os.sched_getaffinity(0))))
+
+    def record(self, side: Side, tests: Sequence[Test]) -> History:
+        """The history of these tests on a version."""
+        suite = self.written("suite", suite_text(tests))
+        return self.history("record", str(side.unit.path), suite, "--workers", self.workers)
+
+    def select(self, history: str) -> Dict[str, Optional[int]]:
+        """The edge for which each test of a history of the old version is selected; none where it is left."""
+        lines = self.lines("select", *self.units(), history)[:-1]
+        found = (taken(CHOICE, line, "select") for line in lines)
+        return {left or run: int(edge) if run else None for left, run, edge in found}
+
+    def carry(self, history: str) -> History:
+        """The history of the new version for the tests of one of the old version."""
+        return self.history("carry", *self.units(), history, "--workers", self.workers)
+
+    def explain(self, history: str, name: str) -> Edge:
+        """The dangerous edge for which a test of a history of the old version is selected."""
+        lines = self.lines("explain", *self.units(), history, name)
+        number, function, line, column = taken(EDGE, "".join(lines[1:2]), "explain")
+        new_line, new_column = taken(DANGER, lines[-1], "explain")
+        new = (int(new_line), int(new_column)) if new_line else None
+        return Edge(int(number), function, (int(line), int(column)), new)
+
+    def units(self) -> Tuple[str, str]:
+        """The files of both units."""
+        return str(self.old.unit.path), str(self.new.unit.path)
+
+    def written(self, name: str, data: bytes) -> str:
+        """A file with this in it."""
+        path = self.scratch / name
+        write_whole({path: data})
+        return str(path)
+
+    def history(self, *words: str) -> History:
+        """The history that the program writes for these words."""
+        return read_history(Path(self.written("made", self.answer(words))))
+
+    def lines(self, *words: str) -> List[str]:
+        """The lines that the program writes for these words."""
+        return self.answer(words).decode("utf-8", "surrogateescape").split("\n")[:-1]
+
+    def answer(self, words: Sequence[str]) -> bytes:
+        """What the program writes for these words; a `ToolError` with all that is to be said where it does not.
+
+        That is a `NoHistory` where it refuses the history.
+        """
+        try:
+            done = subprocess.run([self.program, *words], stdin=subprocess.DEVNULL, stdout=subprocess.PIPE, check=False)
+        except OSError as error:
+            raise ToolError(f"{self.program}: {error.strerror}") from error
+        refusal = Answer(done.returncode, done.stdout).refusal
+        if refusal:
+            raise self.refused(message_of(refusal, files_of(words), self.origin), done.returncode)
+        if done.returncode:
+            ended = f"ended with status {done.returncode}" if done.returncode > 0 else "was ended by a signal"
+            raise ToolError(f"{self.program} {words[0]} {ended}")
+        return done.stdout
+
+    def refused(self, message: Message, status: int) -> ToolError:
+        """What is told of a refusal; a unit that was made stands in it by the name of its version."""
+        if status == HISTORY_REFUSED:
+            return NoHistory(message.wrong)
+        lines = message.lines()
+        for side in (self.old, self.new):
+            if side.settings.adopt:
+                lines[0] = lines[0].replace(str(side.unit.path), f"the unit of {side.version.name}")
+        return Told(lines)
+
+    def origin(self, place: Place) -> Tuple[str, int, int]:
+        """The place of a version's own file from which a place of its unit is."""
+        side = self.old if place.file == str(self.old.unit.path) else self.new
+        return side.unit.origin(place.line, place.column)
+
+
+def taken(form: re.Pattern[str], line: str, command: str) -> Tuple[str, ...]:
+    """The parts of a line that the program wrote; a `ToolError` where it has another form."""
+    found = form.fullmatch(line)
+    if not found:
+        raise ToolError(f"{command} wrote a line that isn't known: {line[:100]}")
+    return found.groups()
