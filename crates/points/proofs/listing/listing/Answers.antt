@@ -1,0 +1,33 @@
+use Rattle.std.proofs.Common.{◌≤◌, List, ℕ, length, sym, ap, subst, ◌∙◌}
+use Rattle.dv_outside.specs.Outside.{IsFetched}
+use Rattle.csub_semantics.specs.Syntax.{program_tree}
+use Rattle.csub_answers.specs.Accepted.{Accepted}
+use Rattle.command_files.proofs.LawsRefusals.{passed_on}
+use Rattle.points_report.specs.PointTexts.{points_text}
+use Rattle.points.proofs.AnswerLemmas.{not_fetched, not_read, is_listing}
+use Rattle.points.proofs.listing.listing.Goals as goal
+
+pub points_text-requires : goal.points_text-requires
+points_text-requires g c =
+    subst (λ (b : List ℕ). length b ≤ 1048576) (c.deref.ensures.value ∙ sym c.deref-2.ensures.value) c.in_ok-program.ensures.accepted.reads.short
+
+pub returns-clause-answer : goal.returns-clause-answer
+returns-clause-answer g c =
+    let P = program_tree c.in_ok-program.program in
+    is_listing (g.S.Shelf.files c.args.shelf.now) c.args.name.now c.in_ok-source.source.items P c.in_ok-points_text.field-0.items c.in_ok-source.ensures.bytes
+    (subst (λ (b : List ℕ). Accepted b P) c.deref.ensures.value c.in_ok-program.ensures.accepted)
+    (λ Q is. c.in_ok-program.ensures.only Q (subst (λ (b : List ℕ). Accepted b Q) (sym c.deref.ensures.value) is))
+    (c.in_ok-points_text.ensures P c.in_ok-graph.ensures ∙ ap (points_text P) c.deref-2.ensures.value)
+
+pub returns-in_err-source-clause-answer : goal.returns-in_err-source-clause-answer
+returns-in_err-source-clause-answer g c =
+    passed_on c.from_residual.result _ _ c.in_err-source.field-0.0 c.from_residual.ensures.1
+    (not_fetched (g.S.Shelf.files c.args.shelf.now) c.args.name.now (g.S.Shelf.faults c.args.shelf.now) (g.S.Shelf.faults c.fetch_file.new.shelf)
+    c.in_err-source.field-0.0 c.in_err-source.ensures.cause)
+
+pub returns-in_err-program-clause-answer : goal.returns-in_err-program-clause-answer
+returns-in_err-program-clause-answer g c =
+    let fetched = subst (IsFetched (g.S.Shelf.files c.args.shelf.now) c.args.name.now 1048577) (sym c.deref.ensures.value) c.in_ok-source.ensures.bytes in
+    passed_on c.from_residual-in_err-program.result _ _ c.in_err-program.field-0.0 c.from_residual-in_err-program.ensures.1
+    (not_read (g.S.Shelf.files c.args.shelf.now) c.args.name.now (g.S.Shelf.faults c.args.shelf.now) (g.S.Shelf.faults c.fetch_file.new.shelf) c.deref.result.now fetched
+    c.in_err-program.field-0.0 c.in_err-program.ensures.cause)
