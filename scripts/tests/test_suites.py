@@ -311,14 +311,14 @@ class Expected(InFolder):
             "passed 1 failed 1 none 0",
         )
 
-    def test_example_of_the_readme(self):
+    def test_example_of_the_document(self):
         self.write("h", history(entry("failed", "exit 0", "46"), entry("none", "exit 1", "-"),
                                 entry("passed", "exit 0", "50")))
         for name, data in (("failed.out", "f"), ("none.out", ""), ("none.status", "1\n")):
             self.write(f"t/{name}", data)
-        text = (TOP / "README.md").read_text(encoding="utf-8")
-        lines = text.split("$ scripts/suite expect history tests\n")[1].split("```")[0].splitlines()
-        self.check_lines(1, *lines)
+        text = (TOP / "docs/commands.md").read_text(encoding="utf-8")
+        lines = text.split("    $ scripts/suite expect history tests\n")[1].split("\n\n")[0].splitlines()
+        self.check_lines(1, *(line[4:] for line in lines))
 
     def test_names_that_were_replaced(self):
         self.write("h", history(entry("a_b", "exit 2", "41")))

@@ -35,11 +35,36 @@ class Told(WithProgram):
         self.program("echo 'refused: source rule M1 at 2:10'; exit 3")
         self.check_answer(self.tell("record", "old.c", "suite"), 3, "refused: source rule M1 at 2:10\n", NOT_DECLARED)
 
+    def test_place_in_the_file_of_which_a_unit_was_made(self):
+        self.write("unit.c", SOURCE)
+        self.write("main.c", "#include <stdio.h>\n\nint main(void) { return MISSING; }\n")
+        self.write("unit.map", "dejavu map 1\n1:1 3:1 main.c\n2:3 3:18 main.c\n")
+        self.program("echo 'refused: source rule M1 at 2:10'; exit 3")
+        answer = self.tell("--map", "unit.c=unit.map", "record", "unit.c", "suite")
+        self.assertEqual(answer.stderr.decode().splitlines()[:3], [
+            "main.c:3:18: error: this name isn't declared here (M1)",
+            "int main(void) { return MISSING; }",
+            " " * 17 + "^",
+        ])
+
+    def test_maps_that_cannot_be_used(self):
+        self.write("none", "")
+        self.write("broken", "dejavu map 1\n1:1 1:1\n")
+        self.program("exit 0")
+        for word, message in (
+            ("unit.c", "--map unit.c: a unit and its map have to stand here, `UNIT=MAP`"),
+            ("unit.c=gone", "gone: No such file or directory"),
+            ("unit.c=none", "none:1: this isn't the first line of a map"),
+            ("unit.c=broken", "broken:2: `UL:UC L:C FILE` has to stand here"),
+        ):
+            with self.subTest(word):
+                self.check_answer(self.tell("--map", word, "record", "unit.c", "suite"), 2, "", f"tell: {message}\n")
+
     def test_example_of_the_readme(self):
         self.write("words.c", "\n" * 5 + "    while (c != -1 && next_word(c))\n")
         self.program("echo 'refused: source rule M14 at 6:23'; exit 3")
         text = (TOP / "README.md").read_text(encoding="utf-8")
-        message = text.split("$ scripts/tell record words.c suite > history\n")[1].split("```")[0]
+        message = text.split("`scripts/tell record words.c suite > history`")[1].split("```\n")[1]
         done = self.tell("record", "words.c", "suite")
         self.check_answer(done, 3, "refused: source rule M14 at 6:23\n", message)
 
