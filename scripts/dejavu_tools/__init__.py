@@ -1,4 +1,4 @@
-"""What the scripts `program`, `suite`, `listing`, `tell`, `help`, `adopt`, `change` and `ci_lines` stand on.
+"""What the scripts `program`, `suite`, `listing`, `tell`, `help`, `adopt`, `change`, `ci_lines` and `disk_calls` stand on.
 
 - `crates`: the crates that the program is built from, and a sum over their files
 - `kept`: the programs that were built, each under a name with that sum
@@ -11,6 +11,7 @@
   other, `steps` says on a terminal what is done, and `reports` and `github` tell the outcome
 - `ci`: the lines of docs/ci.md, and the clones in which they are run
 - `maps`: from places of a unit to those of the files of which it was made
+- `traced`: a program under strace, in which chosen calls of the system fail
 - `programs`: a program whose output and status are passed on
 - `formats`: suites, and histories of version 3
 - `limits`: the greatest numbers of the formats
