@@ -1,4 +1,5 @@
-"""What the scripts `program`, `suite`, `listing`, `tell`, `help`, `adopt`, `change`, `ci_lines` and `disk_calls` stand on.
+"""What the scripts `program`, `suite`, `listing`, `tell`, `help`, `adopt`, `change`, `ci_lines`, `study` and
+`disk_calls` stand on.
 
 - `crates`: the crates that the program is built from, and a sum over their files
 - `kept`: the programs that were built, each under a name with that sum
