@@ -23,7 +23,7 @@ fn record_agrees<R: Threads + Abort + Sync>(
     let suite = format!(in alloc; "dejavu suite 1\n{tests}")?;
     let history = recorded(rt, alloc, source, suite.as_str())?;
     let lines = inner(history.as_str())?;
-    assert!(rt; lines == expected, "{source} gave {lines}");
+    assert!(rt; lines == expected, "{source} gave {history}");
     Ok(())
 }
 
