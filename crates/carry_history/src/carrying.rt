@@ -9,12 +9,12 @@ ghost use Rattle.carry_history.specs.Carried.{IsCarried};
 use crate::laying::lay;
 use crate::staying::{list_again, list_stays};
 use csub_core::Program;
-use dv_outside::Gate;
 use edge_images::Image;
 use flow_graph::Graph;
 use std::alloc::{AllocError, Global};
 use std::thread::Threads;
 use suite_run::run_all;
+use test_gate::Gate;
 use test_history::{History, digest_of};
 use test_select::Choice;
 

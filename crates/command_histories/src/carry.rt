@@ -11,11 +11,11 @@ use carry_history::carry;
 use carry_history::laws::carried_is_recorded;
 use command_files::{Runner, Selection, Versions, select_tests};
 use command_refusals::{Product, Refusal};
-use dv_outside::Gate;
 use edge_images::images;
 use program_laws::bounds;
 use std::alloc::{AllocError, Global};
 use std::thread::Threads;
+use test_gate::Gate;
 use test_history::{History, HistoryTextError, write_history};
 
 /// The text of the history of the new version, for two versions and the bytes of a history of the old one. The tests that must

@@ -10,9 +10,9 @@ ghost use Rattle.command_histories.specs.Steps.{HasOrder};
 
 use command_files::{Runner, Selection, Versions, select_tests};
 use command_refusals::Refusal;
-use dv_outside::Gate;
 use std::alloc::{AllocError, Global};
 use std::thread::Threads;
+use test_gate::Gate;
 use test_order::{order, order_text};
 
 /// The text of the order of the selected tests, for two versions and the bytes of a history of the old one. The gains are

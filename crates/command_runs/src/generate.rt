@@ -14,10 +14,10 @@ use crate::rerun::rerun_selected;
 use command_files::{Runner, Versions, build_graphs, choose, read_source};
 use command_refusals::{Refusal, Role};
 use dv_gen::{Made, make_pair};
-use dv_outside::Gate;
 use line_text::push_decimal;
 use std::alloc::{AllocError, Global};
 use std::thread::Threads;
+use test_gate::Gate;
 use test_select::count_selected;
 use test_suite::Test;
 

@@ -13,12 +13,12 @@ ghost use Rattle.command_runs.specs.Steps.{IsRecordCause};
 use command_files::{Runner, read_tests};
 use command_refusals::{Product, Refusal};
 use csub_core::Program;
-use dv_outside::Gate;
 use flow_graph::Graph;
 use program_laws::bounds;
 use std::alloc::{AllocError, Global};
 use std::thread::Threads;
 use suite_run::run_all;
+use test_gate::Gate;
 use test_history::{History, HistoryTextError, digest_of, write_history};
 use test_suite::Test;
 

@@ -8,12 +8,12 @@ ghost use Rattle.command_runs.specs.Steps.{HasReran};
 
 use command_files::Runner;
 use csub_core::Program;
-use dv_outside::Gate;
 use flow_graph::Graph;
 use rerun_report::{RerunText, rerun_text};
 use std::alloc::{AllocError, Global};
 use std::thread::Threads;
 use suite_run::run_all;
+use test_gate::Gate;
 use test_history::{Entry, History};
 use test_select::Choice;
 use test_suite::{Test, copy_test};

@@ -1,5 +1,5 @@
-//! The world outside the tool: shelves that files are read from, sinks that text is written to, and gates
-//! that a worker passes as it begins a test.
+//! The world outside the tool: shelves that files are read from, and sinks that text is written to. The gates of
+//! `test_gate` are given on from here.
 //!
 //! What is promised, and where:
 //! - [`Shelf::fetch`]: the answer is the beginning of the file with that name, never longer than was asked
@@ -23,7 +23,6 @@
 #![tactic(auto)]
 
 mod disk;
-mod gate;
 mod held;
 mod log;
 mod shelf;
@@ -32,10 +31,10 @@ mod sink;
 mod sinks;
 
 pub use disk::{DiskShelf, StdSink};
-pub use gate::{Gate, OpenGate};
 pub use held::names_differ;
 pub use log::{ByteLog, FetchLog};
 pub use shelf::{FetchError, Shelf};
 pub use shelves::{FailingShelf, MemoryShelf};
 pub use sink::{Sink, SinkFailed, write_whole};
 pub use sinks::{FailingSink, MemorySink};
+pub use test_gate::{Gate, OpenGate};

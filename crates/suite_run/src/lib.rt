@@ -19,10 +19,10 @@ mod run;
 
 use crate::parts::{join_parts, run_parts};
 use csub_core::Program;
-use dv_outside::Gate;
 use flow_graph::Graph;
 use std::alloc::{AllocError, Global};
 use std::thread::Threads;
+use test_gate::Gate;
 use test_history::Entry;
 use test_suite::Test;
 

@@ -11,11 +11,11 @@ ghost use Rattle.suite_run.specs.Parts.{ArePartsOf, Joins};
 use crate::run::run_chunk;
 use csub_core::Program;
 use csub_flat::flatten_program;
-use dv_outside::Gate;
 use flow_graph::Graph;
 use std::alloc::{AllocError, Global};
 use std::thread;
 use std::thread::Threads;
+use test_gate::Gate;
 use test_history::Entry;
 use test_suite::Test;
 

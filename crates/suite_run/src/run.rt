@@ -10,9 +10,9 @@ ghost use Rattle.test_history.specs.Entries.{IsEntry};
 use csub_core::Program;
 use csub_flat::FlatProgram;
 use csub_machine::Machine;
-use dv_outside::Gate;
 use flow_graph::Graph;
 use std::alloc::{AllocError, Global};
+use test_gate::Gate;
 use test_history::Entry;
 use test_suite::{Test, copy_test};
 

@@ -4,11 +4,11 @@ ghost use Rattle.test_history.specs.Histories.{HaveRows};
 ghost use Rattle.test_order.specs.Counts.{counted, IsFirstOf, IsFirstOfTests};
 
 use crate::placed::Placed;
-use dv_outside::Gate;
 use edge_trace::EdgeRow;
 use std::alloc::{AllocError, Global};
 use std::thread;
 use std::thread::Threads;
+use test_gate::Gate;
 use test_history::Entry;
 
 /// Of the waiting tests the one of the greatest gain beyond the covered edges, the earliest in the history among equals.

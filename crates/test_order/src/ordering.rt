@@ -6,10 +6,10 @@ ghost use Rattle.test_order.specs.Orders.{IsOrder};
 
 use crate::counting::next_place;
 use crate::placed::Placed;
-use dv_outside::Gate;
 use edge_trace::EdgeRow;
 use std::alloc::{AllocError, Global};
 use std::thread::Threads;
+use test_gate::Gate;
 use test_history::History;
 use test_select::Choice;
 
