@@ -1,17 +1,16 @@
 -- From what is fetched to what the files hold; what is told of a beginning of a file that is longer than such a file may be, or
 -- that is the whole file, holds of the file.
-use Rattle.std.proofs.Common.{◌≡◌, ℕ, ◌<◌, ◌≤◌, refl, inl, inr, List, length, take, Option, Some, Result, Ok, Err, MatchResult, sym, ap, ◌∙◌, subst, arith}
+use Rattle.std.proofs.Common.{◌≡◌, ℕ, ◌<◌, ◌≤◌, refl, List, length, take, Option, Some, sym, ap, ◌∙◌, subst, arith}
 use Rattle.std.proofs.lemmas.List.{length-take}
 use Rattle.std.proofs.lemmas.Grind.{common_steps}
-use Rattle.dv_outside.specs.Outside.{Files, file_at, IsFetched, Rose}
+use Rattle.dv_outside.specs.Outside.{Files, file_at, IsFetched}
 use Rattle.csub_semantics.specs.Syntax.{ProgramTree}
-use Rattle.csub_answers.specs.Accepted.{Accepted, HasCause}
+use Rattle.csub_answers.specs.Accepted.{HasCause}
 use Rattle.csub_answers.specs.declared.error.SourceError.{SourceError}
 use Rattle.csub_answers.specs.declared.error.SourceError.TheVariants as errors
 use Rattle.command_refusals.specs.Causes.{source_cause, suite_cause, history_cause}
 use Rattle.command_refusals.specs.declared.source.SourceCause.{SourceCause}
 use Rattle.command_files.specs.Causes.{NotAccepted, NoSuite, NoHistory}
-use Rattle.command_files.specs.Files.{HasSource, HasGoodSource, HasBadSource}
 use Rattle.csub_semantics.specs.Flows.{edge_list}
 use Rattle.test_suite.specs.Causes as suites
 use Rattle.test_suite.specs.declared.error.SuiteError.{SuiteError}
@@ -35,11 +34,6 @@ found_file told name most bytes fetched short files at =
     let file = fetched files at in
     let is : bytes ≡ file.0 = whole_file most file.0 bytes file.2 short in
     file.1 ∙ ap Some (sym is)
-
--- a count that rose since a time after the begin has risen since the begin
-pub rose_since : (before since now : ℕ) → before ≤ since → Rose since now → Rose before now
-rose_since before since now kept (inl more) = inl (omega arith)
-rose_since before since now kept (inr full) = inr full
 
 -- a beginning that has all that was asked for shows that the list has as much
 pub long_file : (most : ℕ) (whole bytes : List ℕ) → bytes ≡ take most whole → most ≤ length bytes → most ≤ length whole
@@ -70,22 +64,6 @@ module _ (source whole : List ℕ) (cause : SourceCause) (begins : source ≡ ta
 
   pub not_accepted : NotAccepted whole cause
   not_accepted = told_by n.error n.why n.is
-
-module _ (told : Option Files) (name source : List ℕ) (fetched : IsFetched told name 1048577 source) where
-  abbrev pub has_source : (P : ProgramTree) → Accepted source P → (files : Files) → told ≡ Some files → HasSource files name P
-  has_source P accepted files at = record {
-    bytes = source;
-    found = let short = accepted.reads.short in found_file told name 1048577 source fetched (omega (arith, short)) files at;
-    accepted = accepted;
-  }
-
-  pub has_good_source : (P : ProgramTree) → Accepted source P → HasGoodSource name told
-  has_good_source P accepted files at = (P, has_source P accepted files at)
-
-  pub has_no_source : (cause : SourceCause) → NotAccepted source cause → HasBadSource name cause told
-  has_no_source cause n files at =
-      let file = fetched files at in
-      record { bytes = file.0; found = file.1; is = not_accepted source file.0 cause file.2 n }
 
 module _ (bytes whole : List ℕ) (cause : SuiteCause) (begins : bytes ≡ take 16777217 whole) (n : NoSuite bytes cause) where
   suite_of_whole : length bytes ≤ 16777216 → NoSuite whole cause

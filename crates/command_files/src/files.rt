@@ -1,6 +1,6 @@
 //! Files that a command names.
-ghost use Rattle.std.specs.Prelude.{◌≡◌, IfOk, IfErr, MatchResult, length};
-ghost use Rattle.dv_outside.specs.Outside.{IsFetched, NeverFalls};
+ghost use Rattle.std.specs.Prelude.{◌≡◌, IfOk, IfErr, MatchResult, Ok, length};
+ghost use Rattle.dv_outside.specs.Outside.{Answers, NeverFalls};
 ghost use Rattle.csub_semantics.specs.Syntax.{ProgramTree, program_tree};
 ghost use Rattle.csub_semantics.specs.Flows.{edge_list};
 ghost use Rattle.csub_answers.specs.Accepted.{Accepted};
@@ -28,8 +28,8 @@ pub const FILE_AND_ONE: usize = 134_217_729;
 
 /// The first `most` bytes of a file, or all if it has fewer.
 pub fn fetch_file<S: Shelf>(shelf: &mut S, name: &str, most: usize) -> Result<Vec<u8>, Refusal>
-    ensures bytes { IfOk result (λ bytes. IsFetched (S.files shelf.old) name.now most bytes.items) }
-    ensures cause { IfErr result (IsFetchCause (S.faults shelf.old name.now) (S.faults shelf.new name.now)) }
+    ensures bytes { IfOk result (λ bytes. Answers (S.answers shelf.old) (S.answers shelf.new) name.now most (Ok bytes.items)) }
+    ensures cause { IfErr result (IsFetchCause (S.answers shelf.old) (S.answers shelf.new) name.now most) }
     ensures counts { NeverFalls (S.faults shelf.old) (S.faults shelf.new) }
     ensures same { S.files shelf.new ≡ S.files shelf.old }
 {

@@ -1,7 +1,7 @@
 //! A source or two, and one more file.
 ghost use Rattle.std.specs.Prelude.{◌≡◌, MatchResult};
 ghost use Rattle.dv_outside.specs.Outside.{NeverFalls};
-ghost use Rattle.command_files.specs.Files.{IsOpened, IsOpenCause, AreOpened, AreOpenCause};
+ghost use Rattle.command_files.specs.Files.{IsOpened, IsOpenCause, AreOpened, AreOpenCause, Sees};
 
 use crate::files::{SOURCE_AND_ONE, fetch_file, read_source};
 use crate::versions::{Versions, read_versions};
@@ -39,9 +39,9 @@ pub fn open_source<S: Shelf>(
     most: usize,
     shelf: &mut S,
 ) -> Result<OpenedSource, Refusal>
-    ensures opened { MatchResult result
-        (IsOpened (S.files shelf.old) name.now second_name.now most)
-        (IsOpenCause role name.now second_name.now (S.files shelf.old) (S.faults shelf.old) (S.faults shelf.new)) }
+    ensures opened { Sees (S.answers shelf.old) (S.answers shelf.new) (λ seen. MatchResult result
+        (IsOpened name.now second_name.now most seen)
+        (IsOpenCause role name.now second_name.now most seen)) }
     ensures counts { NeverFalls (S.faults shelf.old) (S.faults shelf.new) }
     ensures same { S.files shelf.new ≡ S.files shelf.old }
 {
@@ -64,9 +64,9 @@ pub fn open_versions<S: Shelf>(
     most: usize,
     shelf: &mut S,
 ) -> Result<OpenedVersions, Refusal>
-    ensures opened { MatchResult result
-        (AreOpened (S.files shelf.old) old_name.now new_name.now third_name.now most)
-        (AreOpenCause old_name.now new_name.now third_name.now (S.files shelf.old) (S.faults shelf.old) (S.faults shelf.new)) }
+    ensures opened { Sees (S.answers shelf.old) (S.answers shelf.new) (λ seen. MatchResult result
+        (AreOpened old_name.now new_name.now third_name.now most seen)
+        (AreOpenCause old_name.now new_name.now third_name.now most seen)) }
     ensures counts { NeverFalls (S.faults shelf.old) (S.faults shelf.new) }
     ensures same { S.files shelf.new ≡ S.files shelf.old }
 {

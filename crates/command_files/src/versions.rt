@@ -2,7 +2,7 @@
 ghost use Rattle.std.specs.Prelude.{◌≡◌, IfOk, MatchResult};
 ghost use Rattle.dv_outside.specs.Outside.{NeverFalls};
 ghost use Rattle.csub_semantics.specs.Syntax.{program_tree};
-ghost use Rattle.command_files.specs.Files.{AreRead, IsVersionsCause};
+ghost use Rattle.command_files.specs.Files.{AreRead, IsVersionsCause, Sees};
 ghost use Rattle.command_files.specs.Steps.{AreGraphs};
 
 use crate::files::{SOURCE_AND_ONE, fetch_file, read_source};
@@ -41,9 +41,9 @@ pub fn read_versions<S: Shelf>(
     new_name: &str,
     shelf: &mut S,
 ) -> Result<Versions, Refusal>
-    ensures versions { MatchResult result
-        (AreRead (S.files shelf.old) old_name.now new_name.now)
-        (IsVersionsCause old_name.now new_name.now (S.files shelf.old) (S.faults shelf.old) (S.faults shelf.new)) }
+    ensures versions { Sees (S.answers shelf.old) (S.answers shelf.new) (λ seen. MatchResult result
+        (AreRead old_name.now new_name.now seen)
+        (IsVersionsCause old_name.now new_name.now seen)) }
     ensures counts { NeverFalls (S.faults shelf.old) (S.faults shelf.new) }
     ensures same { S.files shelf.new ≡ S.files shelf.old }
 {

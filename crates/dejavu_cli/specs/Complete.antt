@@ -1,7 +1,7 @@
 -- Completeness: where nothing stands in its way, a command is done.
-use Rattle.std.specs.Prelude.{ℕ, ◌≡◌, ◌⊎◌, List, Option, Some}
+use Rattle.std.specs.Prelude.{ℕ, ◌≡◌, ◌⊎◌, List, [], ◌∷◌, Option, Some}
 use Rattle.std.specs.Option.{option_map}
-use Rattle.dv_outside.specs.Outside.{Files, file_at, Rose}
+use Rattle.dv_outside.specs.Outside.{Answer, Rose}
 use Rattle.csub_semantics.specs.Syntax.{ProgramTree}
 use Rattle.csub_answers.specs.Accepted.{Accepted}
 use Rattle.test_suite.specs.Tests.{TestParts}
@@ -9,81 +9,87 @@ use Rattle.test_history.specs.Histories.{HistoryParts}
 use Rattle.test_history.specs.declared.version.Version.TheVariants.{Second, Third}
 use Rattle.cert_text.specs.Certificates.{CertificateParts}
 use Rattle.dv_gen.specs.Pairs.{old_source, new_source}
-use Rattle.command_words.specs.Words.{Command, rerun_files, explain_files, check_files, gen_numbers, command_of}
+use Rattle.command_words.specs.Words.{Command, rerun_files, explain_files, check_files, command_of}
 use Rattle.command_files.specs.Record.{IsSuiteFile, IsHistoryFile}
-use Rattle.command_files.specs.Files.{HasSource}
+use Rattle.command_files.specs.Files.{source_and_one, suite_and_one, file_and_one, came, Sees}
 use Rattle.command_claims.specs.Checked.{IsCertificateFile}
 use Rattle.dejavu_cli.specs.Reads.{Reads, suite_of, earlier_of, versions_of, history_of, certificate_of, made_of, reads}
 use Rattle.command_runs.specs.Explain.{HasTest}
 use Rattle.dejavu_cli.specs.Texts.{product_of}
-use Rattle.dejavu_cli.specs.Causes.{HasReadFault}
 use Rattle.dejavu_cli.specs.declared.status.Status8.{Status8}
 use Rattle.dejavu_cli.specs.declared.status.Status8.TheVariants as status
 
 -- an accepted source and a suite
-pub record HaveSuite (files : Files) (source_name suite_name : List ℕ) : Type 0 where
-  pub program : ProgramTree
-  pub source : HasSource files source_name program
+pub record HaveSuite (source_name suite_name : List ℕ) (seen : List Answer) : Type 0 where
+  pub source : List ℕ
   pub bytes : List ℕ
-  pub found : file_at files suite_name ≡ Some bytes
+  pub fetched : seen ≡ came source_name source_and_one source ∷ came suite_name suite_and_one bytes ∷ []
+  pub program : ProgramTree
+  pub accepted : Accepted source program
   pub tests : List TestParts
   pub is : IsSuiteFile bytes tests
 
 -- an accepted source and a history of it in version 2
-pub record HaveEarlier (files : Files) (old_name history_name : List ℕ) : Type 0 where
-  pub program : ProgramTree
-  pub source : HasSource files old_name program
+pub record HaveEarlier (old_name history_name : List ℕ) (seen : List Answer) : Type 0 where
+  pub source : List ℕ
   pub bytes : List ℕ
-  pub found : file_at files history_name ≡ Some bytes
+  pub fetched : seen ≡ came old_name source_and_one source ∷ came history_name file_and_one bytes ∷ []
+  pub program : ProgramTree
+  pub accepted : Accepted source program
   pub history : HistoryParts
-  pub is : IsHistoryFile Second source.bytes bytes program history
+  pub is : IsHistoryFile Second source bytes program history
 
 -- two accepted sources
-pub record HaveVersions (files : Files) (old_name new_name : List ℕ) : Type 0 where
+pub record HaveVersions (old_name new_name : List ℕ) (seen : List Answer) : Type 0 where
+  pub source : List ℕ
+  pub new_source : List ℕ
+  pub fetched : seen ≡ came old_name source_and_one source ∷ came new_name source_and_one new_source ∷ []
   pub old : ProgramTree
   pub new : ProgramTree
-  pub source : HasSource files old_name old
-  pub new_source : HasSource files new_name new
+  pub accepted : Accepted source old
+  pub new_accepted : Accepted new_source new
 
--- and a history of the old one
-pub record HaveHistory (files : Files) (old_name new_name history_name : List ℕ) : Type 0 where
-  pub two : HaveVersions files old_name new_name
+-- two accepted sources, and a third file
+pub record HaveThree (old_name new_name third_name : List ℕ) (seen : List Answer) : Type 0 where
+  pub source : List ℕ
+  pub new_source : List ℕ
   pub bytes : List ℕ
-  pub found : file_at files history_name ≡ Some bytes
+  pub fetched : seen ≡ came old_name source_and_one source ∷ came new_name source_and_one new_source ∷ came third_name file_and_one bytes ∷ []
+  pub old : ProgramTree
+  pub new : ProgramTree
+  pub accepted : Accepted source old
+  pub new_accepted : Accepted new_source new
+
+-- which is a history of the old one
+pub record HaveHistory (old_name new_name history_name : List ℕ) (seen : List Answer) : Type 0 where
+  pub three : HaveThree old_name new_name history_name seen
   pub history : HistoryParts
-  pub is : IsHistoryFile Third two.source.bytes bytes two.old history
+  pub is : IsHistoryFile Third three.source three.bytes three.old history
 
 -- or a certificate of both
-pub record HaveCertificate (files : Files) (old_name new_name certificate_name : List ℕ) : Type 0 where
-  pub two : HaveVersions files old_name new_name
-  pub bytes : List ℕ
-  pub found : file_at files certificate_name ≡ Some bytes
+pub record HaveCertificate (old_name new_name certificate_name : List ℕ) (seen : List Answer) : Type 0 where
+  pub three : HaveThree old_name new_name certificate_name seen
   pub certificate : CertificateParts
-  pub is : IsCertificateFile two.source.bytes two.new_source.bytes bytes two.old two.new certificate
+  pub is : IsCertificateFile three.source three.new_source three.bytes three.old three.new certificate
 
 -- the sources that `gen` makes are accepted
 abbrev pub AreAccepted : ℕ → ℕ → Type 0
 AreAccepted seed size =
     ((P : ProgramTree) × Accepted (old_source seed size) P) × ((P : ProgramTree) × Accepted (new_source seed size) P)
 
--- the files that a command reads are there and are what it asks for
-abbrev pub AreThere : Reads → Files → Type 0
-AreThere (suite_of source suite) files = HaveSuite files source suite
-AreThere (earlier_of old history) files = HaveEarlier files old history
-AreThere (versions_of old new) files = HaveVersions files old new
-AreThere (history_of old new history) files = HaveHistory files old new history
-AreThere (certificate_of old new certificate) files = HaveCertificate files old new certificate
-AreThere (made_of seed size) files = AreAccepted seed size
+-- the files that a command reads came, and are what it asks for
+abbrev pub AreThere : Reads → List Answer → Type 0
+AreThere (suite_of source suite) seen = HaveSuite source suite seen
+AreThere (earlier_of old history) seen = HaveEarlier old history seen
+AreThere (versions_of old new) seen = HaveVersions old new seen
+AreThere (history_of old new history) seen = HaveHistory old new history seen
+AreThere (certificate_of old new certificate) seen = HaveCertificate old new certificate seen
+AreThere (made_of seed size) seen = AreAccepted seed size
 
 -- and the history of `explain` has its test
-abbrev pub AreReadyIn : Command → Files → Type 0
-AreReadyIn (explain_files old new history test) files = (have : HaveHistory files old new history) × HasTest have.history.entries test
-AreReadyIn c files = AreThere (reads c) files
-
--- the files are told and ready; `gen` asks for none
-abbrev pub AreReady : Command → Option Files → Type 0
-AreReady (gen_numbers seed size) told = AreAccepted seed size
-AreReady c told = (files : Files) × (told ≡ Some files) × AreReadyIn c files
+abbrev pub AreReady : Command → List Answer → Type 0
+AreReady (explain_files old new history test) seen = (have : HaveHistory old new history seen) × HasTest have.history.entries test
+AreReady c seen = AreThere (reads c) seen
 
 -- how a command can end but done: a test differs, a claim is open, or what it makes would have too many bytes
 abbrev pub other_end : Command → Option Status8
@@ -95,8 +101,7 @@ other_end c = option_map (λ which. status.TooMuch) (product_of c)
 abbrev pub IsDone : Command → Status8 → Type 0
 IsDone c answer = (answer ≡ status.Done) ⊎ ((other_end c ≡ Some answer) ⊎ (answer ≡ status.Memory))
 
--- Completeness: where the words are a command that is ready, and none of its files had a fault, nor the output, it is done
-abbrev pub IsComplete : List (List ℕ) → Option Files → (List ℕ → ℕ) → (List ℕ → ℕ) → ℕ → ℕ → Status8 → Type 0
-IsComplete words told before now faults_before faults_now answer =
-    (c : Command) → command_of words ≡ Some c → AreReady c told →
-    ¬ HasReadFault (reads c) told before now → ¬ Rose faults_before faults_now → IsDone c answer
+-- Completeness: where the words are a command, its files came and are what it asks for, and the output had no fault, it is done
+abbrev pub IsComplete : List (List ℕ) → List Answer → List Answer → ℕ → ℕ → Status8 → Type 0
+IsComplete words before now faults_before faults_now answer =
+    (c : Command) → command_of words ≡ Some c → Sees before now (AreReady c) → ¬ Rose faults_before faults_now → IsDone c answer

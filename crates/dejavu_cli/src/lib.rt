@@ -1,14 +1,16 @@
 //! The top call of the program: it takes the words, the files and the output, and answers a status.
 //!
-//! What is promised stands in the contract of [`dejavu`]: what is written is decided by the words and the files
-//! (`specs/Texts`, `specs/Answers`), and each answer has its cause (`specs/Causes`). What `record`, `walk`, `select`, `rerun`,
-//! `explain` and `gen` write stands in `command_runs`, what `migrate`, `carry` and `order` make of a history in
-//! `command_histories`, the claims of `certify` and `check` in `command_claims`.
+//! What is promised stands in the contract of [`dejavu`], over every shelf and output: what is written is decided by the words
+//! and by what came of the files that they name (`specs/Texts`, `specs/Answers`), and each answer has its cause
+//! (`specs/Causes`). What `record`, `walk`, `select`, `rerun`, `explain` and `gen` write stands in `command_runs`, what
+//! `migrate`, `carry` and `order` make of a history in `command_histories`, the claims of `certify` and `check` in
+//! `command_claims`.
 #![tactic(auto)]
 
 ghost use Rattle.std.specs.Prelude.{◌≡◌, ◌≤◌, ℕ, List, None};
 ghost use Rattle.dv_outside.specs.Outside.{Rose, NeverFalls};
 ghost use Rattle.command_words.specs.Words.{texts_of, command_of};
+ghost use Rattle.command_files.specs.Files.{Sees};
 ghost use Rattle.dejavu_cli.specs.Answers.{Decides, Says, Refuses, IsHeadline};
 ghost use Rattle.dejavu_cli.specs.Complete.{IsComplete};
 ghost use Rattle.dejavu_cli.specs.declared.answer.End.TheVariants as ends;
@@ -71,22 +73,23 @@ pub fn dejavu<R: Threads + Sync, S: Shelf, K: Sink, G: Gate>(
     out: &mut K,
     gate: &G,
 ) -> Status8
-    // What is written is decided by the words and the files, and each answer has its cause.
-    ensures answer { (status : Status8) × (text : List ℕ)
-        × Decides (texts_of words.now) (S.files shelf.old) (S.faults shelf.old) (S.faults shelf.new) status text
-        × Says (K.written out.old) (K.written out.new) (K.faults out.old) (K.faults out.new) status text result }
+    // What is written is decided by the words and what came of the files, over every shelf and output, and each answer has its
+    // cause.
+    ensures answer { Sees (S.answers shelf.old) (S.answers shelf.new) (λ seen. (status : Status8) × (text : List ℕ)
+        × Decides (texts_of words.now) seen status text
+        × Says (K.taken out.old) (K.taken out.new) (K.faults out.old) (K.faults out.new) status text result) }
 
-    // Done says that the command's text was written, where the written bytes are told. This and the clauses up to `complete`
-    // follow from the first one, and say what a caller asks of it.
-    ensures headline { result ≡ Status8.Done → IsHeadline (texts_of words.now) (S.files shelf.old) (K.written out.old) (K.written out.new) ends.Whole }
+    // Done says that the output took the command's text. This and the clauses up to `complete` follow from the first one, and
+    // say what a caller asks of it.
+    ensures headline { result ≡ Status8.Done → IsHeadline (texts_of words.now) (S.answers shelf.old) (S.answers shelf.new) (K.taken out.old) (K.taken out.new) ends.Whole }
     // So does Differs, and a test that ran again differs.
-    ensures differs { result ≡ Status8.Differs → IsHeadline (texts_of words.now) (S.files shelf.old) (K.written out.old) (K.written out.new) ends.Differs }
+    ensures differs { result ≡ Status8.Differs → IsHeadline (texts_of words.now) (S.answers shelf.old) (S.answers shelf.new) (K.taken out.old) (K.taken out.new) ends.Differs }
     // So does Open, and the claim isn't closed.
-    ensures open { result ≡ Status8.Open → IsHeadline (texts_of words.now) (S.files shelf.old) (K.written out.old) (K.written out.new) ends.Open }
+    ensures open { result ≡ Status8.Open → IsHeadline (texts_of words.now) (S.answers shelf.old) (S.answers shelf.new) (K.taken out.old) (K.taken out.new) ends.Open }
     ensures usage { result ≡ Status8.Usage → command_of (texts_of words.now) ≡ None }
     ensures write_fault { result ≡ Status8.WriteFault → Rose (K.faults out.old) (K.faults out.new) }
     // Where nothing stands in its way it is done.
-    ensures complete { IsComplete (texts_of words.now) (S.files shelf.old) (S.faults shelf.old) (S.faults shelf.new) (K.faults out.old) (K.faults out.new) result }
+    ensures complete { IsComplete (texts_of words.now) (S.answers shelf.old) (S.answers shelf.new) (K.faults out.old) (K.faults out.new) result }
     // The files stay as they are, and faults are only counted up.
     ensures same { S.files shelf.new ≡ S.files shelf.old }
     ensures counts { NeverFalls (S.faults shelf.old) (S.faults shelf.new) }
@@ -100,7 +103,7 @@ pub fn dejavu<R: Threads + Sync, S: Shelf, K: Sink, G: Gate>(
 
 /// Writes the line of a refusal; where there is no memory for it, the line for want of memory.
 fn refuse<K: Sink>(alloc: Global, out: &mut K, refusal: &Refusal) -> Status8
-    ensures refuses { Refuses (K.written out.old) (K.written out.new) (K.faults out.old) (K.faults out.new) refusal.now result }
+    ensures refuses { Refuses (K.taken out.old) (K.taken out.new) (K.faults out.old) (K.faults out.new) refusal.now result }
     ensures counts { K.faults out.old ≤ K.faults out.new }
 {
     match refusal_text(alloc, refusal) {
@@ -111,7 +114,7 @@ fn refuse<K: Sink>(alloc: Global, out: &mut K, refusal: &Refusal) -> Status8
 
 /// Writes the text, and answers the status, or that the write failed.
 fn say<K: Sink>(out: &mut K, status: Status8, text: &[u8]) -> Status8
-    ensures says { Says (K.written out.old) (K.written out.new) (K.faults out.old) (K.faults out.new) status text.now result }
+    ensures says { Says (K.taken out.old) (K.taken out.new) (K.faults out.old) (K.faults out.new) status text.now result }
     ensures counts { K.faults out.old ≤ K.faults out.new }
 {
     match write_whole(out, text) {

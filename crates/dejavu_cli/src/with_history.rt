@@ -1,7 +1,7 @@
 //! Commands on two versions and a history of the old one.
 ghost use Rattle.std.specs.Prelude.{◌≡◌, ◌<◌, ◌≤◌, MatchResult, Some};
 ghost use Rattle.dv_outside.specs.Outside.{NeverFalls};
-ghost use Rattle.command_files.specs.Files.{AreOpened, AreOpenCause};
+ghost use Rattle.command_files.specs.Files.{AreOpened, AreOpenCause, Sees};
 ghost use Rattle.command_words.specs.Words.{select_files, rerun_files, explain_files, carry_files, order_files};
 ghost use Rattle.dejavu_cli.specs.Texts.{HasTextOf};
 ghost use Rattle.dejavu_cli.specs.Causes.{HasCauseOf};
@@ -24,9 +24,9 @@ fn open_files<S: Shelf>(
     files: Files<'_>,
     shelf: &mut S,
 ) -> Result<OpenedVersions, Refusal>
-    ensures opened { MatchResult result
-        (AreOpened (S.files shelf.old) files.entry.old.now files.entry.new.now files.entry.history.now 134217729)
-        (AreOpenCause files.entry.old.now files.entry.new.now files.entry.history.now (S.files shelf.old) (S.faults shelf.old) (S.faults shelf.new)) }
+    ensures opened { Sees (S.answers shelf.old) (S.answers shelf.new) (λ seen. MatchResult result
+        (AreOpened files.entry.old.now files.entry.new.now files.entry.history.now 134217729 seen)
+        (AreOpenCause files.entry.old.now files.entry.new.now files.entry.history.now 134217729 seen)) }
     ensures counts { NeverFalls (S.faults shelf.old) (S.faults shelf.new) }
     ensures same { S.files shelf.new ≡ S.files shelf.old }
 {
@@ -46,9 +46,9 @@ pub(crate) fn select<S: Shelf>(
     files: Files<'_>,
     shelf: &mut S,
 ) -> Result<Vec<u8>, Refusal>
-    ensures answer { MatchResult result
-        (λ text. HasTextOf (Some (select_files files.entry.old.now files.entry.new.now files.entry.history.now)) (S.files shelf.old) Whole text.items)
-        (HasCauseOf (select_files files.entry.old.now files.entry.new.now files.entry.history.now) (S.files shelf.old) (S.faults shelf.old) (S.faults shelf.new)) }
+    ensures answer { Sees (S.answers shelf.old) (S.answers shelf.new) (λ seen. MatchResult result
+        (λ text. HasTextOf (Some (select_files files.entry.old.now files.entry.new.now files.entry.history.now)) seen Whole text.items)
+        (HasCauseOf (select_files files.entry.old.now files.entry.new.now files.entry.history.now) seen)) }
     ensures counts { NeverFalls (S.faults shelf.old) (S.faults shelf.new) }
     ensures same { S.files shelf.new ≡ S.files shelf.old }
 {
@@ -65,9 +65,9 @@ pub(crate) fn rerun<R: Threads + Sync, S: Shelf, G: Gate>(
 ) -> Result<Answer, Refusal>
     requires some { 0 < runner.workers }
     requires few { runner.workers ≤ 64 }
-    ensures answer { MatchResult result
-        (λ answer. HasTextOf (Some (rerun_files files.entry.old.now files.entry.new.now files.entry.history.now runner.entry.workers)) (S.files shelf.old) answer.end answer.text.items)
-        (HasCauseOf (rerun_files files.entry.old.now files.entry.new.now files.entry.history.now runner.entry.workers) (S.files shelf.old) (S.faults shelf.old) (S.faults shelf.new)) }
+    ensures answer { Sees (S.answers shelf.old) (S.answers shelf.new) (λ seen. MatchResult result
+        (λ answer. HasTextOf (Some (rerun_files files.entry.old.now files.entry.new.now files.entry.history.now runner.entry.workers)) seen answer.end answer.text.items)
+        (HasCauseOf (rerun_files files.entry.old.now files.entry.new.now files.entry.history.now runner.entry.workers) seen)) }
     ensures counts { NeverFalls (S.faults shelf.old) (S.faults shelf.new) }
     ensures same { S.files shelf.new ≡ S.files shelf.old }
 {
@@ -82,9 +82,9 @@ pub(crate) fn explain<S: Shelf>(
     test: &str,
     shelf: &mut S,
 ) -> Result<Vec<u8>, Refusal>
-    ensures answer { MatchResult result
-        (λ text. HasTextOf (Some (explain_files files.entry.old.now files.entry.new.now files.entry.history.now test.now)) (S.files shelf.old) Whole text.items)
-        (HasCauseOf (explain_files files.entry.old.now files.entry.new.now files.entry.history.now test.now) (S.files shelf.old) (S.faults shelf.old) (S.faults shelf.new)) }
+    ensures answer { Sees (S.answers shelf.old) (S.answers shelf.new) (λ seen. MatchResult result
+        (λ text. HasTextOf (Some (explain_files files.entry.old.now files.entry.new.now files.entry.history.now test.now)) seen Whole text.items)
+        (HasCauseOf (explain_files files.entry.old.now files.entry.new.now files.entry.history.now test.now) seen)) }
     ensures counts { NeverFalls (S.faults shelf.old) (S.faults shelf.new) }
     ensures same { S.files shelf.new ≡ S.files shelf.old }
 {
@@ -101,9 +101,9 @@ pub(crate) fn carry<R: Threads + Sync, S: Shelf, G: Gate>(
 ) -> Result<Vec<u8>, Refusal>
     requires some { 0 < runner.workers }
     requires few { runner.workers ≤ 64 }
-    ensures answer { MatchResult result
-        (λ text. HasTextOf (Some (carry_files files.entry.old.now files.entry.new.now files.entry.history.now runner.entry.workers)) (S.files shelf.old) Whole text.items)
-        (HasCauseOf (carry_files files.entry.old.now files.entry.new.now files.entry.history.now runner.entry.workers) (S.files shelf.old) (S.faults shelf.old) (S.faults shelf.new)) }
+    ensures answer { Sees (S.answers shelf.old) (S.answers shelf.new) (λ seen. MatchResult result
+        (λ text. HasTextOf (Some (carry_files files.entry.old.now files.entry.new.now files.entry.history.now runner.entry.workers)) seen Whole text.items)
+        (HasCauseOf (carry_files files.entry.old.now files.entry.new.now files.entry.history.now runner.entry.workers) seen)) }
     ensures counts { NeverFalls (S.faults shelf.old) (S.faults shelf.new) }
     ensures same { S.files shelf.new ≡ S.files shelf.old }
 {
@@ -120,9 +120,9 @@ pub(crate) fn order<R: Threads + Sync, S: Shelf, G: Gate>(
 ) -> Result<Vec<u8>, Refusal>
     requires some { 0 < runner.workers }
     requires few { runner.workers ≤ 64 }
-    ensures answer { MatchResult result
-        (λ text. HasTextOf (Some (order_files files.entry.old.now files.entry.new.now files.entry.history.now runner.entry.workers)) (S.files shelf.old) Whole text.items)
-        (HasCauseOf (order_files files.entry.old.now files.entry.new.now files.entry.history.now runner.entry.workers) (S.files shelf.old) (S.faults shelf.old) (S.faults shelf.new)) }
+    ensures answer { Sees (S.answers shelf.old) (S.answers shelf.new) (λ seen. MatchResult result
+        (λ text. HasTextOf (Some (order_files files.entry.old.now files.entry.new.now files.entry.history.now runner.entry.workers)) seen Whole text.items)
+        (HasCauseOf (order_files files.entry.old.now files.entry.new.now files.entry.history.now runner.entry.workers) seen)) }
     ensures counts { NeverFalls (S.faults shelf.old) (S.faults shelf.new) }
     ensures same { S.files shelf.new ≡ S.files shelf.old }
 {

@@ -1,6 +1,7 @@
 //! Commands on a source and a second file.
 ghost use Rattle.std.specs.Prelude.{◌≡◌, ◌<◌, ◌≤◌, MatchResult, Some};
 ghost use Rattle.dv_outside.specs.Outside.{NeverFalls};
+ghost use Rattle.command_files.specs.Files.{Sees};
 ghost use Rattle.command_words.specs.Words.{record_files, migrate_files};
 ghost use Rattle.dejavu_cli.specs.Texts.{HasTextOf};
 ghost use Rattle.dejavu_cli.specs.Causes.{HasCauseOf};
@@ -24,9 +25,9 @@ pub(crate) fn record<R: Threads + Sync, S: Shelf, G: Gate>(
 ) -> Result<Vec<u8>, Refusal>
     requires some { 0 < runner.workers }
     requires few { runner.workers ≤ 64 }
-    ensures answer { MatchResult result
-        (λ text. HasTextOf (Some (record_files source_name.now suite_name.now runner.entry.workers)) (S.files shelf.old) Whole text.items)
-        (HasCauseOf (record_files source_name.now suite_name.now runner.entry.workers) (S.files shelf.old) (S.faults shelf.old) (S.faults shelf.new)) }
+    ensures answer { Sees (S.answers shelf.old) (S.answers shelf.new) (λ seen. MatchResult result
+        (λ text. HasTextOf (Some (record_files source_name.now suite_name.now runner.entry.workers)) seen Whole text.items)
+        (HasCauseOf (record_files source_name.now suite_name.now runner.entry.workers) seen)) }
     ensures counts { NeverFalls (S.faults shelf.old) (S.faults shelf.new) }
     ensures same { S.files shelf.new ≡ S.files shelf.old }
 {
@@ -54,9 +55,9 @@ pub(crate) fn migrate<S: Shelf>(
     history_name: &str,
     shelf: &mut S,
 ) -> Result<Vec<u8>, Refusal>
-    ensures answer { MatchResult result
-        (λ text. HasTextOf (Some (migrate_files old_name.now history_name.now)) (S.files shelf.old) Whole text.items)
-        (HasCauseOf (migrate_files old_name.now history_name.now) (S.files shelf.old) (S.faults shelf.old) (S.faults shelf.new)) }
+    ensures answer { Sees (S.answers shelf.old) (S.answers shelf.new) (λ seen. MatchResult result
+        (λ text. HasTextOf (Some (migrate_files old_name.now history_name.now)) seen Whole text.items)
+        (HasCauseOf (migrate_files old_name.now history_name.now) seen)) }
     ensures counts { NeverFalls (S.faults shelf.old) (S.faults shelf.new) }
     ensures same { S.files shelf.new ≡ S.files shelf.old }
 {

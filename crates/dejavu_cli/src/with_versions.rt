@@ -1,6 +1,7 @@
 //! Commands on two versions, and on two versions with a certificate.
 ghost use Rattle.std.specs.Prelude.{◌≡◌, MatchResult, Some};
 ghost use Rattle.dv_outside.specs.Outside.{NeverFalls};
+ghost use Rattle.command_files.specs.Files.{Sees};
 ghost use Rattle.command_words.specs.Words.{walk_files, certify_files, check_files};
 ghost use Rattle.dejavu_cli.specs.Texts.{HasTextOf, end_of_check};
 ghost use Rattle.dejavu_cli.specs.Causes.{HasCauseOf};
@@ -21,9 +22,9 @@ pub(crate) fn walk<S: Shelf>(
     new_name: &str,
     shelf: &mut S,
 ) -> Result<Vec<u8>, Refusal>
-    ensures answer { MatchResult result
-        (λ text. HasTextOf (Some (walk_files old_name.now new_name.now)) (S.files shelf.old) Whole text.items)
-        (HasCauseOf (walk_files old_name.now new_name.now) (S.files shelf.old) (S.faults shelf.old) (S.faults shelf.new)) }
+    ensures answer { Sees (S.answers shelf.old) (S.answers shelf.new) (λ seen. MatchResult result
+        (λ text. HasTextOf (Some (walk_files old_name.now new_name.now)) seen Whole text.items)
+        (HasCauseOf (walk_files old_name.now new_name.now) seen)) }
     ensures counts { NeverFalls (S.faults shelf.old) (S.faults shelf.new) }
     ensures same { S.files shelf.new ≡ S.files shelf.old }
 {
@@ -38,9 +39,9 @@ pub(crate) fn certify<S: Shelf>(
     new_name: &str,
     shelf: &mut S,
 ) -> Result<Vec<u8>, Refusal>
-    ensures answer { MatchResult result
-        (λ text. HasTextOf (Some (certify_files old_name.now new_name.now)) (S.files shelf.old) Whole text.items)
-        (HasCauseOf (certify_files old_name.now new_name.now) (S.files shelf.old) (S.faults shelf.old) (S.faults shelf.new)) }
+    ensures answer { Sees (S.answers shelf.old) (S.answers shelf.new) (λ seen. MatchResult result
+        (λ text. HasTextOf (Some (certify_files old_name.now new_name.now)) seen Whole text.items)
+        (HasCauseOf (certify_files old_name.now new_name.now) seen)) }
     ensures counts { NeverFalls (S.faults shelf.old) (S.faults shelf.new) }
     ensures same { S.files shelf.new ≡ S.files shelf.old }
 {
@@ -56,9 +57,9 @@ pub(crate) fn check<S: Shelf>(
     certificate_name: &str,
     shelf: &mut S,
 ) -> Result<Answer, Refusal>
-    ensures answer { MatchResult result
-        (λ answer. HasTextOf (Some (check_files old_name.now new_name.now certificate_name.now)) (S.files shelf.old) answer.end answer.text.items)
-        (HasCauseOf (check_files old_name.now new_name.now certificate_name.now) (S.files shelf.old) (S.faults shelf.old) (S.faults shelf.new)) }
+    ensures answer { Sees (S.answers shelf.old) (S.answers shelf.new) (λ seen. MatchResult result
+        (λ answer. HasTextOf (Some (check_files old_name.now new_name.now certificate_name.now)) seen answer.end answer.text.items)
+        (HasCauseOf (check_files old_name.now new_name.now certificate_name.now) seen)) }
     ensures counts { NeverFalls (S.faults shelf.old) (S.faults shelf.new) }
     ensures same { S.files shelf.new ≡ S.files shelf.old }
 {

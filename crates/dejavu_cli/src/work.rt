@@ -1,6 +1,7 @@
 //! What the words ask for.
 ghost use Rattle.std.specs.Prelude.{◌≡◌, MatchResult, Some};
 ghost use Rattle.dv_outside.specs.Outside.{NeverFalls};
+ghost use Rattle.command_files.specs.Files.{Sees};
 ghost use Rattle.command_words.specs.Words.{command_of, texts_of};
 ghost use Rattle.command_words.specs.Shown.{command_shown, HasNumbers};
 ghost use Rattle.dejavu_cli.specs.Texts.{HasTextOf};
@@ -26,9 +27,9 @@ pub(crate) fn work<R: Threads + Sync, S: Shelf, G: Gate>(
     shelf: &mut S,
     gate: &G,
 ) -> Result<Answer, Refusal>
-    ensures answer { MatchResult result
-        (λ answer. HasTextOf (command_of (texts_of words.now)) (S.files shelf.old) answer.end answer.text.items)
-        (HasCause (command_of (texts_of words.now)) (S.files shelf.old) (S.faults shelf.old) (S.faults shelf.new)) }
+    ensures answer { Sees (S.answers shelf.old) (S.answers shelf.new) (λ seen. MatchResult result
+        (λ answer. HasTextOf (command_of (texts_of words.now)) seen answer.end answer.text.items)
+        (HasCause (command_of (texts_of words.now)) seen)) }
     ensures counts { NeverFalls (S.faults shelf.old) (S.faults shelf.new) }
     ensures same { S.files shelf.new ≡ S.files shelf.old }
 {
@@ -47,9 +48,9 @@ fn answer_to<R: Threads + Sync, S: Shelf, G: Gate>(
     gate: &G,
 ) -> Result<Answer, Refusal>
     requires { HasNumbers command }
-    ensures answer { MatchResult result
-        (λ answer. HasTextOf (Some (command_shown command.entry)) (S.files shelf.old) answer.end answer.text.items)
-        (HasCauseOf (command_shown command.entry) (S.files shelf.old) (S.faults shelf.old) (S.faults shelf.new)) }
+    ensures answer { Sees (S.answers shelf.old) (S.answers shelf.new) (λ seen. MatchResult result
+        (λ answer. HasTextOf (Some (command_shown command.entry)) seen answer.end answer.text.items)
+        (HasCauseOf (command_shown command.entry) seen)) }
     ensures counts { NeverFalls (S.faults shelf.old) (S.faults shelf.new) }
     ensures same { S.files shelf.new ≡ S.files shelf.old }
 {

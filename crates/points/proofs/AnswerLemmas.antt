@@ -1,14 +1,14 @@
--- What the work comes to, and what is written of it.
-use Rattle.std.proofs.Common.{◌≡◌, ℕ, inl, inr, List, [], Option, Some, None, refl, sym, ap, subst, append-nil, arith}
-use Rattle.dv_outside.specs.Outside.{Files, IsFetched, Appends}
+-- What the work comes to, and what the output takes of it.
+use Rattle.std.proofs.Common.{◌≡◌, ℕ, inl, inr, List, [], ◌∷◌, ◌++◌, Option, Some, None, Ok, Err, map, refl, sym, ap, append-nil}
+use Rattle.dv_outside.specs.Outside.{Answer, Answers}
+use Rattle.dv_outside.specs.declared.shelf.FetchError.TheVariants as fetch
 use Rattle.csub_semantics.specs.Syntax.{ProgramTree}
 use Rattle.csub_answers.specs.Accepted.{Accepted}
 use Rattle.command_refusals.specs.Refusals.{refusal_line}
 use Rattle.command_refusals.specs.declared.refusal.Role.TheVariants as role
 use Rattle.command_refusals.specs.declared.refusal.Refusal.{Refusal}
 use Rattle.command_refusals.specs.declared.refusal.Refusal.TheVariants as refusal
-use Rattle.command_files.specs.Files.{WhereTold, IsFetchCause, IsSourceCause}
-use Rattle.command_files.proofs.LawsFiles.{found_file, has_no_source}
+use Rattle.command_files.specs.Files.{source_and_one, came, missed, Asks, Sees, IsFetchCause, IsSourceCause}
 use Rattle.points_report.specs.PointTexts.{points_text}
 use Rattle.points.specs.declared.status.Ended.{Ended}
 use Rattle.points.specs.declared.status.Ended.TheVariants as ended
@@ -16,64 +16,63 @@ use Rattle.points.specs.Answers.{IsListing, HasCause, ended_of, Decides, Says, R
 
 -- ---- what is read
 
-module _ (told : Option Files) (name : List ℕ) (before now : List ℕ → ℕ) where
+module _ (name : List ℕ) (a b : List Answer) where
   -- a source that isn't read
-  pub not_fetched : (r : Refusal) → IsFetchCause (before name) (now name) r → HasCause name told before now r
-  not_fetched refusal.Memory h = tt
-  not_fetched refusal.ReadFault h = h
-  not_fetched refusal.Usage h = absurd h
-  not_fetched (refusal.Source which cause) h = absurd h
-  not_fetched (refusal.Suite cause) h = absurd h
-  not_fetched (refusal.History cause) h = absurd h
-  not_fetched (refusal.Certificate cause) h = absurd h
-  not_fetched (refusal.NoTest test) h = absurd h
-  not_fetched (refusal.TooMuch which count) h = absurd h
+  pub not_fetched : (r : Refusal) → IsFetchCause a b name source_and_one r → Sees a b (λ seen. HasCause name seen r)
+  not_fetched refusal.ReadFault cause = (missed name source_and_one ∷ [], cause, refl)
+  not_fetched refusal.Memory cause = ((name, source_and_one, Err fetch.Memory) ∷ [], cause, ([], refl))
+  not_fetched r cause = absurd cause
 
-  -- one that isn't accepted
-  pub not_read : (source : List ℕ) → IsFetched told name 1048577 source → (r : Refusal) → IsSourceCause role.Source source r → HasCause name told before now r
-  not_read source fetched refusal.Memory h = tt
-  not_read source fetched (refusal.Source which cause) h = (h.0, has_no_source told name source fetched cause h.1)
-  not_read source fetched refusal.ReadFault h = absurd h
-  not_read source fetched refusal.Usage h = absurd h
-  not_read source fetched (refusal.Suite cause) h = absurd h
-  not_read source fetched (refusal.History cause) h = absurd h
-  not_read source fetched (refusal.Certificate cause) h = absurd h
-  not_read source fetched (refusal.NoTest test) h = absurd h
-  not_read source fetched (refusal.TooMuch which count) h = absurd h
+  module _ (source : List ℕ) (fetched : Answers a b name source_and_one (Ok source)) where
+    -- one that isn't accepted
+    pub not_read : (r : Refusal) → IsSourceCause role.Source source r → Sees a b (λ seen. HasCause name seen r)
+    not_read (refusal.Source which why) cause = (came name source_and_one source ∷ [], fetched, (cause.0, (source, refl, cause.1)))
+    not_read refusal.Memory cause = (came name source_and_one source ∷ [], fetched, ([], refl))
+    not_read r cause = absurd cause
 
--- the text of one that is
-pub is_listing : (told : Option Files) (name source : List ℕ) (P : ProgramTree) (text : List ℕ) → IsFetched told name 1048577 source → Accepted source P
-    → ((Q : ProgramTree) → Accepted source Q → Q ≡ P) → text ≡ points_text P source → WhereTold told (λ files. IsListing files name text)
-is_listing told name source P text fetched accepted alone is files at =
-    let short = accepted.reads.short in
-    record {
-      source = source;
-      program = P;
-      found = found_file told name 1048577 source fetched (omega (arith, short)) files at;
-      accepted = accepted;
-      alone = alone;
-      is = is;
-    }
+    -- want of memory behind it
+    pub no_memory : Sees a b (λ seen. HasCause name seen refusal.Memory)
+    no_memory = (came name source_and_one source ∷ [], fetched, ([], refl))
 
--- ---- what is written
+    -- the text of one that is
+    pub is_listing : (P : ProgramTree) (text : List ℕ) → Accepted source P → ((Q : ProgramTree) → Accepted source Q → Q ≡ P) → text ≡ points_text P source
+        → Sees a b (λ seen. IsListing name seen text)
+    is_listing P text accepted alone is = (
+      came name source_and_one source ∷ [],
+      fetched,
+      record { source = source; program = P; fetched = refl; accepted = accepted; alone = alone; is = is },
+    )
 
-pub nothing_added : (before : Option (List ℕ)) → Appends before before []
-nothing_added None = refl
-nothing_added (Some held) = ap Some (sym (append-nil held))
+-- ---- what is taken
 
-abbrev pub Answers : Option (List ℕ) → Option Files → (List ℕ → ℕ) → (List ℕ → ℕ) → Option (List ℕ) → Option (List ℕ) → ℕ → ℕ → Ended → Type 0
-Answers name told before now written_before written_now faults_before faults_now given =
-    (e : Ended) × (text : List ℕ) × Decides name told before now e text × Says written_before written_now faults_before faults_now e text given
+abbrev pub Gives : Option (List ℕ) → List Answer → List Answer → List ℕ → List ℕ → ℕ → ℕ → Ended → Type 0
+Gives name asked_before asked_now before now faults_before faults_now given =
+    Sees asked_before asked_now (λ seen. (e : Ended) × (text : List ℕ) × Decides name seen e text × Says before now faults_before faults_now e text given)
 
-module _ (told : Option Files) (before now : List ℕ → ℕ) (written_before written_now : Option (List ℕ)) (faults_before faults_now : ℕ) (given : Ended) where
-  -- the words name no source
-  pub usage : (name : Option (List ℕ)) → name ≡ None → given ≡ ended.Usage → written_now ≡ written_before
-      → Answers name told before now written_before written_now faults_before faults_now given
-  usage None none is same = (ended.Usage, [], (refl, refl), inl (is, subst (λ w. Appends written_before w []) (sym same) (nothing_added written_before)))
-  usage (Some name) none is same = absurd (cc)
+-- whatever the refusal, no other file was asked for
+asked_one : (name source : List ℕ) (seen : List Answer) → seen ≡ came name source_and_one source ∷ [] → Asks ((name, source_and_one) ∷ []) seen
+asked_one name source seen is = ([], ap (λ (l : List Answer). map (λ (answer : Answer). (answer.0, answer.1)) l ++ []) (sym is))
 
-  -- a text that isn't made
-  pub refused : (name : List ℕ) (r : Refusal) → HasCause name told before now r → Refuses written_before written_now faults_before faults_now r given
-      → Answers (Some name) told before now written_before written_now faults_before faults_now given
-  refused name r cause (inl says) = (ended_of r, refusal_line r, inr (r, refl, refl, cause), says)
-  refused name r cause (inr says) = (ended.Memory, refusal_line refusal.Memory, inr (refusal.Memory, refl, refl, tt), says)
+asked : (name : List ℕ) (seen : List Answer) (r : Refusal) → HasCause name seen r → HasCause name seen refusal.Memory
+asked name seen (refusal.Source which why) cause = asked_one name cause.1.0 seen cause.1.1
+asked name seen refusal.ReadFault cause = ([], ap (λ (l : List Answer). map (λ (answer : Answer). (answer.0, answer.1)) l ++ []) (sym cause))
+asked name seen refusal.Memory cause = cause
+asked name seen r cause = absurd cause
+
+module _ (a b : List Answer) (before now : List ℕ) (faults_before faults_now : ℕ) (given : Ended) where
+  -- a text that is made
+  pub done : (name text : List ℕ) → Sees a b (λ seen. IsListing name seen text) → Says before now faults_before faults_now ended.Done text given
+      → Gives (Some name) a b before now faults_before faults_now given
+  done name text (seen, added, is) says = (seen, added, (ended.Done, text, inl (refl, is), says))
+
+  -- one that isn't
+  pub refused : (name : List ℕ) (r : Refusal) → Sees a b (λ seen. HasCause name seen r) → Refuses before now faults_before faults_now r given
+      → Gives (Some name) a b before now faults_before faults_now given
+  refused name r (seen, added, cause) (inl says) = (seen, added, (ended_of r, refusal_line r, inr (r, refl, refl, cause), says))
+  refused name r (seen, added, cause) (inr says) =
+      (seen, added, (ended.Memory, refusal_line refusal.Memory, inr (refusal.Memory, refl, refl, asked name seen r cause), says))
+
+-- the words name no source
+pub usage : (a : List Answer) (before : List ℕ) (faults : ℕ) (name : Option (List ℕ)) → name ≡ None → Gives name a a before before faults faults ended.Usage
+usage a before faults None none = ([], sym (append-nil a), (ended.Usage, [], (refl, refl, refl), inl (refl, sym (append-nil before))))
+usage a before faults (Some name) none = absurd (cc)

@@ -2,7 +2,7 @@
 ghost use Rattle.std.specs.Prelude.{◌≡◌, ◌≤◌, ℕ, List, MatchResult, Some};
 ghost use Rattle.std.specs.Option.{option_map};
 ghost use Rattle.dv_outside.specs.Outside.{NeverFalls};
-ghost use Rattle.command_files.specs.Files.{WhereTold};
+ghost use Rattle.command_files.specs.Files.{Sees};
 ghost use Rattle.points.specs.Words.{is_option, source_name, texts_of};
 ghost use Rattle.points.specs.Answers.{Decides, HasCause, IsListing, Refuses, Says};
 
@@ -23,10 +23,11 @@ pub fn list_points<S: Shelf, K: Sink>(
     shelf: &mut S,
     out: &mut K,
 ) -> Ended
-    // What is written is decided by the words and the files, and each answer has its cause.
-    ensures answer { (ended : Ended) × (text : List ℕ)
-        × Decides (source_name (texts_of words.now)) (S.files shelf.old) (S.faults shelf.old) (S.faults shelf.new) ended text
-        × Says (K.written out.old) (K.written out.new) (K.faults out.old) (K.faults out.new) ended text result }
+    // What is written is decided by the words and what came of the source, over every shelf and output, and each answer has its
+    // cause.
+    ensures answer { Sees (S.answers shelf.old) (S.answers shelf.new) (λ seen. (ended : Ended) × (text : List ℕ)
+        × Decides (source_name (texts_of words.now)) seen ended text
+        × Says (K.taken out.old) (K.taken out.new) (K.faults out.old) (K.faults out.new) ended text result) }
     // The files stay as they are, and faults are only counted up.
     ensures same { S.files shelf.new ≡ S.files shelf.old }
     ensures counts { NeverFalls (S.faults shelf.old) (S.faults shelf.new) }
@@ -60,9 +61,9 @@ fn is_option(word: &[u8]) -> bool
 
 /// Lists the points and edges of the source in a file.
 fn list_source<S: Shelf, K: Sink>(alloc: Global, name: &str, shelf: &mut S, out: &mut K) -> Ended
-    ensures answer { (ended : Ended) × (text : List ℕ)
-        × Decides (Some name.now) (S.files shelf.old) (S.faults shelf.old) (S.faults shelf.new) ended text
-        × Says (K.written out.old) (K.written out.new) (K.faults out.old) (K.faults out.new) ended text result }
+    ensures answer { Sees (S.answers shelf.old) (S.answers shelf.new) (λ seen. (ended : Ended) × (text : List ℕ)
+        × Decides (Some name.now) seen ended text
+        × Says (K.taken out.old) (K.taken out.new) (K.faults out.old) (K.faults out.new) ended text result) }
     ensures same { S.files shelf.new ≡ S.files shelf.old }
     ensures counts { NeverFalls (S.faults shelf.old) (S.faults shelf.new) }
     ensures out_counts { K.faults out.old ≤ K.faults out.new }
@@ -75,9 +76,9 @@ fn list_source<S: Shelf, K: Sink>(alloc: Global, name: &str, shelf: &mut S, out:
 
 /// The text that lists the points and the edges of the source in a file.
 fn listing<S: Shelf>(alloc: Global, name: &str, shelf: &mut S) -> Result<Vec<u8>, Refusal>
-    ensures answer { MatchResult result
-        (λ text. WhereTold (S.files shelf.old) (λ files. IsListing files name.now text.items))
-        (HasCause name.now (S.files shelf.old) (S.faults shelf.old) (S.faults shelf.new)) }
+    ensures answer { Sees (S.answers shelf.old) (S.answers shelf.new) (λ seen. MatchResult result
+        (λ text. IsListing name.now seen text.items)
+        (HasCause name.now seen)) }
     ensures same { S.files shelf.new ≡ S.files shelf.old }
     ensures counts { NeverFalls (S.faults shelf.old) (S.faults shelf.new) }
 {
@@ -89,7 +90,7 @@ fn listing<S: Shelf>(alloc: Global, name: &str, shelf: &mut S) -> Result<Vec<u8>
 
 /// Writes the line of a refusal; where there is no memory for it, the line for want of memory.
 fn refuse<K: Sink>(alloc: Global, out: &mut K, refusal: &Refusal) -> Ended
-    ensures refuses { Refuses (K.written out.old) (K.written out.new) (K.faults out.old) (K.faults out.new) refusal.now result }
+    ensures refuses { Refuses (K.taken out.old) (K.taken out.new) (K.faults out.old) (K.faults out.new) refusal.now result }
     ensures counts { K.faults out.old ≤ K.faults out.new }
 {
     match refusal_text(alloc, refusal) {
@@ -100,7 +101,7 @@ fn refuse<K: Sink>(alloc: Global, out: &mut K, refusal: &Refusal) -> Ended
 
 /// Writes the text, and gives the answer, or that the write failed.
 fn say<K: Sink>(out: &mut K, ended: Ended, text: &[u8]) -> Ended
-    ensures says { Says (K.written out.old) (K.written out.new) (K.faults out.old) (K.faults out.new) ended text.now result }
+    ensures says { Says (K.taken out.old) (K.taken out.new) (K.faults out.old) (K.faults out.new) ended text.now result }
     ensures counts { K.faults out.old ≤ K.faults out.new }
 {
     match write_whole(out, text) {

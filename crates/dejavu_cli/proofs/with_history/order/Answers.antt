@@ -1,22 +1,31 @@
-use Rattle.std.proofs.Common.{List, ℕ, subst, MatchResult}
+use Rattle.std.proofs.Common.{refl, List, ℕ, subst, MatchResult}
 use Rattle.csub_semantics.specs.Syntax.{program_tree}
 use Rattle.test_history.specs.declared.version.Version.TheVariants.{Third}
 use Rattle.command_files.specs.Steps.{IsHistoryCause}
 use Rattle.command_histories.specs.Orders.{IsOrdering}
 use Rattle.command_words.specs.Words.{order_files}
-use Rattle.command_files.proofs.LawsRefusals.{passed_on}
+use Rattle.command_files.proofs.LawsRefusals.{passed_seen}
 use Rattle.dejavu_cli.proofs.OpenLemmas.{three_refused, ordered}
 use Rattle.dejavu_cli.proofs.with_history.order.Goals as goal
 
 pub returns-clause-answer : goal.returns-clause-answer
 returns-clause-answer g c =
     let v = c.in_ok-opened.opened.versions in
-    ordered (g.S.Shelf.files c.args.shelf.now) (g.S.Shelf.faults c.args.shelf.now) (g.S.Shelf.faults c.open_files.new.shelf) c.args.files.old.now c.args.files.new.now c.args.files.history.now
-    c.in_ok-opened.opened c.in_ok-opened.ensures.opened c.args.runner.workers c.ordered_text.result
-    (subst (λ (b : List ℕ). MatchResult c.ordered_text.result (λ text. IsOrdering v.source.items b (program_tree v.old) (program_tree v.new) text.items) (IsHistoryCause Third v.source.items b (program_tree v.old))) c.deref.ensures.value c.ordered_text.ensures)
+    let sees = c.in_ok-opened.ensures.opened in (
+      sees.0,
+      sees.1,
+      ordered sees.0 c.args.files.old.now c.args.files.new.now c.args.files.history.now c.in_ok-opened.opened sees.2 c.args.runner.workers c.ordered_text.result
+          (subst (λ (b : List ℕ). MatchResult c.ordered_text.result (λ text. IsOrdering v.source.items b (program_tree v.old) (program_tree v.new) text.items) (IsHistoryCause Third v.source.items b (program_tree v.old))) c.deref.ensures.value c.ordered_text.ensures),
+    )
 
 pub returns-in_err-opened-clause-answer : goal.returns-in_err-opened-clause-answer
 returns-in_err-opened-clause-answer g c =
-    passed_on c.from_residual.result _ _ c.in_err-opened.field-0.0 c.from_residual.ensures.1
-    (three_refused (order_files c.args.files.old.now c.args.files.new.now c.args.files.history.now c.args.runner.workers) (g.S.Shelf.files c.args.shelf.now) (g.S.Shelf.faults c.args.shelf.now) (g.S.Shelf.faults c.open_files.new.shelf) c.args.files.old.now c.args.files.new.now c.args.files.history.now
-    (λ which why bad. bad) (λ fault. fault) c.in_err-opened.field-0.0 c.in_err-opened.ensures.opened)
+    let sees = c.in_err-opened.ensures.opened in
+    passed_seen _ _ c.from_residual.result _ _ c.in_err-opened.field-0.0 c.from_residual.ensures.1 (
+      sees.0,
+      sees.1,
+      three_refused (order_files c.args.files.old.now c.args.files.new.now c.args.files.history.now c.args.runner.workers) sees.0 c.args.files.old.now c.args.files.new.now c.args.files.history.now refl (λ which why bad. bad) (λ fault. fault) c.in_err-opened.field-0.0 sees.2,
+    )
+
+pub ordered_text-requires-clause-alone : goal.ordered_text-requires-clause-alone
+ordered_text-requires-clause-alone g c = c.in_ok-opened.ensures.opened.2.sources.old_alone
