@@ -1,7 +1,7 @@
-//! The files and the standard output of the system. They tell nothing of contents: what the system does to them is trusted.
+//! The files and the standard output of the system: nothing is told of contents, and the logs have what the system answered.
 //!
-//! What no clause says, and is read: that the file of the name is opened, that its bytes are those that the reader gives, and
-//! that the piece is what the system is asked to write. What came and what was taken is logged by the answers of these calls.
+//! The premise: it gives the bytes of the files that it is asked for, and keeps those that it takes. What no clause says, and is
+//! read here: the file of the name is opened, the bytes are those that the reader gives, and the piece is what it has to write.
 ghost use Rattle.std.specs.Prelude.{◌≡◌, ◌≢◌, ◌≤◌, ◌↔◌, length, take, IfOk, IfSome};
 ghost use Rattle.std.specs.IoError.{error_kind};
 
