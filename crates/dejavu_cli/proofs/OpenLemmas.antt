@@ -255,9 +255,17 @@ generated before seed count (Err (refusal.Source which why)) cause = ([], sym (a
 generated before seed count (Err refusal.Memory) cause = ([], sym (append-nil before), ([], refl))
 generated before seed count (Err r) cause = absurd cause
 
-pub nothing_asked : (c : Option Command) → HasCause c [] refusal.Memory
+nothing_asked : (c : Option Command) → HasCause c [] refusal.Memory
 nothing_asked None = refl
 nothing_asked (Some c) = (asks (reads c), refl)
+
+-- want of memory for the words, and words that are no command
+pub no_words : (before : List Answer) (c : Option Command) → Sees before before (λ seen. HasCause c seen refusal.Memory)
+no_words before c = ([], sym (append-nil before), nothing_asked c)
+
+pub no_command : (before : List Answer) (c : Option Command) → c ≡ None → Sees before before (λ seen. HasCause c seen refusal.Usage)
+no_command before None is = ([], sym (append-nil before), refl)
+no_command before (Some c) is = absurd (cc)
 
 -- ---- the answer to the command that is shown
 
