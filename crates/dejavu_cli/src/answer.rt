@@ -6,7 +6,7 @@ use command_refusals::Refusal;
 
 /// How a command that is done ends.
 #[derive(Clone, Copy, Debug, PartialEq, Eq)]
-pub(crate) enum End {
+pub enum End {
     /// There is nothing more to say than its text.
     Whole,
     /// A test that `rerun` ran again differs.

@@ -26,6 +26,7 @@ mod work;
 use crate::answer::Answer;
 use crate::status::{done_as, refusal_status};
 use crate::work::work;
+pub use answer::End;
 use command_refusals::{MEMORY_LINE, Refusal, refusal_text};
 use dv_outside::{Gate, Shelf, Sink, write_whole};
 pub use status::Status8;
