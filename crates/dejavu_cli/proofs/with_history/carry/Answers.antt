@@ -27,7 +27,7 @@ returns-in_err-opened-clause-answer g c =
     )
 
 pub carried_text-requires-clause-alone : goal.carried_text-requires-clause-alone
-carried_text-requires-clause-alone g c = c.in_ok-opened.ensures.opened.2.sources.old_alone
+carried_text-requires-clause-alone g c = λ lifetimes outlive. c.in_ok-opened.ensures.opened.2.sources.old_alone
 
 pub carried_text-requires-clause-accepted : goal.carried_text-requires-clause-accepted
-carried_text-requires-clause-accepted g c = c.in_ok-opened.ensures.opened.2.sources.new_accepted
+carried_text-requires-clause-accepted g c = λ lifetimes outlive. c.in_ok-opened.ensures.opened.2.sources.new_accepted

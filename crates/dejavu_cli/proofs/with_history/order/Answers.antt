@@ -28,4 +28,4 @@ returns-in_err-opened-clause-answer g c =
     )
 
 pub ordered_text-requires-clause-alone : goal.ordered_text-requires-clause-alone
-ordered_text-requires-clause-alone g c = c.in_ok-opened.ensures.opened.2.sources.old_alone
+ordered_text-requires-clause-alone g c = λ lifetimes outlive. c.in_ok-opened.ensures.opened.2.sources.old_alone

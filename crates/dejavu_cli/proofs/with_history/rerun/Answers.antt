@@ -29,4 +29,4 @@ returns-in_err-opened-clause-answer g c =
     )
 
 pub rerun_answer-requires-clause-alone : goal.rerun_answer-requires-clause-alone
-rerun_answer-requires-clause-alone g c = c.in_ok-opened.ensures.opened.2.sources.old_alone
+rerun_answer-requires-clause-alone g c = λ lifetimes outlive. c.in_ok-opened.ensures.opened.2.sources.old_alone
