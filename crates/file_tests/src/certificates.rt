@@ -1,9 +1,11 @@
 //! Certificates that are read and written. The sums were taken by Python's hashlib; the digests of `abc` and of no bytes are
 //! the examples of FIPS 180-4.
 use crate::known_history::lines_before;
+use crate::tables::{bytes_of, cut_three, is_row};
 use cert_text::{Bounds, Certificate, CertificateError, read_text, write_certificate};
 use line_text::read_digest;
 use std::alloc::{AllocError, Global};
+use std::process::Abort;
 use std::test::Fail;
 
 const OLD: &[u8] = b"abc";
@@ -104,78 +106,69 @@ fn each_cause_has_its_certificate(rt: HostRuntime) -> Result<(), Fail> {
     Ok(())
 }
 
-/// Lines behind those of `TEXT` before a number, the line that is refused, and its rule.
-const REFUSED: &[(u32, &str, u32, u8)] = &[
-    // the first three lines
-    (1, "", 1, 1),
-    (1, "dejavu certificate 1", 1, 1),
-    (1, "dejavu certificate 2\n", 1, 1),
-    (1, "dejavu certificate 01\n", 1, 1),
-    (1, "dejavu history 1\n", 1, 1),
-    (2, "", 2, 2),
-    (2, "old ba78\n", 2, 2),
-    (
-        2,
-        "old Ba7816bf8f01cfea414140de5dae2223b00361a396177a9cb410ff61f20015ad\n",
-        2,
-        2,
-    ),
-    (
-        2,
-        "new ba7816bf8f01cfea414140de5dae2223b00361a396177a9cb410ff61f20015ad\n",
-        2,
-        2,
-    ),
-    (3, "", 3, 3),
-    (3, "new -\n", 3, 3),
-    (
-        3,
-        "new  e3b0c44298fc1c149afbf4c8996fb92427ae41e4649b934ca495991b7852b855\n",
-        3,
-        3,
-    ),
-    // the edges
-    (4, "", 4, 4),
-    (4, "dangerous 10\n", 4, 4),
-    (4, "dangerous 01\n", 4, 4),
-    (4, "dangerous 9\n", 5, 5),
-    (4, "dangerous 1\nedge 9\n", 5, 5),
-    (4, "dangerous 2\nedge 3\nedge 3\n", 6, 5),
-    (4, "dangerous 2\nedge 3\nedge 2\n", 6, 5),
-    (4, "dangerous 2\nedge 3\nedge 8\n", 7, 6),
-    // the pairs
-    (4, "dangerous 0\npairs 100000001\n", 5, 6),
-    (4, "dangerous 0\npairs 100000000\n", 6, 7),
-    (4, "dangerous 0\npairs 1\npair 10 0\n", 6, 7),
-    (4, "dangerous 0\npairs 1\npair 0 12\n", 6, 7),
-    (4, "dangerous 0\npairs 1\npair 0 11\n", 7, 8),
-    (4, "dangerous 0\npairs 1\npair 0\n", 6, 7),
-    (4, "dangerous 0\npairs 1\npair 0  1\n", 6, 7),
-    (4, "dangerous 0\npairs 1\npair 0 1 \n", 6, 7),
-    (4, "dangerous 0\npairs 2\npair 1 1\npair 1 1\n", 7, 7),
-    (4, "dangerous 0\npairs 2\npair 1 1\npair 1 0\n", 7, 7),
-    (4, "dangerous 0\npairs 2\npair 1 1\npair 0 2\n", 7, 7),
-    (4, "dangerous 0\npairs 2\npair 1 1\npair 2 0\n", 8, 8),
-    // the end
-    (16, "", 16, 8),
-    (16, "end -\n", 16, 8),
-    (17, "x\n", 17, 9),
-    (17, "x", 17, 9),
-];
+/// A number, the line that is refused, its rule, and what stands behind the lines of `TEXT` before that number.
+const REFUSED: &str = r#"
+// the first three lines
+1 1 1 -
+1 1 1 dejavu certificate 1
+1 1 1 dejavu certificate 2|
+1 1 1 dejavu certificate 01|
+1 1 1 dejavu history 1|
+2 2 2 -
+2 2 2 old ba78|
+2 2 2 old Ba7816bf8f01cfea414140de5dae2223b00361a396177a9cb410ff61f20015ad|
+2 2 2 new ba7816bf8f01cfea414140de5dae2223b00361a396177a9cb410ff61f20015ad|
+3 3 3 -
+3 3 3 new -|
+3 3 3 new  e3b0c44298fc1c149afbf4c8996fb92427ae41e4649b934ca495991b7852b855|
+// the edges
+4 4 4 -
+4 4 4 dangerous 10|
+4 4 4 dangerous 01|
+4 5 5 dangerous 9|
+4 5 5 dangerous 1|edge 9|
+4 6 5 dangerous 2|edge 3|edge 3|
+4 6 5 dangerous 2|edge 3|edge 2|
+4 7 6 dangerous 2|edge 3|edge 8|
+// the pairs
+4 5 6 dangerous 0|pairs 100000001|
+4 6 7 dangerous 0|pairs 100000000|
+4 6 7 dangerous 0|pairs 1|pair 10 0|
+4 6 7 dangerous 0|pairs 1|pair 0 12|
+4 7 8 dangerous 0|pairs 1|pair 0 11|
+4 6 7 dangerous 0|pairs 1|pair 0|
+4 6 7 dangerous 0|pairs 1|pair 0  1|
+4 6 7 dangerous 0|pairs 1|pair 0 1 |
+4 7 7 dangerous 0|pairs 2|pair 1 1|pair 1 1|
+4 7 7 dangerous 0|pairs 2|pair 1 1|pair 1 0|
+4 7 7 dangerous 0|pairs 2|pair 1 1|pair 0 2|
+4 8 8 dangerous 0|pairs 2|pair 1 1|pair 2 0|
+// the end
+16 16 8 -
+16 16 8 end -|
+17 17 9 x|
+17 17 9 x
+"#;
 
-/// Whether a text is refused for this line and its rule.
-fn is_malformed(alloc: Global, text: &[u8], line: u32, rule: u8) -> bool {
-    refusal_of(alloc, text, OLD, NEW) == Some(CertificateError::Malformed(line, rule))
+/// The text of a row of `REFUSED` is refused for its line and rule.
+fn row_is_refused(rt: &impl Abort, alloc: Global, row: &str) -> Result<(), Fail> {
+    let (number, line, rule, text) = cut_three(row)?;
+    let rule = u8::try_from(rule).map_err(|_| "no rule")?;
+    let text = after_lines(alloc, number, &bytes_of(alloc, text)?)?;
+    let answer = refusal_of(alloc, &text, OLD, NEW);
+    assert!(rt;
+        answer == Some(CertificateError::Malformed(line, rule)),
+        "{row}"
+    );
+    Ok(())
 }
 
 #[test]
 fn every_line_has_a_rule(rt: HostRuntime) -> Result<(), Fail> {
-    for (number, bytes, line, rule) in REFUSED {
-        let text = after_lines(rt.alloc(), *number, bytes.as_bytes())?;
-        assert!(rt;
-            is_malformed(rt.alloc(), &text, *line, *rule),
-            "line {number}: {bytes}"
-        );
+    for row in REFUSED.lines() {
+        if is_row(row) {
+            row_is_refused(&rt, rt.alloc(), row)?;
+        }
     }
     Ok(())
 }

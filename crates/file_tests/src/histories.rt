@@ -1,60 +1,21 @@
 //! Histories that are made and written. The digests and sums were taken by `sha256sum`; those of no bytes and of `abc`
 //! are the examples of FIPS 180-4.
-ghost use Rattle.std.specs.Prelude.{◌≡◌, length, IfOk};
-ghost use Rattle.test_history.specs.Histories.{IsEntryWithin, IsHistoryWithin};
-ghost use Rattle.test_suite.specs.Tests.{IsWithin};
-
-use crate::row_of_numbers::row_of_numbers;
+use crate::made_history::{Results, history_of};
 use csub_core::{Status, Trap};
 use line_text::push_hex;
 use std::alloc::{AllocError, Global};
 use std::test::Fail;
 use std::thread;
 use std::thread::Threads;
-use test_history::{Entry, History, digest_of, read_history, write_history};
-use test_suite::{Test, copy_test, read_suite};
+use test_history::{History, digest_of, read_history, write_history};
 
 /// A source of 9 edges.
 const SOURCE: &[u8] =
     b"int main(void) { int c; c = getchar(); if (c == 65) { putchar(66); } else { putchar(67); } return 0; }";
 
-/// What a run gave: its status, its turns, its output and the edges that it crossed.
-type Results<'a> = (Status, u32, &'a [u8], &'a [u32]);
-
-/// The entry of a test and what its run gave, with a row of 9 edges.
-fn entry_of(alloc: Global, test: &Test, results: Results<'_>) -> Result<Entry, Fail>
-    requires { IsWithin test.now }
-    ensures within { IfOk result IsEntryWithin }
-    ensures row { IfOk result (λ entry. length entry.crossed ≡ 9) }
-{
-    let (status, turns, output, numbers) = results;
-    if turns > test.budget() || output.len() > 16_384 {
-        return Err("a run beyond its limits")?;
-    }
-    let crossed = row_of_numbers(alloc, 9, numbers)?;
-    let copy = copy_test(alloc, test)?;
-    let output = output.to_vec(alloc)?;
-    Ok(Entry::new(copy, status, turns, output, crossed))
-}
-
-/// The history of `SOURCE` with these tests and what their runs gave.
-fn history_of(alloc: Global, suite: &[u8], results: &[Results<'_>]) -> Result<History, Fail>
-    ensures { IfOk result IsHistoryWithin }
-{
-    let tests = read_suite(alloc, suite)?;
-    if tests.len() > results.len() {
-        return Err("a test without a run")?;
-    }
-    let mut entries = Vec::new(alloc);
-    for (place, test) in tests.iter().enumerate() {
-        entries.push(entry_of(alloc, test, results[place])?)?;
-    }
-    Ok(History::new(digest_of(SOURCE), 9, entries))
-}
-
 /// The text of the history of `SOURCE` with these tests and results.
 fn text_of(alloc: Global, suite: &[u8], results: &[Results<'_>]) -> Result<Vec<u8>, Fail> {
-    let history = history_of(alloc, suite, results)?;
+    let history = history_of(alloc, SOURCE, 9, suite, results)?;
     let text = write_history(alloc, &history)?;
     Ok(text)
 }
@@ -195,7 +156,7 @@ fn emptied<R: Threads + Sync>(
 #[test]
 fn workers_read_and_make_histories(rt: HostRuntime) -> Result<(), Fail> {
     let mut histories = Vec::new(rt.alloc());
-    histories.push(history_of(rt.alloc(), b"dejavu suite 1\n", &[])?)?;
+    histories.push(history_of(rt.alloc(), SOURCE, 9, b"dejavu suite 1\n", &[])?)?;
     let made = emptied(&rt, rt.alloc(), &histories)?;
     assert!(rt; made.len() == 1);
     Ok(())

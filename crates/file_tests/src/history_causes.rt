@@ -1,5 +1,7 @@
 //! A history that is read, and the causes of which one hides the next. The digests and sums were taken by `sha256sum`.
-use crate::known_history::{DIGEST, OTHER, SOURCE, TWO_TESTS, refusal, refusal_with, with_line};
+use crate::known_history::{
+    DIGEST, OTHER, SOURCE, TWO_TESTS, refusal, refusal_of, refusal_with, with_line,
+};
 use csub_core::Status;
 use line_text::read_digest;
 use std::test::Fail;
@@ -58,7 +60,7 @@ const VERSIONS: &[(&str, u32)] = &[
 #[test]
 fn another_version_is_told(rt: HostRuntime) -> Result<(), Fail> {
     for &(line, version) in VERSIONS {
-        let answer = refusal_with(rt.alloc(), 1, line)?;
+        let answer = refusal_with(rt.alloc(), 1, line.as_bytes())?;
         assert!(rt; answer == Some(HistoryError::Version(version)), "{line}");
         assert!(rt; refusal(rt.alloc(), line.as_bytes()) == Some(HistoryError::Version(version)));
     }
@@ -75,7 +77,7 @@ fn a_changed_byte_shows_in_the_sum(rt: HostRuntime) -> Result<(), Fail> {
     let computed = read_digest(SUM_WITH_52).expect(&rt, "digits");
     assert!(rt; refusal(rt.alloc(), &text) == Some(HistoryError::Sum(found, computed)));
     // the sum comes before the source and the number of edges
-    let answer = read_history(rt.alloc(), &text, OTHER, 8).err();
+    let answer = refusal_of(rt.alloc(), &text, OTHER, 8);
     assert!(rt; answer == Some(HistoryError::Sum(found, computed)));
     Ok(())
 }
@@ -86,14 +88,14 @@ fn a_history_is_of_one_source_and_its_edges(rt: HostRuntime) -> Result<(), Fail>
     let computed = read_digest(OTHER_DIGEST).expect(&rt, "digits");
     // the source comes before the number of edges
     for edges in [8, 9] {
-        let answer = read_history(rt.alloc(), TWO_TESTS, OTHER, edges).err();
+        let answer = refusal_of(rt.alloc(), TWO_TESTS, OTHER, edges);
         assert!(rt;
             answer == Some(HistoryError::Foreign(found, computed)),
             "{edges}"
         );
     }
     for edges in [8, 10] {
-        let answer = read_history(rt.alloc(), TWO_TESTS, SOURCE, edges).err();
+        let answer = refusal_of(rt.alloc(), TWO_TESTS, SOURCE, edges);
         assert!(rt;
             answer == Some(HistoryError::EdgeCount(9, edges)),
             "{edges}"

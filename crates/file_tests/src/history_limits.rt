@@ -1,5 +1,5 @@
 //! Each limit of a history with its next.
-use crate::known_history::{DIGEST, SOURCE, TWO_TESTS, refusal, with_bytes};
+use crate::known_history::{DIGEST, SOURCE, TWO_TESTS, refusal, refusal_of, with_bytes};
 use csub_core::{Status, Trap};
 use line_text::{push_decimal, push_hex};
 use std::alloc::{AllocError, Global};
@@ -96,7 +96,7 @@ fn a_history_has_at_most_8192_tests(rt: HostRuntime) -> Result<(), Fail> {
     assert!(rt; last.status() == Status::Trap(Trap::Flood) && last.turns() == 8_191);
     assert_eq!(rt; (last.crossed().edges(), last.crossed().count()), (16, 1));
     let more = numbered(alloc, 8_193, 15)?;
-    let answer = read_history(alloc, &more, SOURCE, 16).err();
+    let answer = refusal_of(alloc, &more, SOURCE, 16);
     assert!(rt; answer == Some(HistoryError::Malformed(4, 4)));
     Ok(())
 }
@@ -111,7 +111,7 @@ fn a_history_has_at_most_10000_edges(rt: HostRuntime) -> Result<(), Fail> {
     assert_eq!(rt; (crossed.edges(), crossed.count()), (10_000, 2));
     assert!(rt; crossed.edges() == 10_000 && crossed.has(64) && crossed.has(9_999));
     let more = numbered(alloc, 65, 10_000)?;
-    let answer = read_history(alloc, &more, SOURCE, 10_001).err();
+    let answer = refusal_of(alloc, &more, SOURCE, 10_001);
     assert!(rt; answer == Some(HistoryError::Malformed(3, 3)));
     Ok(())
 }

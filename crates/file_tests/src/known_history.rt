@@ -105,23 +105,33 @@ pub fn with_bytes(
     Ok(out)
 }
 
+/// Why a text is refused as a history of a source with so many edges.
+pub fn refusal_of(alloc: Global, text: &[u8], source: &[u8], edges: u32) -> Option<HistoryError> {
+    read_history(alloc, text, source, edges).err()
+}
+
+/// The same in version 2.
+pub fn refusal_2_of(alloc: Global, text: &[u8], source: &[u8], edges: u32) -> Option<HistoryError> {
+    read_history_2(alloc, text, source, edges).err()
+}
+
 /// Why a text is refused as a history of `SOURCE`.
 pub fn refusal(alloc: Global, text: &[u8]) -> Option<HistoryError> {
-    read_history(alloc, text, SOURCE, 9).err()
+    refusal_of(alloc, text, SOURCE, 9)
 }
 
-/// Why a text is refused as a history of `SOURCE` in version 2.
+/// The same in version 2.
 pub fn refusal_2(alloc: Global, text: &[u8]) -> Option<HistoryError> {
-    read_history_2(alloc, text, SOURCE, 9).err()
+    refusal_2_of(alloc, text, SOURCE, 9)
 }
 
-/// Why `TWO_TESTS` is refused with another line in place of its line `number`.
+/// Why `TWO_TESTS` is refused with these bytes in place of its line `number`.
 pub fn refusal_with(
     alloc: Global,
     number: u32,
-    line: &str,
+    bytes: &[u8],
 ) -> Result<Option<HistoryError>, AllocError> {
-    let text = with_line(alloc, TWO_TESTS, number, line)?;
+    let text = with_bytes(alloc, TWO_TESTS, number, bytes)?;
     Ok(refusal(alloc, &text))
 }
 
@@ -129,8 +139,8 @@ pub fn refusal_with(
 pub fn refusal_2_with(
     alloc: Global,
     number: u32,
-    line: &str,
+    bytes: &[u8],
 ) -> Result<Option<HistoryError>, AllocError> {
-    let text = with_line(alloc, TWO_TESTS_2, number, line)?;
+    let text = with_bytes(alloc, TWO_TESTS_2, number, bytes)?;
     Ok(refusal_2(alloc, &text))
 }

@@ -20,6 +20,8 @@ mod history_version_2;
 #[cfg(test)]
 mod known_history;
 #[cfg(test)]
+mod made_history;
+#[cfg(test)]
 mod numbers;
 #[cfg(test)]
 mod orders;
@@ -35,6 +37,8 @@ mod selections;
 mod suite_limits;
 #[cfg(test)]
 mod suites;
+#[cfg(test)]
+mod tables;
 #[cfg(test)]
 mod texts;
 #[cfg(test)]

@@ -1,17 +1,15 @@
 //! Three tests of a program of 10 edges, and the order of those that are selected.
-ghost use Rattle.std.specs.Prelude.{◌≡◌, ◌<◌, ◌≤◌, length, IfOk};
+ghost use Rattle.std.specs.Prelude.{◌<◌, ◌≤◌};
 
-use crate::row_of_numbers::row_of_numbers;
+use crate::made_history::{Results, history_of};
 use csub_core::Status;
 use dv_outside::{Gate, OpenGate};
-use std::alloc::{AllocError, Global};
+use std::alloc::Global;
 use std::sync::atomic::{AtomicU64, Ordering};
 use std::test::Fail;
 use std::thread::Threads;
-use test_history::{Entry, History, digest_of};
 use test_order::{Placed, order, order_text};
 use test_select::Choice;
-use test_suite::{Test, copy_test, read_suite};
 
 /// The edges that the tests A, C and B crossed: A and C the same, and B two that these didn't.
 const TWO_ALIKE: [&[u32]; 3] = [
@@ -25,28 +23,18 @@ const TWO_EQUALS: [&[u32]; 3] = [&[0], &[1, 2], &[0, 1]];
 
 const SELECTED: Choice = Choice::Selected(0);
 
-/// The entry of a test that crossed these edges.
-fn entry_with(alloc: Global, test: &Test, numbers: &[u32]) -> Result<Entry, AllocError>
-    ensures { IfOk result (λ entry. length entry.crossed ≡ 10) }
-{
-    let crossed = row_of_numbers(alloc, 10, numbers)?;
-    let copy = copy_test(alloc, test)?;
-    Ok(Entry::new(copy, Status::Exit(0), 8, Vec::new(alloc), crossed))
+/// What the runs of the tests A, C and B gave, which crossed these edges.
+fn runs<'a>(crossed: [&'a [u32]; 3]) -> [Results<'a>; 3] {
+    let [a, c, b] = crossed;
+    [
+        (Status::Exit(0), 8, b"", a),
+        (Status::Exit(0), 8, b"", c),
+        (Status::Exit(0), 8, b"", b),
+    ]
 }
 
-/// The history of the tests A, C and B, which crossed these edges.
-fn history_of(alloc: Global, crossed: [&[u32]; 3]) -> Result<History, Fail> {
-    let suite = b"dejavu suite 1\ntest A 100 41\ntest C 100 43\ntest B 100 42\n";
-    let tests = read_suite(alloc, suite)?;
-    if tests.len() != crossed.len() {
-        return Err("not three tests")?;
-    }
-    let mut entries = Vec::new(alloc);
-    for (place, test) in tests.iter().enumerate() {
-        entries.push(entry_with(alloc, test, crossed[place])?)?;
-    }
-    Ok(History::new(digest_of(b""), 10, entries))
-}
+/// A suite of these tests.
+const SUITE: &[u8] = b"dejavu suite 1\ntest A 100 41\ntest C 100 43\ntest B 100 42\n";
 
 /// The order of the selected ones of these tests, and its text.
 fn ordering<R: Threads + Sync, G: Gate>(
@@ -60,7 +48,7 @@ fn ordering<R: Threads + Sync, G: Gate>(
     requires some { 0 < workers }
     requires few { workers ≤ 64 }
 {
-    let history = history_of(alloc, crossed)?;
+    let history = history_of(alloc, b"", 10, SUITE, &runs(crossed))?;
     if history.entries().len() != choices.len() {
         return Err("not three entries")?;
     }

@@ -1,44 +1,20 @@
 //! Two tests of a program of 8 edges, and what is selected for some dangerous edges.
-ghost use Rattle.std.specs.Prelude.{◌≡◌, length, IfOk};
-
+use crate::made_history::history_of;
 use crate::row_of_numbers::row_of_numbers;
 use csub_core::Status;
-use std::alloc::{AllocError, Global};
+use std::alloc::Global;
 use std::test::Fail;
-use test_history::{Entry, History, digest_of};
 use test_select::{Choice, select, select_text};
-use test_suite::{Test, copy_test, read_suite};
 
-/// The edges that the tests A and B crossed.
-const CROSSED: [&[u32]; 2] = [&[0, 1, 2, 3, 5, 7], &[0, 1, 2, 4, 6, 7]];
-
-/// The entry of a test that crossed these edges.
-fn entry_with(alloc: Global, test: &Test, numbers: &[u32]) -> Result<Entry, AllocError>
-    ensures { IfOk result (λ entry. length entry.crossed ≡ 8) }
-{
-    let crossed = row_of_numbers(alloc, 8, numbers)?;
-    let copy = copy_test(alloc, test)?;
-    Ok(Entry::new(copy, Status::Exit(0), 8, Vec::new(alloc), crossed))
-}
-
-/// The history of the tests of a suite of at most two.
-fn history_of(alloc: Global, suite: &[u8]) -> Result<History, Fail>
-    ensures { IfOk result (λ history. history.edges ≡ 8) }
-{
-    let tests = read_suite(alloc, suite)?;
-    if tests.len() > CROSSED.len() {
-        return Err("more than two tests")?;
-    }
-    let mut entries = Vec::new(alloc);
-    for (place, test) in tests.iter().enumerate() {
-        entries.push(entry_with(alloc, test, CROSSED[place])?)?;
-    }
-    Ok(History::new(digest_of(b""), 8, entries))
-}
+/// What the runs of the tests A and B gave.
+const RUNS: &[(Status, u32, &[u8], &[u32])] = &[
+    (Status::Exit(0), 8, b"", &[0, 1, 2, 3, 5, 7]),
+    (Status::Exit(0), 8, b"", &[0, 1, 2, 4, 6, 7]),
+];
 
 /// The choices for these dangerous edges, and their text.
 fn selection(alloc: Global, suite: &[u8], danger: &[u32]) -> Result<(Vec<Choice>, Vec<u8>), Fail> {
-    let history = history_of(alloc, suite)?;
+    let history = history_of(alloc, b"", 8, suite, RUNS)?;
     let danger = row_of_numbers(alloc, 8, danger)?;
     let choices = select(alloc, &history, &danger)?;
     if choices.len() != history.entries().len() {

@@ -1,5 +1,8 @@
 //! Suites that are read, copied and written, and the faults of those that are refused.
+use crate::tables::{bytes_of, cut_number, is_row};
 use csub_text::Text;
+use std::alloc::Global;
+use std::process::Abort;
 use std::test::Fail;
 use std::thread;
 use test_suite::{SuiteError, Test, copy_test, is_test_name, read_suite, write_suite};
@@ -35,54 +38,64 @@ fn a_name_begins_with_no_dash_and_is_not_empty(rt: HostRuntime) {
     assert!(rt; is_test_name(b"_9.a-B") && !is_test_name(b"-9") && !is_test_name(b""));
 }
 
-/// A suite, the line that is refused, and its least rule.
-const REFUSED: &[(&str, u32, u8)] = &[
-    // line 1
-    ("", 1, 1),
-    ("dejavu suite 2\n", 1, 1),
-    ("dejavu suite 1 \ntest A 1 4\n", 1, 1),
-    ("test A 1 -\n", 1, 1),
-    ("dejavu suite 1", 1, 2),
-    // the end of a line comes before all else that is wrong with it
-    ("dejavu suite 1\ntest", 2, 2),
-    ("dejavu suite 1\ntest A 1 -\ntest B 1 -", 3, 2),
-    // four words, the first `test`
-    ("dejavu suite 1\n\n", 2, 3),
-    ("dejavu suite 1\ntest A 1\n", 2, 3),
-    ("dejavu suite 1\ntest A 1 \n", 2, 3),
-    ("dejavu suite 1\ntest A 1 - \n", 2, 3),
-    ("dejavu suite 1\ntest A 1 - -\n", 2, 3),
-    ("dejavu suite 1\ntest  A 1 -\n", 2, 3),
-    ("dejavu suite 1\n test A 1 -\n", 2, 3),
-    ("dejavu suite 1\nTest A 1 -\n", 2, 3),
-    // the name
-    ("dejavu suite 1\ntest .a 01 4\n", 2, 4),
-    ("dejavu suite 1\ntest -a 1 -\n", 2, 4),
-    ("dejavu suite 1\ntest a/b 1 -\n", 2, 4),
-    ("dejavu suite 1\ntest a\u{e9} 1 -\n", 2, 4),
-    // the budget
-    ("dejavu suite 1\ntest A 10000001 -\n", 2, 5),
-    ("dejavu suite 1\ntest A 01 4\n", 2, 5),
-    ("dejavu suite 1\ntest A +1 -\n", 2, 5),
-    ("dejavu suite 1\ntest A - -\n", 2, 5),
-    // the input
-    ("dejavu suite 1\ntest A 1 4\n", 2, 6),
-    ("dejavu suite 1\ntest A 1 0A\n", 2, 6),
-    ("dejavu suite 1\ntest A 1 --\n", 2, 6),
-    ("dejavu suite 1\ntest A 1 41\r\n", 2, 6),
-    // a later line's fault comes before a name that stands twice
-    ("dejavu suite 1\ntest A 1 -\ntest A 1 -\ntest B x -\n", 4, 5),
-];
+/// The line that is refused, its least rule, and the suite.
+const REFUSED: &str = r#"
+// line 1
+1 1 -
+1 1 dejavu suite 2|
+1 1 dejavu suite 1 |test A 1 4|
+1 1 test A 1 -|
+1 2 dejavu suite 1
+// the end of a line comes before all else that is wrong with it
+2 2 dejavu suite 1|test
+3 2 dejavu suite 1|test A 1 -|test B 1 -
+// four words, the first `test`
+2 3 dejavu suite 1||
+2 3 dejavu suite 1|test A 1|
+2 3 dejavu suite 1|test A 1 |
+2 3 dejavu suite 1|test A 1 - |
+2 3 dejavu suite 1|test A 1 - -|
+2 3 dejavu suite 1|test  A 1 -|
+2 3 dejavu suite 1| test A 1 -|
+2 3 dejavu suite 1|Test A 1 -|
+// the name
+2 4 dejavu suite 1|test .a 01 4|
+2 4 dejavu suite 1|test -a 1 -|
+2 4 dejavu suite 1|test a/b 1 -|
+2 4 dejavu suite 1|test aé 1 -|
+// the budget
+2 5 dejavu suite 1|test A 10000001 -|
+2 5 dejavu suite 1|test A 01 4|
+2 5 dejavu suite 1|test A +1 -|
+2 5 dejavu suite 1|test A - -|
+// the input
+2 6 dejavu suite 1|test A 1 4|
+2 6 dejavu suite 1|test A 1 0A|
+2 6 dejavu suite 1|test A 1 --|
+// a later line's fault comes before a name that stands twice
+4 5 dejavu suite 1|test A 1 -|test A 1 -|test B x -|
+"#;
+
+/// The suite of a row of `REFUSED` is refused for its line and rule.
+fn row_is_refused(rt: &impl Abort, alloc: Global, row: &str) -> Result<(), Fail> {
+    let (line, rest) = cut_number(row)?;
+    let (rule, text) = cut_number(rest)?;
+    let rule = u8::try_from(rule).map_err(|_| "no rule")?;
+    let answer = read_suite(alloc, &bytes_of(alloc, text)?);
+    assert!(rt; answer.err() == Some(SuiteError::Line(line, rule)), "{row}");
+    Ok(())
+}
 
 #[test]
-fn every_fault_is_named_by_its_line_and_least_rule(rt: HostRuntime) {
-    for (text, line, rule) in REFUSED {
-        let answer = read_suite(rt.alloc(), text.as_bytes());
-        assert!(rt;
-            answer.err() == Some(SuiteError::Line(*line, *rule)),
-            "{text}"
-        );
+fn every_fault_is_named_by_its_line_and_least_rule(rt: HostRuntime) -> Result<(), Fail> {
+    for row in REFUSED.lines() {
+        if is_row(row) {
+            row_is_refused(&rt, rt.alloc(), row)?;
+        }
     }
+    let answer = read_suite(rt.alloc(), b"dejavu suite 1\ntest A 1 41\r\n");
+    assert!(rt; answer.err() == Some(SuiteError::Line(2, 6)));
+    Ok(())
 }
 
 #[test]
