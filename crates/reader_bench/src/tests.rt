@@ -84,6 +84,19 @@ fn shown(alloc: Global, source: &str) -> Result<String, AllocError> {
     }
 }
 
+// A text between `front` and `back` is shown so.
+fn row_agrees(
+    rt: &impl Abort,
+    alloc: Global,
+    (front, back): (&str, &str),
+    (middle, expected): (&str, &str),
+) -> Result<(), Fail> {
+    let source = format!(in alloc; "{front}{middle}{back}")?;
+    let found = shown(alloc, source.as_str())?;
+    assert!(rt; found.as_str() == expected, "{source} gave {found}");
+    Ok(())
+}
+
 // Each row's text, between `front` and `back`, is shown as the row says.
 fn agrees(
     rt: &impl Abort,
@@ -92,10 +105,46 @@ fn agrees(
     back: &str,
     rows: &[(&str, &str)],
 ) -> Result<(), Fail> {
-    for (middle, expected) in rows {
-        let source = format!(in alloc; "{front}{middle}{back}")?;
-        let found = shown(alloc, source.as_str())?;
-        assert!(rt; found.as_str() == *expected, "{source} gave {found}");
+    for row in rows {
+        row_agrees(rt, alloc, (front, back), *row)?;
+    }
+    Ok(())
+}
+
+// Whether a line of a table is a row: it is none where it is empty or begins as a comment does.
+fn is_row(line: &str) -> bool {
+    !line.is_empty() && !line.starts_with("//")
+}
+
+// The same of the rows of a table, which has one in a line: a text, an arrow, and what is shown.
+fn rows_agree(
+    rt: &impl Abort,
+    alloc: Global,
+    front: &str,
+    back: &str,
+    table: &str,
+) -> Result<(), Fail> {
+    for line in table.lines() {
+        if is_row(line) {
+            let row = line.split_once(" => ").ok_or("no row")?;
+            row_agrees(rt, alloc, (front, back), row)?;
+        }
+    }
+    Ok(())
+}
+
+// What stands before the texts of a table and behind them, and the table.
+const TABLES: &[(&str, &str, &str)] = &[
+    ("int x = ", ";", expressions::ROWS),
+    ("int f(void) { ", " }", statements::ROWS),
+    ("", "", items::ROWS),
+    ("", "", programs::ROWS),
+];
+
+#[test]
+fn sources_are_read_or_refused_as_the_rows_say(rt: HostRuntime) -> Result<(), Fail> {
+    for (front, back, rows) in TABLES {
+        rows_agree(&rt, rt.alloc(), front, back, rows)?;
     }
     Ok(())
 }
