@@ -58,7 +58,7 @@ class InFolder(unittest.TestCase):
             stdin=subprocess.DEVNULL,
             stdout=stdout,
             stderr=stderr,
-            timeout=20,
+            timeout=120,  # which a busy machine may need
             check=False,
             **options,
         )
