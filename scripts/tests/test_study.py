@@ -1,16 +1,19 @@
 """The study of selections: mutants of small texts, and choices over coverage that is made up."""
+import importlib.util
 import json
+import re
 import sys
 import unittest
 from types import SimpleNamespace
 from unittest.mock import MagicMock, patch
 
-from support import InFolder  # which makes the package one that can be imported
+from support import TOP, InFolder  # which makes the package one that can be imported
 from dejavu_tools.errors import ToolError
-from dejavu_tools.study import measure, table
+from dejavu_tools.study import figures, measure, plots, table
 from dejavu_tools.study.choices import (
     ALL, FUNCTIONS, LINES, SELECT, Covered, Function, Span, by_functions, by_lines, choices_of, is_inside, spans_of,
 )
+from dejavu_tools.study.figures import CHOICES, Cost, Figures, Program, Result
 from dejavu_tools.study.mutants import mutants, sample, tokens_of
 
 HEAD = Function("a.c", "head", 2, 5)
@@ -155,14 +158,39 @@ class Choices(unittest.TestCase):
         self.assertEqual(Covered(frozenset({HEAD}), frozenset({("a.c", 3)})), covered)
 
 
-def result(name, differ, functions, lines, select, inside=True):
-    """What was found of a change of a program with the tests a, b, c and d."""
-    chosen = {ALL: "abcd", FUNCTIONS: functions, LINES: lines, SELECT: select}
-    sets = {choice: frozenset(tests) for choice, tests in chosen.items()}
-    return measure.Result("p", name, "ROR", is_inside=inside, chosen=sets, differ=frozenset(differ))
+    def test_what_was_found_of_a_change(self):
+        lines = "1\n2\n3\n4\n5\n6\n7\n{}\n9\n"
+        old = measure.Old(
+            SimpleNamespace(name="p"), self.id(), {"a.c": lines.format(8)}, frozenset({HEAD, TAIL}), COVERED,
+            {"short": ("exit 0", b"1"), "long": ("exit 0", b"2")}, Cost(3, 4), Cost(5, 6),
+        )
+        change = measure.Change("c", "ROR", {"a.c": lines.format("another")})
+        after = {"short": ("exit 1", b"1"), "long": ("exit 0", b"3")}
+        self.assertEqual(
+            Result("p", "c", "ROR", is_inside=True, differ=2, run={ALL: 2, FUNCTIONS: 1, LINES: 1, SELECT: 2},
+                   missed={ALL: 0, FUNCTIONS: 1, LINES: 1, SELECT: 0}, costs={"select": Cost(7, 8)}),
+            measure.result_of(old, change, "run short edge 1\nrun long edge 7\n", after, {"select": Cost(7, 8)}),
+        )
+        self.assertEqual(Program("p", 2, Cost(3, 4), Cost(5, 6)), old.program)
 
 
-RESULTS = [result("one", "a", "abc", "a", "ab"), result("two", "bc", "", "b", "bcd", inside=False)]
+def result(name, differ, run, missed, inside=True, program="p", costs=(Cost(10), Cost(20, 5), Cost(5))):
+    """What was found of a change of a program with four tests, where `run` and `missed` are those of narrow choices."""
+    return Result(program, name, "ROR", is_inside=inside, differ=differ, run=dict(zip(CHOICES, (4, *run))),
+                  missed=dict(zip(CHOICES, (0, *missed))), costs=dict(zip(("adopt", "record", "select"), costs)))
+
+
+RESULTS = [result("one", 1, (3, 1, 2), (0, 0, 0)), result("two", 2, (0, 1, 3), (2, 1, 0), inside=False)]
+FIGURES = Figures(
+    [Program("p", 4, Cost(30_000, 2_000), Cost(900, 100)), Program("q", 4, Cost(), Cost(2_000))],
+    [*RESULTS, result("three", 4, (4, 4, 4), (0, 0, 0), program="q"), Result("q", "four", "CRP", figures.UNCOMPILED)],
+)
+
+
+def cells(lines):
+    """The rows of a table in Markdown, without its head, by their first cells."""
+    rows = [line.strip("| ").split(" | ") for line in lines[2:]]
+    return {row[0]: row[1:] for row in rows}
 
 
 class Tables(InFolder):
@@ -195,36 +223,23 @@ class Tables(InFolder):
         )
 
     def test_changes_that_were_left_out(self):
-        results = [*RESULTS, measure.Result("p", "three", "CRP", measure.UNCOMPILED)]
-        lines = table.left_out(["p"], results)[2:]
-        self.assertEqual(["| p | 3 | 2 | 1 | 0 | 0 |", "| together | 3 | 2 | 1 | 0 | 0 |"], lines)
-
-    def test_lines_of_changes(self):
-        results = [RESULTS[1], measure.Result("p", "three\nlines", "CRP", measure.UNADOPTED)]
-        self.assertEqual(
-            ["p\tROR\ttwo\telsewhere\t2\t4\t0\t0\t2\t1\t1\t3\t0", "p\tCRP\tthree lines\t`adopt` refuses it"],
-            table.lines_of(results)[1:],
-        )
+        lines = table.left_out(FIGURES)[2:]
+        self.assertEqual(["| p | 2 | 2 | 0 | 0 | 0 |", "| q | 2 | 1 | 1 | 0 | 0 |", "| together | 4 | 3 | 1 | 0 | 0 |"],
+                         lines)
 
     def test_a_share_is_never_rounded_up_to_all(self):
         self.assertEqual(["99.9 %", "100.0 %", "-"], [table.share(1999, 2000), table.share(7, 7), table.share(0, 0)])
 
     def test_costs_are_medians(self):
-        parts = [measure.Cost(0.001, 0.0), measure.Cost(0.002, 0.003), measure.Cost(2.0, 0.001)]
-        self.assertEqual("2.0 + 1.0", table.in_milliseconds(table.middle(parts)))
+        times = [Cost(1_000, 0), Cost(2_000, 3_000), Cost(2_000_000, 1_000)]
+        group = [result(str(at), 0, (0, 0, 0), (0, 0, 0), costs=(time, Cost(), Cost())) for at, time in enumerate(times)]
+        self.assertEqual("2.0 + 1.0", table.in_milliseconds(table.median_cost(group, "adopt")))
 
-    def test_a_picture_wants_matplotlib(self):
-        with patch.dict(sys.modules, matplotlib=None), self.assertRaisesRegex(ToolError, "pip install matplotlib"):
-            table.plotter()
-
-    def test_bars_are_the_shares_of_the_choices(self):
-        library, figure, axes = MagicMock(), MagicMock(), MagicMock()
-        library.pyplot.subplots.return_value = figure, axes
-        olds = [SimpleNamespace(subject=SimpleNamespace(name=name)) for name in ("p", "other")]
-        with patch.dict(sys.modules, matplotlib=library):
-            table.plotter()(self.folder / "plots", olds, RESULTS)
-        self.assertEqual([[100, 0], [37.5, 0], [25, 0], [62.5, 0]], [call[0][1] for call in axes.bar.call_args_list])
-        figure.savefig.assert_called_once_with(self.folder / "plots" / "selected.png")
+    def test_a_selection_pays_from_where_the_tests_that_are_left_take_as_long_as_its_commands(self):
+        # The commands take 0.01 + 0.025 + 0.005 milliseconds, and of 8 tests 3 are left: 8 / 3 of 0.04.
+        self.assertAlmostEqual(0.04 * 8 / 3, table.break_even(RESULTS))
+        self.assertIsNone(table.break_even(FIGURES.of_programs()["q"]))  # where all tests run again
+        self.assertEqual({"p": "0.1", "q": "never"}, {name: row[-1] for name, row in cells(table.costs(FIGURES)).items()})
 
     def test_programs_and_their_changes_are_found(self):
         names = [(it.name, it.is_adopted, len(it.patches)) for it in measure.subjects()]
@@ -236,6 +251,98 @@ class Tables(InFolder):
             measure.run(["/nowhere/program"])
         with self.assertRaisesRegex(ToolError, "false ends with 1"):
             measure.wanted(["false"])
+
+
+class File(InFolder):
+    """The file of the figures."""
+
+    def test_what_is_read_is_what_was_written(self):
+        text = figures.figures_text(FIGURES)
+        self.assertEqual(FIGURES, figures.read_figures(self.write("figures", text)))
+        self.assertEqual(figures.FORMAT, json.loads(text)["format"])
+
+    def test_a_script_makes_the_same_tables_and_file_of_it(self):
+        path = self.write("figures", figures.figures_text(FIGURES))
+        done = self.run_script("study", "--from", path, "--json", "again")
+        self.check_answer(done, 0, "".join(f"{line}\n" for line in table.tables(FIGURES)))
+        self.assertEqual(path.read_bytes(), (self.folder / "again").read_bytes())
+
+    def test_other_files_are_refused(self):
+        good = figures.figures_text(FIGURES).decode()
+        for text in ("", "{}", "[]", good.replace("study 1", "study 2"), good.replace('"missed"', '"other"', 1),
+                     good.replace("[10, 0]", "[10]"), good[:-1]):
+            with self.subTest(text), self.assertRaisesRegex(ToolError, "bad: this isn't what `study --json` writes"):
+                figures.read_figures(self.write("bad", text))
+
+    def test_a_test_that_select_misses_is_told_by_the_status(self):
+        missing = Figures(FIGURES.programs, [result("one", 1, (3, 1, 2), (0, 0, 1)), FIGURES.results[2]])
+        path = self.write("figures", figures.figures_text(missing))
+        self.assertEqual(1, self.run_script("study", "--from", path).returncode)
+
+
+class Plots(InFolder):
+    """The data of the plots are those of the tables."""
+
+    def numbers(self, column):
+        """The numbers of a column of the table by program."""
+        rows = cells(table.counted("Program", FIGURES.of_programs()))
+        return [int(row[column].replace(",", "")) for row in rows.values()]
+
+    def test_shares(self):
+        data = plots.run_again(FIGURES)
+        tests = self.numbers(1)
+        self.assertEqual(["p", "q", "together"], data.groups)
+        columns = {plots.DIFFER: 2, FUNCTIONS: 3, LINES: 5, SELECT: 7, ALL: 1}
+        for name, column in columns.items():
+            wanted = [100 * part / whole for part, whole in zip(self.numbers(column), tests)]
+            self.assertEqual(wanted, data.series[name])
+        self.assertEqual([62.5, 100.0, 75.0], data.series[SELECT])
+
+    def test_missed(self):
+        data = plots.missed(FIGURES)
+        self.assertEqual({ALL: [0, 0, 0], FUNCTIONS: self.numbers(4), LINES: self.numbers(6), SELECT: self.numbers(8)},
+                         data.series)
+        self.assertEqual([2, 0, 2], data.series[FUNCTIONS])
+
+    def test_costs(self):
+        rows, data = cells(table.costs(FIGURES)), plots.costs(FIGURES)
+        for name, column in {plots.RUNS_ALL: 2, "`adopt`": 3, "`record`": 4, SELECT: 5}.items():
+            told = [sum(map(float, row[column].split(" + "))) for row in rows.values()]
+            for value, shown in zip(data.series[name], told):
+                self.assertAlmostEqual(shown, value, delta=0.1)  # each of both parts is told to 0.1
+        self.assertEqual([1.0, 2.0], data.series[plots.RUNS_ALL])
+        self.assertEqual([row[-1] for row in rows.values()],
+                         ["never" if it is None else f"{it:.1f}" for it in data.series[plots.PAYS]])
+
+    def test_matplotlib_is_wanted_before_the_work_begins(self):
+        with patch.dict(sys.modules, matplotlib=None), self.assertRaises(ToolError) as caught:
+            plots.plotter()
+        self.assertEqual(2, caught.exception.status)
+        for line in ("apt-get install python3-matplotlib", "python3 -m pip install matplotlib"):
+            self.assertIn(line, str(caught.exception))
+        done = self.run_script("study", "--from", "no-such-file", "--plots", "plots")  # with Python's own library alone
+        self.assertIn(b"--plots wants matplotlib", done.stderr)
+        self.assertEqual((2, b"", []), (done.returncode, done.stdout, self.names()))
+
+    def test_what_is_drawn_is_the_data(self):
+        library, figure, axes = MagicMock(), MagicMock(), MagicMock()
+        library.pyplot.subplots.return_value = figure, axes
+        with patch.dict(sys.modules, matplotlib=library):
+            plots.plotter()(self.folder / "plots", FIGURES)
+        drawn = [call[0][1] for call in axes.bar.call_args_list]
+        self.assertEqual([*plots.run_again(FIGURES).series.values(), *plots.missed(FIGURES).series.values()], drawn)
+        pays = plots.costs(FIGURES).series[plots.PAYS][0]
+        self.assertEqual(((pays,), (0,)), axes.plot.call_args_list[-1][0][:2])  # only the first program has one
+        self.assertEqual(sorted(plots.NAMES), self.names("plots"))
+
+    @unittest.skipUnless(importlib.util.find_spec("matplotlib"), "matplotlib is missing")
+    def test_the_same_figures_give_the_same_bytes(self):
+        made = []
+        for name in ("one", "two"):
+            plots.plotter()(self.folder / name, FIGURES)
+            made.append({it: (self.folder / name / it).read_bytes() for it in self.names(name)})
+        self.assertEqual(made[0], made[1])
+        self.assertEqual(list(made[0]), sorted(plots.NAMES))
 
 
 if __name__ == "__main__":

@@ -16,26 +16,14 @@ from ..errors import ToolError
 from ..examples import BUDGET, FLAGS, OTHER_FLAGS
 from ..files import files_in, read_file
 from .choices import Covered, Function, choices_of, is_inside, spans_of
+from .figures import BY_HAND, UNACCEPTED, UNADOPTED, UNCOMPILED, Cost, Figures, Program, Result
 from .mutants import sample
 
 TOP = Path(__file__).resolve().parents[3]
 EXAMPLES = TOP / "examples"
 
 GCC = ["gcc", "-std=c11", "-w", "-O0", "-fsigned-char"]
-BY_HAND = "by hand"  # the kind of a change that no operator made
-
-UNCOMPILED, UNADOPTED, UNACCEPTED = "gcc refuses it", "`adopt` refuses it", "`record` refuses it"
-
-
-@dataclass(frozen=True)
-class Cost:
-    """The processor time of commands, in seconds."""
-
-    user: float = 0.0
-    system: float = 0.0
-
-    def __add__(self, other: "Cost") -> "Cost":
-        return Cost(self.user + other.user, self.system + other.system)
+MICROSECONDS = 1_000_000  # of a second
 
 
 @dataclass(frozen=True)
@@ -83,23 +71,10 @@ class Old:
     built: Cost  # of a build by gcc
     ran: Cost  # of this build's runs of all tests
 
-
-@dataclass(frozen=True)
-class Result:
-    """What was found of a change. Where `refused` says why it isn't measured, the rest is empty."""
-
-    subject: str
-    change: str
-    kind: str
-    refused: str = ""
-    is_inside: bool = False  # whether all that changes is in functions
-    chosen: Optional[Mapping[str, FrozenSet[str]]] = None  # the tests of each choice
-    differ: FrozenSet[str] = frozenset()
-    costs: Optional[Mapping[str, Cost]] = None  # of `adopt`, `select` and `record`
-
-    def missed(self, choice: str) -> FrozenSet[str]:
-        """The tests that differ and that a choice leaves."""
-        return self.differ - self.chosen[choice]
+    @property
+    def program(self) -> Program:
+        """Its figures."""
+        return Program(self.subject.name, len(self.covered), self.built, self.ran)
 
 
 # ---- commands
@@ -119,8 +94,8 @@ def run(words: Sequence[object], data: bytes = b"", folder: Optional[Path] = Non
     except OSError as error:
         raise ToolError(f"{words[0]}: {error.strerror}") from error
     after = resource.getrusage(resource.RUSAGE_CHILDREN)
-    cost = Cost(after.ru_utime - before.ru_utime, after.ru_stime - before.ru_stime)
-    return Ended(done.returncode, done.stdout, cost)
+    user, system = after.ru_utime - before.ru_utime, after.ru_stime - before.ru_stime
+    return Ended(done.returncode, done.stdout, Cost(round(MICROSECONDS * user), round(MICROSECONDS * system)))
 
 
 def wanted(words: Sequence[object], folder: Optional[Path] = None) -> Ended:
@@ -266,23 +241,32 @@ def measure(old: Old, program: Path, change: Change) -> Result:
         (work / "history").write_bytes(recorded.output)
         selected = wanted([program, "select", old.work / "unit.c", work / "unit.c", old.work / "history"])
         after = runs_in(work / "history")
+    costs = {"adopt": adopted.cost, "record": recorded.cost, "select": selected.cost}
+    return result_of(old, change, selected.output.decode("ascii"), after, costs)
+
+
+def result_of(
+    old: Old, change: Change, selection: str, after: Mapping[str, Tuple[str, bytes]], costs: Mapping[str, Cost],
+) -> Result:
+    """What was found of a change, by the text of `select` and the runs of all tests on the new version."""
     spans = spans_of(old.texts, change.texts)
+    chosen = choices_of(spans, old.covered, selection)
+    differ = frozenset(test for test, run_before in old.runs.items() if after[test] != run_before)
     return Result(
         old.subject.name, change.name, change.kind,
         is_inside=is_inside(spans, sorted(old.functions, key=str)),
-        chosen=choices_of(spans, old.covered, selected.output.decode("ascii")),
-        differ=frozenset(test for test, run_before in old.runs.items() if after[test] != run_before),
-        costs={"adopt": adopted.cost, "select": selected.cost, "record": recorded.cost},
+        differ=len(differ),
+        run={choice: len(tests) for choice, tests in chosen.items()},
+        missed={choice: len(differ - tests) for choice, tests in chosen.items()},
+        costs=costs,
     )
 
 
 # ---- all changes
 
 
-def results(
-    program: Path, every: int, jobs: int, work: Path, tell: Callable[[int, int], None],
-) -> Tuple[List[Old], List[Result]]:
-    """All programs, and what was found of each change, in a folder to work in.
+def figures_of(program: Path, every: int, jobs: int, work: Path, tell: Callable[[int, int], None]) -> Figures:
+    """What is found of all programs and of each change, in a folder to work in.
 
     `tell` is called before the first change and after each, with how many are measured and how many there are.
     """
@@ -293,4 +277,4 @@ def results(
         tasks = [pool.submit(measure, old, program, change) for old, change in pairs]
         for done, _ in enumerate(as_completed(tasks), 1):
             tell(done, len(tasks))
-        return olds, [task.result() for task in tasks]
+        return Figures([old.program for old in olds], [task.result() for task in tasks])
