@@ -13,7 +13,7 @@
 - `ci`: the lines of docs/ci.md, and the clones in which they are run
 - `maps`: from places of a unit to those of the files of which it was made
 - `traced`: a program under strace, in which chosen calls of the system fail
-- `programs`: a program whose output and status are passed on
+- `programs`: a program whose output is taken, or passed on with its status
 - `formats`: suites, and histories of version 3
 - `limits`: the greatest numbers of the formats
 - `check`: whether a unit does what the files do of which `adopt` made it

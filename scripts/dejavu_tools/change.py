@@ -6,6 +6,7 @@ from pathlib import Path
 from typing import Dict, List, Tuple
 
 from .compare import RUN, Compared, Parts, compared, parts_of
+from .files import check_folder
 from .formats import History, history_text
 from .histories import NoHistory, joined, keep, limited, read_kept
 from .revisions import told_of, version_of
@@ -58,6 +59,7 @@ def outcome_of(names: Tuple[str, str], settings: Path, program: Path, scratch: P
     """
     given = read_settings(settings)
     folder = settings.parent / given.history
+    check_folder(folder)
     steps = Steps("change", folder / "times.json")
     sides = []
     for name, role in zip(names, ("old", "new")):

@@ -2,6 +2,7 @@
 from __future__ import annotations
 
 import os
+import signal
 import sys
 from contextlib import suppress
 from typing import Callable, Iterable, Tuple, Union
@@ -11,7 +12,15 @@ from .errors import Told, ToolError
 OUTPUT, ERROR = 1, 2  # the descriptors of standard output and standard error
 
 UNWRITTEN = 7  # the exit status where standard output can't be written, as of `dejavu`
-INTERRUPTED = 130  # 128 and the number of the signal
+SIGNALLED = 128  # and the number of the signal
+
+
+class Stopped(BaseException):
+    """A signal has come that ends the script."""
+
+    def __init__(self, number: int) -> None:
+        super().__init__(number)
+        self.number = number
 
 
 def readable(text: Union[str, bytes]) -> str:
@@ -67,8 +76,12 @@ def put_lines(lines: Iterable[str]) -> None:
 def ended(name: str, work: Callable[[], int]) -> int:
     """The exit status of a script: that of its work, or of what keeps it from this, of which a line is written.
 
-    Nothing is said where whoever reads standard output went away.
+    Nothing is said where whoever reads standard output went away, or where a signal ends it; what is behind `finally`
+    and `with` is done then.
     """
+    for number in (signal.SIGTERM, signal.SIGHUP):
+        if signal.getsignal(number) is signal.SIG_DFL:
+            signal.signal(number, stop)
     try:
         return work()
     except Told as error:
@@ -79,5 +92,15 @@ def ended(name: str, work: Callable[[], int]) -> int:
         return error.status
     except BrokenPipeError:
         return UNWRITTEN
+    except OSError as error:
+        say(f"{name}: {error.filename or 'the system'}: {error.strerror}")
+        return 2
     except KeyboardInterrupt:
-        return INTERRUPTED
+        return SIGNALLED + signal.SIGINT
+    except Stopped as stopped:
+        return SIGNALLED + stopped.number
+
+
+def stop(number: int, _: object) -> None:
+    """Ends the work that a signal comes to, as an interrupt does."""
+    raise Stopped(number)

@@ -3,6 +3,7 @@ from __future__ import annotations
 
 import errno
 import os
+import stat
 from contextlib import contextmanager, suppress
 from pathlib import Path
 from typing import Iterator, List, Mapping, Optional
@@ -40,6 +41,33 @@ def files_in(folder: Path, ending: str) -> List[Path]:
             if not path.is_file():
                 raise ToolError(f"{path}: this is no file")
     return paths
+
+
+def check_place(path: Path) -> None:
+    """Raises a `ToolError` where it shows already that a file can't be written; nothing is written."""
+    with told_of(path):
+        if path.is_dir():
+            raise IsADirectoryError(errno.EISDIR, os.strerror(errno.EISDIR))
+        check_writable(path.parent)
+
+
+def check_folder(folder: Path) -> None:
+    """Raises a `ToolError` where it shows already that no files can be put into a folder, or that it can't be made."""
+    with told_of(folder):
+        check_writable(next(it for it in (folder, *folder.absolute().parents) if os.path.lexists(it)))
+
+
+def check_writable(folder: Path) -> None:
+    """Raises an `OSError` where no file can be put into a folder by its rights, or where it is none."""
+    number = 0
+    if not stat.S_ISDIR(folder.stat().st_mode):
+        number = errno.ENOTDIR
+    elif os.statvfs(folder).f_flag & os.ST_RDONLY:
+        number = errno.EROFS
+    elif not os.access(folder, os.W_OK | os.X_OK):
+        number = errno.EACCES
+    if number:
+        raise OSError(number, os.strerror(number))
 
 
 def write_whole(texts: Mapping[Path, bytes]) -> None:

@@ -1,10 +1,10 @@
-"""Running a program whose standard output and status are passed on."""
+"""Running a program whose standard output is taken, or passed on with its status."""
 from __future__ import annotations
 
 import subprocess
 from dataclasses import dataclass
 from pathlib import Path
-from typing import IO, Optional, Sequence
+from typing import IO, Optional, Sequence, Tuple
 
 from .console import OUTPUT, UNWRITTEN, write_all
 from .errors import ToolError
@@ -28,6 +28,25 @@ class Answer:
         if self.status and newline and not rest and line.startswith(b"refused: "):
             return line.decode("utf-8", "surrogateescape")
         return None
+
+
+def output_of(program: Path, words: Sequence[str]) -> Tuple[int, bytes]:
+    """The status of a program, as `subprocess` tells it, and its standard output; a `ToolError` where it can't be run.
+
+    Where this is interrupted, the program is told to end, and has ended where this is left: `./dejavu` may be building.
+    """
+    try:
+        process = subprocess.Popen([program, *words], stdin=subprocess.DEVNULL, stdout=subprocess.PIPE)
+    except OSError as error:
+        raise ToolError(f"{program}: {error.strerror}") from error
+    with process.stdout:
+        try:
+            output = process.communicate()[0]
+        except BaseException:
+            process.terminate()
+            process.wait()
+            raise
+    return process.returncode, output
 
 
 def run_through(program: Path, words: Sequence[str]) -> Answer:

@@ -70,8 +70,15 @@ def asked(home: Path, name: str, *words: str) -> bytes:
     done = git(home, words)
     if done.returncode:
         said = done.stderr.decode("utf-8", "surrogateescape").strip().split("\n")[0]
-        raise ToolError(f"{name}: {said or f'git knows no such revision; a folder is written ./{name}'}")
+        raise ToolError(f"{name}: {said or unknown(home, name)}")
     return done.stdout.rstrip(b"\n")
+
+
+def unknown(home: Path, name: str) -> str:
+    """What is told of a revision that the repository of a folder doesn't have."""
+    if git(home, ("rev-parse", "--is-shallow-repository")).stdout == b"true\n":
+        return "git knows no such revision, and this clone is shallow: git fetch --deepen=1 brings one commit more"
+    return f"git knows no such revision; a folder is written ./{name}"
 
 
 def take_out(top: Path, commit: str, folder: Path) -> None:

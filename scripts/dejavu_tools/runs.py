@@ -3,7 +3,6 @@ from __future__ import annotations
 
 import os
 import re
-import subprocess
 from pathlib import Path
 from typing import Dict, List, NamedTuple, Optional, Sequence, Tuple
 
@@ -11,7 +10,7 @@ from .errors import Told, ToolError
 from .files import write_whole
 from .formats import History, Test, read_history, suite_text
 from .histories import NoHistory
-from .programs import Answer
+from .programs import Answer, output_of
 from .refusals import Message, Place, files_of, message_of
 from .sides import Side
 
@@ -87,17 +86,14 @@ class Runs:
 
         That is a `NoHistory` where it refuses the history.
         """
-        try:
-            done = subprocess.run([self.program, *words], stdin=subprocess.DEVNULL, stdout=subprocess.PIPE, check=False)
-        except OSError as error:
-            raise ToolError(f"{self.program}: {error.strerror}") from error
-        refusal = Answer(done.returncode, done.stdout).refusal
+        status, output = output_of(self.program, words)
+        refusal = Answer(status, output).refusal
         if refusal:
-            raise self.refused(message_of(refusal, files_of(words), self.origin), done.returncode)
-        if done.returncode:
-            ended = f"ended with status {done.returncode}" if done.returncode > 0 else "was ended by a signal"
+            raise self.refused(message_of(refusal, files_of(words), self.origin), status)
+        if status:
+            ended = f"ended with status {status}" if status > 0 else "was ended by a signal"
             raise ToolError(f"{self.program} {words[0]} {ended}")
-        return done.stdout
+        return output
 
     def refused(self, message: Message, status: int) -> ToolError:
         """What is told of a refusal; a unit that was made stands in it by the name of its version."""

@@ -1,6 +1,7 @@
 """What a file `dejavu.toml` says of a program and its tests (docs/change.md has the keys)."""
 from __future__ import annotations
 
+import os
 from dataclasses import dataclass
 from pathlib import Path
 from typing import Callable, Mapping, NamedTuple, Optional, Tuple
@@ -8,6 +9,8 @@ from typing import Callable, Mapping, NamedTuple, Optional, Tuple
 from .errors import ToolError
 from .files import read_file
 from .limits import MOST_BUDGET
+
+DOCUMENT = "docs/change.md has its keys"
 
 
 @dataclass(frozen=True)
@@ -67,6 +70,8 @@ KEYS: Mapping[str, Kind] = {
 def read_settings(path: Path) -> Settings:
     """The settings that a file has; a `ToolError` where it can't be read, has a key that isn't known, lacks one that
     is wanted, or has a value of another kind."""
+    if not os.path.lexists(path):
+        raise ToolError(f"{path}: there is no such file, which says what the program and its tests are ({DOCUMENT})")
     return settings_of(str(path), parsed(str(path), read_file(path)))
 
 

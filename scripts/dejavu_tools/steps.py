@@ -4,7 +4,7 @@ from __future__ import annotations
 import json
 import sys
 import time
-from contextlib import contextmanager
+from contextlib import contextmanager, suppress
 from pathlib import Path
 from typing import Dict, Iterator
 
@@ -33,9 +33,10 @@ class Steps:
         self.seconds[name] = time.monotonic() - begun
 
     def keep(self) -> None:
-        """Writes the file, whose folder is there; a `ToolError` where that can't be."""
+        """Writes the file, whose folder is there. Where that can't be, the next times aren't told, and no more is lost."""
         rounded = {name: round(seconds, 3) for name, seconds in sorted(self.seconds.items())}
-        write_whole({self.path: json.dumps(rounded).encode("ascii") + b"\n"})
+        with suppress(ToolError):
+            write_whole({self.path: json.dumps(rounded).encode("ascii") + b"\n"})
 
 
 def read_seconds(path: Path) -> Dict[str, float]:

@@ -4,11 +4,15 @@ import json
 import os
 import pty
 import runpy
+import signal
 import subprocess
 import sys
 import tempfile
+import time
 import traceback
 import unittest
+from types import SimpleNamespace
+from unittest import mock
 from xml.etree import ElementTree
 
 from support import SCRIPTS, TOP, InFolder, sealed
@@ -352,13 +356,20 @@ class Wrong(WithRepository):
         self.commit_two()
         self.check_wrong("change: v9: git knows no such revision; a folder is written ./v9\n", "v9", "v2")
 
+    def test_revision_that_a_shallow_clone_lacks(self):
+        self.commit_two()
+        self.git("clone", "--quiet", "--depth", "1", f"file://{self.folder}", "clone")
+        self.check_answer(self.change("HEAD~1", "HEAD", folder="clone"), 2, "", "change: HEAD~1: git knows no such "
+                          "revision, and this clone is shallow: git fetch --deepen=1 brings one commit more\n")
+
     def test_no_such_folder(self):
         self.commit_two()
         self.check_wrong("change: ./v9: there is no such folder\n", "v1", "./v9")
 
     def test_no_settings(self):
         self.commit(main__c=OLD)
-        self.check_wrong("change: dejavu.toml: No such file or directory\n", "v1", "v1")
+        self.check_wrong("change: dejavu.toml: there is no such file, which says what the program and its tests are "
+                         "(docs/change.md has its keys)\n", "v1", "v1")
 
     def test_key_that_is_missing_in_a_revision(self):
         self.commit_two(dejavu__toml='inputs = "tests"\nbudget = 100\n')
@@ -402,11 +413,71 @@ class Wrong(WithRepository):
 
     def test_report_that_cannot_be_written(self):
         self.commit_two()
-        done = self.change("--junit", "no/such/folder", "v1", "v2")
-        self.check_answer(done, 2, "", "change: no/such/folder: No such file or directory\n")
+        self.check_wrong("change: no/such/folder: No such file or directory\n", "--junit", "no/such/folder", "v1", "v2")
+        self.check_wrong("change: tests: Is a directory\n", "--json", "tests", "v1", "v2")
+        self.assertEqual(self.runs, [])  # it is told before the tests run
+
+    def test_folder_of_histories_that_cannot_be_written(self):
+        self.commit_two()
+        self.write(".dejavu", "a file")
+        self.check_wrong("change: .dejavu: Not a directory\n", "v1", "v2")
+        (self.folder / ".dejavu").unlink()
+        for where, word in (("access", "Permission denied"), ("statvfs", "Read-only file system")):
+            answer = {"access": False, "statvfs": SimpleNamespace(f_flag=os.ST_RDONLY)}[where]
+            with mock.patch(f"os.{where}", return_value=answer):
+                self.check_wrong(f"change: .dejavu: {word}\n", "v1", "v2")
+        self.assertEqual((self.runs, (self.folder / ".dejavu").exists()), ([], False))
+
+    def test_error_of_the_system(self):
+        self.commit_two()
+        with mock.patch("tempfile.mkdtemp", side_effect=OSError(28, "No space left on device", "/tmp/x")):
+            self.check_wrong("change: /tmp/x: No space left on device\n", "v1", "v2")
+
+    def test_history_that_cannot_be_kept(self):
+        self.commit_two()
+        with mock.patch("dejavu_tools.files.write_part", side_effect=full_behind(".history")):
+            done = self.change("v1", "v2")
+        self.assertEqual((done.returncode, done.stdout), (2, b""))
+        self.assertRegex(done.stderr, rb"\Achange: \.dejavu/[\w-]+\.history: No space left on device\n\Z")
+        self.assertEqual(self.names(".dejavu"), [])
+
+    def test_times_that_cannot_be_kept(self):
+        self.commit_two()
+        self.write(".dejavu/times.json/x", "")
+        self.check_answer(self.change("v2", "v2"), 0, NONE_KEPT.replace("v1", "v2")
+                          + "0 of 3 tests run again, 0 differ, 0 fail\n")
 
     def test_words(self):
         self.assertEqual(self.change("v1").returncode, 2)
+
+
+class Interrupted(WithRepository):
+    """A signal that comes while tests run: nothing half written stays, and what was started has ended."""
+
+    def check_stopped(self, number):
+        """The script ends with the signal's status, once the program that it waits for has ended by being told so."""
+        self.commit_two()
+        program = self.write("waiting", "#!/bin/sh\ntrap 'echo ended >> runs.log; exit 1' TERM\n"
+                             "echo begun >> runs.log\nwhile :; do sleep 0.05; done\n")
+        program.chmod(0o755)
+        log = self.write("runs.log", "")
+        scratch = self.folder / "scratch"
+        scratch.mkdir()
+        words = [sys.executable, str(SCRIPTS / "change"), "--program", str(program), "v1", "v2"]
+        process = subprocess.Popen(words, cwd=self.folder, env={**OUTSIDE, "TMPDIR": str(scratch)},
+                                   stdin=subprocess.DEVNULL, stdout=subprocess.PIPE, stderr=subprocess.PIPE)
+        while not log.read_text(encoding="utf-8"):
+            time.sleep(0.02)
+        process.send_signal(number)
+        self.assertEqual((*process.communicate(timeout=60), process.returncode), (b"", b"", 128 + number))
+        self.assertEqual(log.read_text(encoding="utf-8").split(), ["begun", "ended"])
+        self.assertEqual((self.names("scratch"), self.kept()), ([], []))
+
+    def test_interrupt(self):
+        self.check_stopped(signal.SIGINT)
+
+    def test_terminated(self):
+        self.check_stopped(signal.SIGTERM)
 
 
 @unittest.skipUnless(environment.installed("pycparser") == environment.VERSIONS["pycparser"], "pycparser is missing")
@@ -571,6 +642,19 @@ class Terminal(WithRepository):
         self.assertRegex(self.told("v1", "v2"), r"\Achange: reading v1 \(the last time it took \d+\.\d s\)\n"
                          r"change: reading v2 \(the last time it took \d+\.\d s\)\n"
                          r"change: trying v2 \(the last time it took \d+\.\d s\)\n\Z")
+
+
+def full_behind(ending):
+    """What stands in for `write_part` on a system that has no room for files whose names end so."""
+    from dejavu_tools.files import write_part
+
+    def write(path, part, data):
+        if path.name.endswith(ending):
+            part.write_bytes(data[:10])
+            raise OSError(28, "No space left on device")
+        write_part(path, part, data)
+
+    return write
 
 
 def sealed_again(text):

@@ -100,7 +100,7 @@ class Read(InFolder):
                 self.read(text)
 
     def test_no_file(self):
-        with self.assertRaisesRegex(ToolError, "no.toml: No such file or directory$"):
+        with self.assertRaisesRegex(ToolError, r"no.toml: there is no such file, .+ \(docs/change.md has its keys\)$"):
             read_settings(self.folder / "no.toml")
 
 
