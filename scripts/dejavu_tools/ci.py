@@ -26,6 +26,11 @@ def blocks(text: str, language: str) -> List[str]:
     return re.findall(rf"^```{language}\n(.*?)^```$", text, re.MULTILINE | re.DOTALL)
 
 
+def values_of(workflow: str, name: str) -> List[str]:
+    """The values of a list in a workflow that stands on one line, as those of a matrix may."""
+    return [value for line in re.findall(rf"^ *{name}: \[(.*)\]$", workflow, re.MULTILINE) for value in line.split(", ")]
+
+
 def run_lines(workflow: str) -> List[str]:
     """The lines that the steps `run` of a workflow have, each of which stands on the line of its step."""
     return re.findall(r"^ *- run: (\S.*)$", workflow, re.MULTILINE)
@@ -45,6 +50,17 @@ SUMMARIES = {
     "main": Answer("0 of 30 tests run again, 0 differ, 0 fail", 0),
     "merge": Answer("6 of 30 tests run again, 4 differ, 4 fail", 1),
 }
+
+# The same for the suites of the matrix, each of which has the tests whose names begin with its own.
+OF_SUITES = {
+    "decode": {
+        "main": Answer("0 of 11 tests run again, 0 differ, 0 fail", 0),
+        "merge": Answer("6 of 11 tests run again, 4 differ, 4 fail", 1),
+    },
+    "encode": {branch: Answer("0 of 12 tests run again, 0 differ, 0 fail", 0) for branch in ("main", "merge")},
+}
+
+SUITE = "${{ matrix.suite }}"
 
 
 def outside() -> Dict[str, str]:
@@ -72,6 +88,11 @@ class Clones:
         work = self.scratch / "work"
         shutil.copytree(self.example, work, ignore=shutil.ignore_patterns("changes", "by-hand.patch"))
         (work / "dejavu.toml").write_text(SETTINGS, encoding="ascii")
+        for suite in OF_SUITES:
+            (work / f"{suite}.toml").write_text(SETTINGS.replace('"tests"', f'"suites/{suite}"'), encoding="ascii")
+            (work / "suites" / suite).mkdir(parents=True)
+            for path in self.example.glob(f"tests/{suite}-*"):
+                shutil.copy(path, work / "suites" / suite)
         (work / ".gitignore").write_text(".dejavu/\ntests.*\n", encoding="ascii")
         self.git(work, "init", "--quiet")
         self.commit(work, "the program")
@@ -113,34 +134,43 @@ class Clones:
 
 def tried(clones: Clones, text: str) -> Iterator[str]:
     """Runs all lines of the document `text`, and tells of each that doesn't answer what it has to."""
-    (workflow,) = blocks(text, "yaml")
+    workflow, matrix = blocks(text, "yaml")
     script, *recipe = blocks(text, "sh")
-    (line,) = run_lines(workflow)
-    yield from told("workflow", tried_workflow(clones, line))
-    yield from told("script", tried_script(clones, script))
-    answer, wanted = tried_recipe(clones, recipe), Answer("".join(f"{name} fails\n" for name in FAILING), 0)
-    if answer != wanted:
-        yield f"recipe: {answer}, and not {wanted}"
+    (line,), (line_of_suite,) = run_lines(workflow), run_lines(matrix)
+    yield from told("workflow", tried_workflow(clones, line), SUMMARIES)
+    if values_of(matrix, "suite") != list(OF_SUITES) or SUITE not in line_of_suite:
+        yield "matrix: it has other suites, or its line names none"
+    for suite, wanted in OF_SUITES.items():
+        yield from told(suite, tried_workflow(clones, line_of_suite.replace(SUITE, suite), f"{suite}-"), wanted)
+    yield from told("script", tried_script(clones, script), SUMMARIES)
+    failing = Answer("".join(f"{name} fails\n" for name in FAILING), 0)
+    for runner in ("", "valgrind --quiet"):
+        answer = failing if runner and not shutil.which("valgrind") else tried_recipe(clones, recipe, runner)
+        if answer != failing:
+            yield f"recipe {runner}: {answer}, and not {failing}"
 
 
-def told(what: str, answers: Dict[str, Answer]) -> Iterator[str]:
+def told(what: str, answers: Dict[str, Answer], wanted: Dict[str, Answer]) -> Iterator[str]:
     """Tells where the line that has the counts, or the status, is another one, and where a history wasn't kept."""
     for branch, answer in answers.items():
         lines = [line for line in answer.text.splitlines() if not line.startswith("::")]
         found = Answer("".join(lines[-1:]), answer.status)
-        if found != SUMMARIES[branch]:
-            yield f"{what} on {branch}: {found}, and not {SUMMARIES[branch]}"
+        if found != wanted[branch]:
+            yield f"{what} on {branch}: {found}, and not {wanted[branch]}"
         if (lines[:1] == ["HEAD^1 was recorded: none is kept in .dejavu"]) != (branch == "main"):
             yield f"{what} on {branch}: the history of HEAD^1 was {'kept' if branch == 'main' else 'recorded'}"
 
 
-def tried_workflow(clones: Clones, line: str) -> Dict[str, Answer]:
-    """What a line of a workflow answers on `main` and for the change; a folder stands for the cache."""
-    cache, answers = clones.scratch / "cache", {}
+def tried_workflow(clones: Clones, line: str, name: str = "") -> Dict[str, Answer]:
+    """What a line of a workflow answers on `main` and for the change; a folder stands for the cache.
+
+    The names of its folders begin with `name`.
+    """
+    cache, answers = clones.scratch / f"{name}cache", {}
     for branch in ("main", "merge"):
-        folder = clones.fresh(f"checkout-{branch}", branch)
+        folder = clones.fresh(f"{name}checkout-{branch}", branch)
         moved(cache, folder / ".dejavu")
-        summary = str(clones.scratch / f"summary-{branch}.md")
+        summary = str(clones.scratch / f"{name}summary-{branch}.md")
         answers[branch] = clones.run(folder, ["bash", "-e", "-c", line], GITHUB_STEP_SUMMARY=summary)
         moved(folder / ".dejavu", cache)
     return answers
@@ -163,13 +193,13 @@ def tried_script(clones: Clones, script: str) -> Dict[str, Answer]:
     return answers
 
 
-def tried_recipe(clones: Clones, lines: Sequence[str]) -> Answer:
+def tried_recipe(clones: Clones, lines: Sequence[str], runner: str) -> Answer:
     """What the lines for a runner of one's own answer for the change, in a folder with both versions as units."""
-    folder = clones.fresh("recipe", "merge")
+    folder = clones.fresh("recipe-in-runner" if runner else "recipe", "merge")
     prepare = (
         '"$DEJAVU/scripts/adopt" --drop-stderr rle.c codec.c > new.c && git checkout --quiet HEAD^1 &&'
         ' "$DEJAVU/scripts/adopt" --drop-stderr rle.c codec.c > old.c &&'
         ' "$DEJAVU/scripts/suite" from tests --budget 1000000 > suite && "$DEJAVU/dejavu" record old.c suite > history'
     )
     made = clones.run(folder, ["sh", "-c", prepare])
-    return made if made.status else clones.run(folder, ["sh", "-c", "\n".join(lines)])
+    return made if made.status else clones.run(folder, ["sh", "-c", "\n".join(lines)], RUNNER=runner)

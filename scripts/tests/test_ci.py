@@ -3,7 +3,7 @@ import unittest
 
 from support import TOP
 
-from dejavu_tools.ci import blocks, run_lines
+from dejavu_tools.ci import blocks, run_lines, values_of
 
 TEXT = """Words.
 
@@ -40,10 +40,13 @@ class Lines(unittest.TestCase):
     def test_run_lines(self):
         self.assertEqual(run_lines(blocks(TEXT, "yaml")[0]), ['first --now "a b"'])
 
+    def test_values(self):
+        text = "matrix:\n  suite: [one, two]\n  other: [three]\n"
+        self.assertEqual((values_of(text, "suite"), values_of(text, "others")), (["one", "two"], []))
+
     def test_document(self):
         text = (TOP / "docs" / "ci.md").read_text(encoding="utf-8")
-        (workflow,) = blocks(text, "yaml")
-        self.assertEqual(len(run_lines(workflow)), 1)
+        self.assertEqual([len(run_lines(workflow)) for workflow in blocks(text, "yaml")], [1, 1])
         self.assertEqual(len(blocks(text, "sh")), 3)
 
 
