@@ -332,7 +332,7 @@ class Plots(InFolder):
         drawn = [call[0][1] for call in axes.bar.call_args_list]
         self.assertEqual([*plots.run_again(FIGURES).series.values(), *plots.missed(FIGURES).series.values()], drawn)
         pays = plots.costs(FIGURES).series[plots.PAYS][0]
-        self.assertEqual(((pays,), (0,)), axes.plot.call_args_list[-1][0][:2])  # only the first program has one
+        self.assertEqual(([pays], [0]), axes.plot.call_args_list[-1][0][:2])  # only the first program has one
         self.assertEqual(sorted(plots.NAMES), self.names("plots"))
 
     @unittest.skipUnless(importlib.util.find_spec("matplotlib"), "matplotlib is missing")

@@ -13,7 +13,7 @@ from ..errors import ToolError
 from ..files import told_of, write_whole
 from .choices import ALL, FUNCTIONS, LINES, SELECT
 from .figures import CHOICES, COMMANDS, Figures, differ_in, missed_in, run_in, sum_of, tests_in
-from .table import TOGETHER, break_even, median_cost, with_all
+from .table import break_even, median_cost, with_all
 
 NAMES = ("run-again.svg", "missed.svg", "costs.svg")
 
@@ -133,8 +133,9 @@ def points(axes: Any, data: Data) -> None:
     """Draws the series of each group as points of one row, on a logarithmic axis."""
     rows = range(len(data.groups))
     for name, values in data.series.items():
-        told = [(value, row) for value, row in zip(values, rows) if value is not None]
-        axes.plot(*zip(*told), FORMS[name], label=name.strip("`"), color=COLOURS[name], linestyle="none",
+        known = [(value, row) for value, row in zip(values, rows) if value is not None]
+        places = [[value for value, _ in known], [row for _, row in known]]
+        axes.plot(*places, FORMS[name], label=name.strip("`"), color=COLOURS[name], linestyle="none",
                   markersize=SIZES.get(name, 7), markeredgewidth=2 if name == PAYS else 1)
     axes.set_xscale("log")
     axes.xaxis.set_major_formatter("{x:,.0f}")
