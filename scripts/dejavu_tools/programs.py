@@ -64,6 +64,9 @@ def run_through(program: Path, words: Sequence[str]) -> Answer:
             start = pass_on(process.stdout)
         except OSError:
             return Answer(UNWRITTEN, b"")
+        except BaseException:  # which the program needn't have got
+            process.terminate()
+            raise
     status = process.returncode
     return Answer(status if status >= 0 else 128 - status, start)
 

@@ -1,6 +1,7 @@
 """The script `tell`, over small programs that stand in for `dejavu`."""
 import os
 import select
+import signal
 import subprocess
 import unittest
 
@@ -114,6 +115,15 @@ class Told(WithProgram):
     def test_program_that_a_signal_ends(self):
         self.program("kill -TERM $$")
         self.check_answer(self.tell("walk", "a", "b"), 143, "")
+
+    def test_signal_that_comes_while_the_program_runs(self):
+        self.program("trap 'echo ended > log; exit 1' TERM; echo begun; while :; do sleep 0.05; done")
+        words = command("tell", "--program", self.folder / "program", "record")
+        with subprocess.Popen(words, cwd=self.folder, stdout=subprocess.PIPE, stderr=subprocess.PIPE) as process:
+            self.assertEqual(process.stdout.readline(), b"begun\n")
+            process.send_signal(signal.SIGTERM)
+            self.assertEqual((*process.communicate(timeout=120), process.returncode), (b"", b"", 128 + signal.SIGTERM))
+        self.assertEqual((self.folder / "log").read_text(encoding="ascii"), "ended\n")
 
     def test_no_program(self):
         done = self.tell("walk", "a", "b")

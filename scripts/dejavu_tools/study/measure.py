@@ -275,6 +275,10 @@ def figures_of(program: Path, every: int, jobs: int, work: Path, tell: Callable[
         pairs = [(old, change) for old in olds for change in changes_of(old.subject, old.texts, every)]
         tell(0, len(pairs))
         tasks = [pool.submit(measure, old, program, change) for old, change in pairs]
-        for done, _ in enumerate(as_completed(tasks), 1):
-            tell(done, len(tasks))
+        try:
+            for done, _ in enumerate(as_completed(tasks), 1):
+                tell(done, len(tasks))
+        except BaseException:
+            pool.shutdown(cancel_futures=True)  # so that an interrupt needn't wait for all
+            raise
         return Figures([old.program for old in olds], [task.result() for task in tasks])
