@@ -214,6 +214,10 @@ class StatementLowering:
             return True
         return bool(self.effects.of(node).writes) or any(self.does_something(child) for _, child in node.children())
 
+    def is_constant(self, node: Any) -> bool:
+        """Whether the value of an expression is the same whenever it is evaluated: it reads no object and does nothing."""
+        return not self.effects.of(node).reads and not self.does_something(node)
+
     def step_text(self, node: Any) -> str:
         """`++` or `--` of a number, or of a pointer's offset."""
         if is_pointer(type_of(self.program, node.expr)):

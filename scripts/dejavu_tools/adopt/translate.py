@@ -97,8 +97,6 @@ def object_lines(program: Program, unit: Unit, effects: Effects, trees: Dict[int
         body = Body(program, unit, effects, None)
         check_object(program, symbol)
         lines.append(initial(unit, body, symbol, trees[id(symbol)]))
-        if body.output.lines:
-            program.obstacles.tell("constant", symbol.node)
     return lines
 
 

@@ -109,6 +109,9 @@ class Unit:
         if tree is None:
             return self.zero(kind)
         if isinstance(kind, Number) and not isinstance(tree, dict):
+            if body.procedure is None and not body.is_constant(tree):
+                body.tell("constant", tree)
+                return "0"
             return body.stored_value(tree, kind).at(ASSIGNED)
         if not isinstance(tree, dict) and is_string(tree):
             length = kind.length if isinstance(kind, Array) else kind.text
