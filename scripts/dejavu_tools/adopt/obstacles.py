@@ -5,6 +5,7 @@ from dataclasses import dataclass
 from typing import Callable, List, Sequence, Set
 
 from .places import Place
+from .unread import Unread
 from .words import OBSTACLES
 
 
@@ -29,15 +30,20 @@ class ObstaclesFound(Exception):
 
 
 class Collector:
-    """Takes the obstacles of one run. `place_of` says where a node of a tree stands in its file."""
+    """Takes the obstacles of one run, those aside that may only follow from declarations that can't be read.
 
-    def __init__(self, place_of: Callable[[object], Place]) -> None:
+    `place_of` says where a node of a tree stands in its file.
+    """
+
+    def __init__(self, place_of: Callable[[object], Place], unread: Unread) -> None:
         self.place_of = place_of
+        self.unread = unread
         self.found: Set[Obstacle] = set()
 
     def tell(self, kind: str, node: object, name: str = "") -> None:
         """Takes an obstacle of this kind (a key of `words.OBSTACLES`) at a node."""
-        self.tell_at(kind, self.place_of(node), name)
+        if not self.unread.explains(kind, node, name):
+            self.tell_at(kind, self.place_of(node), name)
 
     def tell_at(self, kind: str, place: Place, name: str = "") -> None:
         """Takes an obstacle of this kind at a place."""

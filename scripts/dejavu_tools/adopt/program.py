@@ -19,6 +19,7 @@ from .parse import Places, parse
 from .preprocess import NOT_THE_SAME, preprocess
 from .symbols import Procedure, Scope, Symbol
 from .types import Array, Function, Number, Pointer, Struct, Type
+from .unread import Unread
 
 PRINTERS = {"printf", "fprintf"}
 RESERVED = {"getchar", "putchar", "printf", "exit", "EOF"}
@@ -30,8 +31,9 @@ class Program:
     def __init__(self, options: Options) -> None:
         self.options = options
         self.places = Places()
-        self.obstacles = Collector(self.places.place)
         self.symbols: Dict[int, Any] = {}  # of names and declarations: a `Symbol` or a `Constant`
+        self.unread = Unread(self.symbols)
+        self.obstacles = Collector(self.places.place, self.unread)
         self.types: Dict[int, Type] = {}  # of the trees of types
         self.structs: List[Struct] = []
         self.enums: List[Tuple[Constant, ...]] = []
@@ -49,21 +51,19 @@ class Program:
         self.pointed: Dict[int, List[Any]] = {}  # what is assigned to each pointer that is a local object
 
     def read(self, files: List[Path]) -> None:
-        """Reads all files; `ObstaclesFound` where one can't be read as C11."""
+        """Reads all files; what can't be read of them is left out."""
         for path in files:
             source = preprocess(path, self.options)
-            tree = parse(source, self.obstacles)
-            if tree is not None:
-                self.places.add(tree, source)
-                self.files.append((re.sub(r"\W", "_", path.stem), tree))
-                for node in tree.ext:
-                    if not self.places.is_standard(node):
-                        self.names.take(node)
-        self.obstacles.stop()
+            tree = parse(source, self.obstacles, self.unread)
+            self.places.add(tree, source)
+            self.files.append((re.sub(r"\W", "_", path.stem), tree))
+            for node in tree.ext:
+                if not self.places.is_standard(node):
+                    self.names.take(node)
         for stem, tree in self.files:
             self.gather(stem, tree)
         if not any(procedure.symbol.name == "main" for procedure in self.procedures):
-            raise ToolError(f"{', '.join(map(str, files))}: there is no `main`")
+            self.refuse(f"{', '.join(map(str, files))}: there is no `main`")
         self.name_all()
 
     def gather(self, stem: str, tree: Any) -> None:
@@ -79,8 +79,11 @@ class Program:
                 declarer.type(node.type, scope, "")
             elif isinstance(node, c_ast.Decl):
                 self.declare(node, scope, declarer)
-            elif not isinstance(node, (c_ast.StaticAssert, c_ast.Pragma)):
-                self.obstacles.tell("statement", node)
+
+    def refuse(self, why: str) -> None:
+        """Raises a `ToolError`, unless declarations are missing that can't be read: it may follow from that."""
+        if not self.unread.is_any:
+            raise ToolError(why)
 
     def declare(self, node: Any, scope: Scope, declarer: Declarer) -> Symbol:
         """Takes a declaration at file scope, or an `extern` one within a function."""
@@ -117,7 +120,7 @@ class Program:
                 symbol.node = node  # the program's own
         elif not agree(symbol.type, kind):
             place, other = self.places.place(node), self.places.place(symbol.node)
-            raise ToolError(f"{place}: `{symbol.name}` is declared otherwise than at {other}")
+            self.refuse(f"{place}: `{symbol.name}` is declared otherwise than at {other}")
         elif isinstance(symbol.type, Array) and symbol.type.length is None:
             symbol.type = kind
 
