@@ -1,4 +1,5 @@
-"""The obstacles of a program that has one of nearly every kind: all are told in one run, at their places."""
+"""The obstacles of a program that has one of every kind: all are told in one run, at their places."""
+import re
 import subprocess
 import sys
 import unittest
@@ -32,6 +33,13 @@ class Told(unittest.TestCase):
         remedies = {words.todo for words in OBSTACLES.values()}
         for line in told:
             self.assertIn(line.rsplit(": ", 1)[1], remedies)
+
+    def test_every_kind_is_expected(self):
+        expected = [line.split(": ", 1)[1] for line in (FOLDER / "expected.txt").read_text("utf-8").splitlines()]
+        for kind, words in OBSTACLES.items():
+            told = re.compile(re.escape(words.what).replace(re.escape("{name}"), ".+"))
+            with self.subTest(kind=kind):
+                self.assertTrue(any(map(told.fullmatch, expected)))
 
     def test_with_the_flags(self):
         without = set(self.adopt("first.c", "second.c"))

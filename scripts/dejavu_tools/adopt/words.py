@@ -66,6 +66,5 @@ OBSTACLES: Dict[str, Words] = {
     "clear": Words("`{name}` on a part of an object, or on other than bytes", "write a loop over the elements"),
     "constant": Words("an initial value that is no constant number or string", "use a constant"),
     "time": Words("`{name}` differs from one run of the preprocessor to the next", "take it out"),
-    "statement": Words("this statement", "write it by `if`, `while`, `for`, `switch` and calls"),
     "expression": Words("this expression", "write it by operators on numbers"),
 }

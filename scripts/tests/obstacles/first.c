@@ -72,3 +72,37 @@ int main(int argc, char **argv)
 {
     return argc;
 }
+
+typedef struct {
+    int width;
+} __attribute__((packed)) packet;
+
+static packet last;
+
+static int width_of(packet *one)
+{
+    return one->width + last.width;
+}
+
+static int kind_of(int n)
+{
+    switch (n) {
+    case 1 ... 3:
+        return (int)(n * HALF);
+    default:
+        return width_of(&last);
+    }
+}
+
+static const int most = 5;
+static int limit = most;
+
+struct table {
+    int count;
+    int values[];
+};
+
+int sums(unsigned n)
+{
+    return (int)(total + n) + kind_of(limit);
+}

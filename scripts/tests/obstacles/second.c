@@ -84,3 +84,8 @@ int others(int n)
     pair.a = many[0] + LAST(chosen);
     return n + exit;
 }
+
+int literal_of(int n)
+{
+    return n + (int){1};
+}
