@@ -85,7 +85,7 @@ class Body(
             return
         if isinstance(kind.target, Struct) and kind.target.members is None:
             self.tell("file" if kind.target.name == "__file" else "pointer", symbol.node, symbol.name)
-        elif not isinstance(kind.target, (Number, Struct)):
+        elif not isinstance(types.innermost(kind.target), (Number, Struct)):
             self.tell("pointer", symbol.node)
 
     def take_apart(self, symbol: Symbol) -> None:

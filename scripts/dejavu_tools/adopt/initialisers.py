@@ -7,8 +7,8 @@ from typing import Any, Deque, Dict, List, Optional, Union
 from pycparser import c_ast
 
 from .constants import type_of, value_of
-from .literals import string_bytes
-from .types import Array, Number, Pointer, Struct, Type, has_text, is_aggregate
+from .literals import spelled_char, string_bytes
+from .types import Array, Number, Pointer, Struct, Type, cells, has_text, is_aggregate
 
 Tree = Union[Dict[int, Any], c_ast.Node]  # by the number of the element or member; an expression for what is one part
 
@@ -111,6 +111,28 @@ def part(kind: Type, k: int) -> Optional[Type]:
 def is_string(node: Any) -> bool:
     """Whether this is a string literal."""
     return isinstance(node, c_ast.Constant) and node.type == "string"
+
+
+def flattened(kind: Array, tree: Dict[int, Any]) -> Dict[int, Any]:
+    """What each innermost element of an array of arrays begins with, by its number among all of them."""
+    size = cells(kind.element)
+    found: Dict[int, Any] = {}
+    for k, below in tree.items():
+        if not isinstance(kind.element, Array):
+            found[k] = below
+            continue
+        if not isinstance(below, dict):  # a string
+            below = dict(enumerate(map(char_node, string_bytes(below.value)[:size])))
+        else:
+            below = flattened(kind.element, below)
+        found.update((k * size + at, part) for at, part in below.items())
+    return found
+
+
+def char_node(byte: int) -> c_ast.Constant:
+    """A byte of a string as an expression."""
+    text = spelled_char(byte)
+    return c_ast.Constant("char", text) if text.startswith("'") else c_ast.Constant("int", str(byte))
 
 
 def length_of(tree: Tree) -> int:

@@ -11,7 +11,7 @@ from .initialisers import is_null, is_string
 from .library import FUNCTIONS
 from .literals import string_bytes
 from .symbols import Procedure, Symbol
-from .types import Number, Pointer, Struct
+from .types import Array, Number, Pointer, Struct
 from .values import ASSIGNED, NULL_OFFSET, PRIMARY, Reference, Value, ZERO, masked, number, stored
 
 ABORTED = 134  # the status that a shell tells of a program that `abort` ended
@@ -61,12 +61,14 @@ class CallLowering:
     def array_words(self, parameter: Symbol, argument: Any) -> List[str]:
         """The arguments for an array parameter; NULL is an offset of -1 in an array that nothing uses."""
         if is_null(argument) and isinstance(parameter.type, Pointer):
-            found = Reference(self.unit.nowhere(parameter.type.target), NULL_OFFSET, parameter.type.target)
+            nowhere = self.unit.nowhere(types.innermost(parameter.type.target))
+            is_flat = isinstance(parameter.type.target, Array)
+            found = Reference(nowhere, NULL_OFFSET, parameter.type.target, is_flat)
         else:
             found = self.reference(argument)
         target = parameter.type.target if isinstance(parameter.type, Pointer) else parameter.type
         has_lost_offset = found.offset is not None and found.offset.constant != 0 and not parameter.moves
-        if has_lost_offset or not are_alike(found.element, target):
+        if has_lost_offset or found.is_flat != isinstance(target, Array) or not are_alike(found.element, target):
             self.tell("pointer", argument)
         return self.reference_words(found, parameter.moves)
 
@@ -120,7 +122,8 @@ class CallLowering:
         parts = []
         for argument, (_, kind) in zip(self.arguments(node), declared):
             is_pointer = isinstance(kind, Pointer)
-            parts.append(self.bytes_of(argument) if is_pointer else self.stored_value(argument, kind))
+            called = self.name_called(node)
+            parts.append(self.bytes_of(argument, called) if is_pointer else self.stored_value(argument, kind))
         return self.library_text(name, parts)
 
     def library_text(self, name: str, parts: Sequence[Union[Reference, Value]]) -> str:
@@ -131,11 +134,11 @@ class CallLowering:
             words.extend(self.reference_words(part, has_offset) if isinstance(part, Reference) else [part.at(ASSIGNED)])
         return f"{self.unit.library(name + ('_at' if has_offset else ''))}({', '.join(words)})"
 
-    def bytes_of(self, node: Any) -> Reference:
-        """An argument that is an array of bytes."""
+    def bytes_of(self, node: Any, called: str) -> Reference:
+        """An argument that is an array of bytes, of a call of this name."""
         found = self.reference(node)
         if getattr(found.element, "unit", "") != "char":
-            self.tell("clear", node, "a function on bytes")
+            self.tell("clear", node, called)
         return found
 
     def tell_unknown(self, node: Any) -> None:
@@ -230,7 +233,7 @@ class CallLowering:
         line, size, stream = self.arguments(node)
         if self.stream(node, stream) != "stdin":
             self.tell("file", node, "fgets")
-        found = self.bytes_of(line)
+        found = self.bytes_of(line, "fgets")
         words = self.reference_words(found, found.offset is not None)
         name = self.unit.library("fgets" if found.offset is None else "fgets_at")
         text = f"{name}({', '.join(words)}, {self.value(size).at(ASSIGNED)})"
@@ -331,6 +334,8 @@ class CallLowering:
 
 def are_alike(element: Any, target: Any) -> bool:
     """Whether an array parameter with such elements may refer to an array of these."""
+    if isinstance(element, Array) and isinstance(target, Array):
+        return types.cells(element) == types.cells(target) and are_alike(*map(types.innermost, (element, target)))
     if isinstance(element, Number) and isinstance(target, Number):
         return element.unit == target.unit and element.size == target.size
     if isinstance(element, Struct) and isinstance(target, Struct):

@@ -22,7 +22,7 @@ class MemoryLowering:
     def do_memset(self, node: Any) -> None:
         """Bytes set, or an object of any type set to 0 as a whole."""
         target, byte, size = self.arguments(node)
-        found = self.reference(target)
+        found = self.bytes_or_elements(target)
         if getattr(found.element, "unit", "") == "char":
             self.output.put(f"{self.library_text('memset', [found, self.value(byte), self.value(size)])};")
             return
@@ -74,8 +74,9 @@ class MemoryLowering:
             self.tell("clear", node, self.name_called(node))
         at = self.temporary("at")
         with self.output.block(f"for (int {at} = 0; {at} < {kind.length}; {at}++) {{"):
-            inner = [Reference(f"{found.base}[{at}]", None, kind.element.element) for found in objects]
-            self.each_row(node, kind.element, inner, write)
+            below = types.as_unit(kind.element)
+            inner = [Reference(f"{found.base}[{at}]", None, below.element) for found in objects]
+            self.each_row(node, below, inner, write)
 
     def whole_object(self, target: Any, size: Any) -> Optional[Type]:
         """The type of the object at which a pointer points, where a size is that of the whole; else None."""
@@ -84,12 +85,17 @@ class MemoryLowering:
         if isinstance(kind, Pointer):
             kind = kind.target
         given = value_of(self.program, size)
-        return kind if given is not None and given == kind.size else None
+        return types.as_unit(kind) if given is not None and given == kind.size else None
+
+    def bytes_or_elements(self, node: Any) -> Reference:
+        """What a pointer refers to, a flat array of arrays by its innermost elements."""
+        found = self.reference(node)
+        return found.innermost() if found.is_flat else found
 
     def do_memcpy(self, node: Any) -> None:
         """Bytes copied, or a whole object of any type."""
         target, origin, size = self.arguments(node)
-        to, start = self.reference(target), self.reference(origin)
+        to, start = self.bytes_or_elements(target), self.bytes_or_elements(origin)
         kind, name = getattr(to.element, "unit", ""), self.name_called(node)
         if kind == "char" and getattr(start.element, "unit", "") == "char":
             self.output.put(f"{self.library_text(name, [to, start, self.value(size)])};")

@@ -104,12 +104,14 @@ class PlaceLowering:
             return symbol.base
         if isinstance(kind, Pointer) and not kind.text:
             offset = Value(self.offset_name(symbol), PRIMARY, types.INT) if symbol.moves else None
-            return Reference(symbol.unit, offset, element_of(kind))
+            return Reference(symbol.unit, offset, element_of(kind), isinstance(kind.target, Array))
         if isinstance(kind, Struct) and symbol.is_parameter and symbol.moves:
             return Reference(symbol.unit, Value(self.offset_name(symbol), PRIMARY, types.INT), kind)
         if isinstance(kind, Pointer):
             return Reference(symbol.unit, None, types.CHAR)
-        return Reference(symbol.unit, None, kind.element if isinstance(kind, Array) else kind)
+        if isinstance(kind, Array):
+            return Reference(symbol.unit, None, kind.element, kind.is_flat)
+        return Reference(symbol.unit, None, kind)
 
     def reference(self, node: Any) -> Reference:
         """What an expression that is a pointer, an array or a struct refers to."""
@@ -143,7 +145,11 @@ class PlaceLowering:
         part_type = type_of(self.program, node)
         if isinstance(part_type, Struct):
             return self.moved(node)
-        return self.within(node, self.place(node))
+        return self.within_element(node, self.reference(node.name), self.value(node.subscript))
+
+    def within_element(self, node: Any, outer: Reference, index: Value) -> Optional[Reference]:
+        """Of an element that is an array or a string."""
+        return outer.row(index) if outer.is_flat else self.within(node, self.element(outer, index))
 
     def moved(self, node: Any) -> Reference:
         """Of an element by its index; at the index 0 an array has no offset."""
@@ -157,7 +163,7 @@ class PlaceLowering:
     def within(self, node: Any, part: Part) -> Optional[Reference]:
         """Of a place that is an array, a string or a member that is a struct."""
         if isinstance(part.type, Array):
-            return Reference(part.text, None, part.type.element)
+            return Reference(part.text, None, part.type.element, part.type.is_flat)
         if isinstance(part.type, Pointer) and part.type.text:
             return Reference(part.text, None, types.CHAR)
         if isinstance(part.type, Struct):
@@ -193,8 +199,9 @@ class PlaceLowering:
         if node.op == "&":
             return self.address(node.expr)
         if node.op == "*":
-            return self.within(node, self.element(self.reference(node.expr), ZERO)) if not isinstance(
-                type_of(self.program, node), Struct) else self.reference(node.expr)
+            outer = self.reference(node.expr)
+            is_struct = isinstance(type_of(self.program, node), Struct)
+            return outer if is_struct else self.within_element(node, outer, ZERO)
         symbol = self.symbol(node.expr)
         if node.op in STEPS and symbol is not None and is_pointer(symbol.type):
             found = self.reference(node.expr)
@@ -232,6 +239,9 @@ class PlaceLowering:
             self.tell("pointer", node)
             return None
         outer, by = self.reference(left), self.value(right)
+        if outer.is_flat:
+            self.tell("pointer", node)
+            return None
         if node.op == "+":
             return outer.moved(by)
         start = outer.offset or ZERO
@@ -292,7 +302,7 @@ class PlaceLowering:
         kind = type_of(self.program, node)
         name = self.temporary("literal")
         self.declare_object(name, kind, node.init, node)
-        return Reference(name, None, kind.element if isinstance(kind, Array) else kind)
+        return Reference(name, None, kind.element, kind.is_flat) if isinstance(kind, Array) else Reference(name, None, kind)
 
     def refer_assignment(self, node: Any) -> Optional[Reference]:
         """Of what was assigned to."""

@@ -254,7 +254,7 @@ class Printer:
 
     def reference(self, node: Any) -> Reference:
         """The bytes that an argument refers to."""
-        return self.body.bytes_of(node)
+        return self.body.bytes_of(node, "%s")
 
     def text(self, node: Any, kept: Optional[Dict[int, Value]]) -> None:
         """A string as it is."""

@@ -4,6 +4,7 @@ from __future__ import annotations
 import hashlib
 import re
 from contextlib import nullcontext
+from dataclasses import replace
 from typing import Any, Dict, List, Optional, Sequence, Tuple
 
 from pycparser import c_ast
@@ -132,7 +133,7 @@ class StatementLowering:
         with self.output.apart() as lines:
             found = self.reference(origins[0])
             found = self.fixed(found) if is_single else found
-        if not is_single and "[" in found.base:
+        if found.is_flat or not is_single and "[" in found.base:
             self.tell("pointer", node)
             return
         self.output.add(lines if is_single else [])
@@ -164,7 +165,7 @@ class StatementLowering:
         while True:
             match = re.compile(r"\[((?:[^\[\]]|\[[^\[\]]*\])*)\]").search(base, at)
             if match is None:
-                return Reference(base, reference.offset, reference.element)
+                return replace(reference, base=base)
             text = match.group(1)
             if not text.rstrip("u").isdigit():
                 name = self.temporary("index")

@@ -7,6 +7,7 @@ from pycparser import c_ast
 
 from .constants import type_of, value_of
 from .effects import STEPS
+from .flat import is_flat
 from .initialisers import is_null
 from .symbols import Symbol
 from .types import Array, Pointer, Struct
@@ -62,7 +63,7 @@ class Offsets:
             return self.object_has_offset(self.program.symbols.get(id(node)))
         if isinstance(node, c_ast.ArrayRef):
             kind = type_of(self.program, node)
-            if isinstance(kind, (Array, Pointer)):
+            if isinstance(kind, (Array, Pointer)) and not is_flat(type_of(self.program, node.name)):
                 return False
             return value_of(self.program, node.subscript) != 0 or self.has_offset(node.name)
         if isinstance(node, c_ast.UnaryOp):

@@ -10,6 +10,7 @@ from pycparser import c_ast
 from .body import Body
 from .constants import type_of
 from .effects import Effects
+from .flat import Flat
 from .initialisers import Reader, length_of, take_texts
 from .measure import check_limits
 from .offsets import Offsets
@@ -39,6 +40,7 @@ def adopt(files: Sequence[Path], options: Options) -> Adopted:
     program = Program(options)
     program.read(list(files))
     trees = read_objects(program)
+    Flat(program)
     Offsets(program)
     effects = Effects(program)
     unit = Unit(program)

@@ -48,10 +48,11 @@ VOID = Void()
 
 @dataclass(eq=False)
 class Array:
-    """An array; `length` is None where it isn't known yet."""
+    """An array; `length` is None where it isn't known yet. One of arrays is flat where the unit has it as one array."""
 
     element: "Type"
     length: Optional[int]
+    is_flat: bool = False
 
     @property
     def size(self) -> int:
@@ -177,6 +178,26 @@ def innermost(kind: Type) -> Type:
     while isinstance(kind, Array):
         kind = kind.element
     return kind
+
+
+def cells(kind: Type) -> int:
+    """How many innermost elements an array has; 1 of what is none."""
+    return (kind.length or 1) * cells(kind.element) if isinstance(kind, Array) else 1
+
+
+def as_unit(kind: Type) -> Type:
+    """A flat array as the one array that the unit has; any other type as it is."""
+    return Array(innermost(kind), cells(kind)) if isinstance(kind, Array) and kind.is_flat else kind
+
+
+def lengths(kind: Type) -> List[int]:
+    """The lengths of an array in the unit, from the outermost on; none of what is no array."""
+    found: List[int] = []
+    while isinstance(as_unit(kind), Array):
+        kind = as_unit(kind)
+        found.append(kind.length or 1)
+        kind = kind.element
+    return found
 
 
 def holds(kind: Type, part: Type) -> bool:

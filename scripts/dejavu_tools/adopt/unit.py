@@ -3,7 +3,8 @@ from __future__ import annotations
 
 from typing import Any, Dict, List, Optional, Set, Tuple
 
-from .initialisers import is_string
+from . import types
+from .initialisers import flattened, is_string
 from .library import definitions
 from .literals import spelled_char, string_bytes, text_name
 from .symbols import Procedure, Symbol
@@ -78,10 +79,7 @@ class Unit:
 
     def declared(self, name: str, kind: Type, is_object: bool = False) -> str:
         """The declaration of an object; `is_object` makes a number an array of one."""
-        lengths: List[int] = []
-        while isinstance(kind, Array):
-            lengths.append(kind.length or 1)
-            kind = kind.element
+        lengths, kind = types.lengths(kind), types.innermost(kind)
         if isinstance(kind, Pointer):
             lengths.append(max(kind.text, 1))
         if isinstance(kind, Struct):
@@ -93,6 +91,7 @@ class Unit:
         """An initialiser of nothing but 0."""
         if isinstance(kind, Number):
             return "0"
+        kind = types.as_unit(kind)
         if isinstance(kind, Struct):
             first = kind.members[0].type if kind.members else None
             inner = self.zero(first) if first is not None else "0"
@@ -127,6 +126,8 @@ class Unit:
         """The initialiser of an array or a struct by its parts."""
         if not tree or isinstance(kind, Pointer):
             return self.zero(kind)
+        if isinstance(kind, Array) and kind.is_flat:
+            return self.list(body, types.as_unit(kind), flattened(kind, tree))
         parts = []
         for k in range(max(tree) + 1):
             inner = kind.element if isinstance(kind, Array) else kind.members[k].type
@@ -145,7 +146,7 @@ class Unit:
             if isinstance(symbol.type, Number):
                 parts.append(f"{symbol.type.unit} {name}")
                 continue
-            target = symbol.type.target if isinstance(symbol.type, Pointer) else symbol.type
+            target = types.innermost(symbol.type.target) if isinstance(symbol.type, Pointer) else symbol.type
             base = f"struct {target.tag}" if isinstance(target, Struct) else getattr(target, "unit", "char")
             parts.append(f"{base} {name}[]")
             if symbol.moves:
@@ -211,10 +212,7 @@ class Unit:
         """A line for each member, in loops over the elements of arrays; `line` gets a type, a path and an index."""
         lines: List[str] = []
         for member in struct.members or ():
-            lengths, kind = [], member.type
-            while isinstance(kind, Array):
-                lengths.append(kind.length or 1)
-                kind = kind.element
+            lengths, kind = types.lengths(member.type), types.innermost(member.type)
             if isinstance(kind, Pointer):
                 lengths.append(max(kind.text, 1))
             names = "ijklmn"[: len(lengths)]

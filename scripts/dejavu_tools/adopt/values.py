@@ -54,11 +54,15 @@ class Part:
 
 @dataclass(frozen=True)
 class Reference:
-    """What an array parameter refers to: an array, and the number of the element at which it begins."""
+    """What an array parameter refers to: an array, and the number of the element at which it begins.
+
+    Of a flat array of arrays `element` is one of these arrays, and the number is that of an innermost element.
+    """
 
     base: str
     offset: Optional[Value]
     element: Type
+    is_flat: bool = False
 
     @property
     def is_simple(self) -> bool:
@@ -68,6 +72,17 @@ class Reference:
     def moved(self, by: Value) -> "Reference":
         """The same, so many elements further on."""
         return replace(self, offset=by if self.offset is None else added(self.offset, by))
+
+    def row(self, index: Value) -> "Reference":
+        """The array at an index of a flat array of arrays."""
+        size = types.cells(self.element)
+        step = operation("*", index, number(size), types.INT) if index.constant is None else number(index.constant * size)
+        inner = self.element.element
+        return replace(self.moved(step), element=inner, is_flat=isinstance(inner, types.Array))
+
+    def innermost(self) -> "Reference":
+        """The same elements, one by one, where this is a flat array of arrays."""
+        return replace(self, element=types.innermost(self.element), is_flat=False)
 
     def at(self, index: Optional[Value] = None) -> str:
         """The text of the element at an index behind the beginning."""

@@ -28,7 +28,7 @@ int sum(int n, ...)
     return n;
 }
 
-int trace_of(int matrix[3][3])
+int trace_of(int **matrix)
 {
     return matrix[0][0];
 }
