@@ -14,7 +14,8 @@ OFFSET = "offset"
 INPUT, OUTPUT = "stdin", "stdout"
 READERS = {"getchar", "getc", "fgetc", "fgets", "scanf"}
 WRITERS = {"putchar", "putc", "fputc", "puts", "fputs", "printf", "fprintf"}
-FILLERS = {"strcpy", "strncpy", "strcat", "strncat", "memset", "memcpy", "memmove", "fgets"}
+FILLERS = {"strcpy", "strncpy", "strcat", "strncat", "memset", "memcpy", "memmove", "fgets", "sprintf",
+           "snprintf"}
 # What gives a pointer into its first argument.
 GIVES_FIRST = {"strchr", "strrchr", "strstr", "strpbrk", "memchr", "strcpy", "strncpy", "strcat", "strncat", "memset",
                "memcpy", "memmove"}

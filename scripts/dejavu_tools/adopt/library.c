@@ -394,6 +394,31 @@ void std_copy_unsigned_at(unsigned to[], unsigned to_at, unsigned from[], unsign
     }
 }
 
+/*
+ * ---- output into a char array, by `sprintf` and `snprintf`: how many bytes were written so far, those that had no room
+ * among them, and the room for bytes and the 0 behind them. library.py makes a function `std_write_..` of each that
+ * prints, from here on, which writes to an array `to` from `start` on.
+ */
+
+unsigned std_written;
+
+unsigned std_room;
+
+void std_write_byte(char to[], unsigned start, int byte)
+{
+    if (std_written + 1 < std_room) {
+        to[start + std_written] = byte;
+    }
+    std_written = std_written + 1;
+}
+
+void std_write_end(char to[], unsigned start)
+{
+    if (std_room > 0) {
+        to[start + (std_written < std_room ? std_written : std_room - 1)] = 0;
+    }
+}
+
 /* ---- output: `printf` of what isn't %d, %u or %c, and `puts` */
 
 void std_pad(int count, int byte)

@@ -9,6 +9,9 @@ what its parameters are.
 - `strchr_index` gives how far behind its first argument the result is, or -1 for NULL, and `strchr_found` whether it
   isn't NULL; so do `memchr_..`, `strpbrk_..` and `strstr_..`, and `strrchr_index`.
 - `print_text`, `print_padded_text`, `print_int`, `print_number` and `pad` are the conversions of `printf`.
+- `write_text_at`, `write_padded_text_at`, `write_int`, `write_number` and `write_pad` write the same to a char array,
+  behind what was written since `written` became 0; so does `write_byte`, and `write_end` writes the 0 at its end. There
+  is `room` for so many bytes: what has none is counted and not written.
 - `scan_int` is `scanf("%d", ..)`: where it gives 1, the number is in the object `std_scanned`.
 - `getchar` is for units that push a byte back, by `ungetc` or `scan_int`: where it is among the functions of a unit,
   what the unit itself reads has to be read by `std_getchar` too.
@@ -24,6 +27,8 @@ TEXT = Path(__file__).with_name("library.c")
 
 DEFINED = re.compile(r"^(?:void|int|unsigned) std_(\w+)", re.MULTILINE)
 NAMED = re.compile(r"\bstd_(\w+)")
+PRINTING = re.compile(r"\bstd_(?:pad|print_(\w+))\b")
+WRITING = re.compile(r"(\bstd_write_\w+\()")
 OFFSETS = re.compile(r", (?:unsigned )?\w+_at\b(?! \+)|\b\w+_at \+ |_at(?=\()")
 
 
@@ -37,13 +42,27 @@ class LibraryFunction:
 
 
 def pieces(text: str) -> Iterator[str]:
-    """The definitions that a text has between its empty lines; of one with offsets first the one without."""
+    """The definitions that a text has between its empty lines, and those that are made of one.
+
+    Before one with offsets comes the same without, and behind one that prints what writes the same to a char array.
+    """
     for piece in text.rstrip("\n").split("\n\n"):
         name = DEFINED.search(piece)
         if name and name[1].endswith("_at") and name[1] != "memmove_at":
             yield OFFSETS.sub("", piece) + "\n"
         if name:
             yield piece + "\n"
+        if name and PRINTING.fullmatch(f"std_{name[1]}"):
+            yield into_array(piece) + "\n"
+
+
+def into_array(piece: str) -> str:
+    """What writes to a char array what a function prints; each call hands the array and its start on."""
+    text = PRINTING.sub(lambda match: "std_write_" + (match[1] or "pad"), piece).replace("putchar(", "std_write_byte(")
+    head = DEFINED.search(text)
+    body = text.index("{", head.start())
+    started = text[head.start():body].replace("(", "(char to[], unsigned start, ", 1)
+    return text[:head.start()] + started + WRITING.sub(r"\1to, start, ", text[body:])
 
 
 def read(text: str) -> Dict[str, LibraryFunction]:

@@ -2,20 +2,22 @@
 from __future__ import annotations
 
 import re
-from dataclasses import dataclass
+from dataclasses import dataclass, replace
 from typing import Any, Dict, List, Optional, Union
 
 from pycparser import c_ast
 
 from . import types
 from .constants import type_of
+from .effects import meet, roots
 from .initialisers import is_string
-from .literals import spelled_format, string_bytes
+from .literals import MOST_UNSIGNED, spelled_char, spelled_format, string_bytes
 from .types import LONG, Number
 from .values import ASSIGNED, PRIMARY, Reference, Value, cast, masked, narrowed, number, operation
 
 CONVERSION = re.compile(rb"%([-+ #0]*)(\*|\d*)(?:\.(\*|\d*))?(hh|h|ll|l|z|j|t)?(.)", re.S)
 MOST_VALUES = 8  # of one printf of the language
+NO_LIMIT = number(MOST_UNSIGNED, types.UNSIGNED)  # bytes that `sprintf` has room for
 BASES = {"u": 10, "x": 16, "X": 16, "o": 8}
 
 
@@ -51,7 +53,6 @@ class PrintLowering:
     def do_puts(self, node: Any) -> None:
         """A string and a newline."""
         printer = Printer(self)
-        self.prepare([(None, self.arguments(node)[0])], {}, False)
         printer.text(self.arguments(node)[0], None)
         printer.literal([10])
         printer.flush()
@@ -68,6 +69,59 @@ class PrintLowering:
         """A message on stderr."""
         if not self.program.options.drop_stderr:
             self.tell("stderr", node)
+
+    def do_sprintf(self, node: Any) -> None:
+        """Output into a char array."""
+        target, form, *arguments = self.arguments(node)
+        self.write_formatted(node, target, None, form, arguments)
+
+    def do_snprintf(self, node: Any) -> None:
+        """Output into a char array that has room for so many bytes."""
+        target, size, form, *arguments = self.arguments(node)
+        self.write_formatted(node, target, size, form, arguments)
+
+    def give_sprintf(self, node: Any) -> Value:
+        """How many bytes there were to write into a char array."""
+        self.call_statement(node)
+        name = self.temporary("written")
+        self.output.put(f"int {name} = {self.unit.library('written')};")
+        return Value(name, PRIMARY, types.INT)
+
+    give_snprintf = give_sprintf
+
+    def write_formatted(self, node: Any, target: Any, size: Any, form: Any, arguments: List[Any]) -> None:
+        """Output into a char array by a format that is a literal, after all arguments have their values."""
+        if not is_string(form):
+            self.tell("format value", form)
+            return
+        parts = split_format(string_bytes(form.value), arguments)
+        kept: Dict[int, Value] = {}
+        for argument in [*given(parts), *([] if size is None else [size])]:
+            if not self.is_settled(argument):
+                self.keep(argument, kept)
+                if id(argument) not in kept and meet(roots(self.program, target), self.effects.of(argument).reads):
+                    self.tell("order", node)
+        room = NO_LIMIT if size is None else kept.get(id(size)) or self.value(size)
+        writer = Writer(self, self.kept_place(target, self.name_called(node)))
+        self.output.put(f"{self.unit.library('written')} = 0;")
+        self.output.put(f"{self.unit.library('room')} = {room.at(ASSIGNED)};")
+        writer.parts(node, parts, kept)
+        writer.call("write_end")
+
+    def is_settled(self, argument: Any) -> bool:
+        """Whether no write to a char array changes an argument: a constant, or a number that no pointer points to."""
+        symbol = self.symbol(argument)
+        is_number = symbol is not None and isinstance(symbol.type, Number) and not symbol.is_addressed
+        return is_number or isinstance(argument, c_ast.Constant)
+
+    def kept_place(self, target: Any, called: str) -> Reference:
+        """Where a char array begins; indices and an offset that may change have objects of their own."""
+        found = self.fixed(self.bytes_of(target, called))
+        if found.offset is None or found.offset.constant is not None:
+            return found
+        name = self.temporary("start")
+        self.output.put(f"int {name} = {found.offset.text};")
+        return replace(found, offset=Value(name, PRIMARY, types.INT))
 
     def print_formatted(self, node: Any, form: Any, arguments: List[Any]) -> None:
         """Output by a format that is a literal, or one of two."""
@@ -90,33 +144,24 @@ class PrintLowering:
         conversions = [part for part in parts if isinstance(part, Conversion)]
         is_split = any(not is_simple(part) for part in conversions) or len(conversions) > MOST_VALUES
         kept: Dict[int, Value] = {}
-        self.prepare([(part, argument) for part in conversions for argument in
-                      (part.width, part.most, part.argument) if isinstance(argument, c_ast.Node)], kept, is_split)
-        printer = Printer(self)
-        for part in parts:
-            if isinstance(part, Conversion):
-                printer.conversion(node, part, kept)
-            else:
-                printer.literal(part)
-        printer.flush()
+        for argument in given(parts) if is_split else ():
+            if not self.is_plain(argument) or self.effects.of(argument).writes:
+                self.keep(argument, kept)
+        Printer(self).parts(node, parts, kept)
 
-    def prepare(self, pairs: List[Any], kept: Dict[int, Value], is_split: bool) -> None:
-        """Evaluates what does more than give a value before anything is printed, where that is several statements."""
-        for _, argument in pairs:
-            found = self.effects.of(argument)
-            if not is_split or self.is_plain(argument) and not found.writes:
-                continue
-            kind = type_of(self.program, argument)
-            if isinstance(kind, Number):
-                value = self.value(argument)
-                name = self.temporary("value")
-                self.output.put(f"{types.promoted(value.type).unit} {name} = {value.text};")
-                kept[id(argument)] = Value(name, PRIMARY, types.promoted(value.type))
-            elif isinstance(argument, c_ast.TernaryOp) and not self.is_plain(argument.cond):
-                value = self.truth(argument.cond)
-                name = self.temporary("value")
-                self.output.put(f"int {name} = {value.text};")
-                self.kept_tests[id(argument)] = Value(name, PRIMARY, types.INT)
+    def keep(self, argument: Any, kept: Dict[int, Value]) -> None:
+        """Evaluates an argument that is a number, or the test of one that is one of two strings, before its turn."""
+        if isinstance(type_of(self.program, argument), Number):
+            value = self.value(argument)
+            kind = types.promoted(value.type)
+            name = self.temporary("value")
+            self.output.put(f"{kind.unit} {name} = {value.text};")
+            kept[id(argument)] = Value(name, PRIMARY, kind)
+        elif isinstance(argument, c_ast.TernaryOp) and not self.is_plain(argument.cond):
+            value = self.truth(argument.cond)
+            name = self.temporary("value")
+            self.output.put(f"int {name} = {value.text};")
+            self.kept_tests[id(argument)] = Value(name, PRIMARY, types.INT)
 
 
 class Printer:
@@ -126,6 +171,19 @@ class Printer:
         self.body = body
         self.format = ""
         self.values: List[str] = []
+
+    def another(self) -> "Printer":
+        """One that prints to the same place."""
+        return Printer(self.body)
+
+    def parts(self, node: Any, parts: List[Union[List[int], Conversion]], kept: Dict[int, Value]) -> None:
+        """Prints all pieces of a format."""
+        for part in parts:
+            if isinstance(part, Conversion):
+                self.conversion(node, part, kept)
+            else:
+                self.literal(part)
+        self.flush()
 
     def literal(self, data: List[int]) -> None:
         """Text that stands for itself."""
@@ -277,11 +335,47 @@ class Printer:
         branches = []
         for chosen in (node.iftrue, node.iffalse):
             with self.body.output.apart() as lines, self.body.output.indented():
-                printer = Printer(self.body)
+                printer = self.another()
                 show(printer, chosen)
                 printer.flush()
             branches.append(lines)
         self.body.put_choice(test, *branches)
+
+
+class Writer(Printer):
+    """Writes to a char array what a format says, each piece at once."""
+
+    def __init__(self, body: Any, target: Reference) -> None:
+        super().__init__(body)
+        self.target = target
+
+    def another(self) -> "Writer":
+        return Writer(self.body, self.target)
+
+    def literal(self, data: List[int]) -> None:
+        if len(data) == 1:
+            self.call("write_byte", spelled_char(data[0]))
+        elif data:
+            self.call("print_text", self.body.unit.text(data))
+
+    def flush(self) -> None:
+        """Nothing waits."""
+
+    def plain(self, letter: str, value: Value) -> None:
+        if letter == "c":
+            self.call("write_byte", value.at(ASSIGNED))
+        elif letter == "d":
+            self.call("print_int", value.at(ASSIGNED), "0", "0", "' '")
+        else:
+            self.call("print_number", value.at(ASSIGNED), "0", "10", "'a'", "0", "' '")
+
+    def call(self, name: str, *words: str) -> None:
+        """A call of the function that writes what one prints."""
+        if name in ("print_text", "print_padded_text"):
+            name, words = f"{name}_at", (words[0], "0", *words[1:])
+        name = re.sub(r"^(?:print_|(?=pad$))", "write_", name)
+        words = (*self.body.reference_words(self.target, True), *words)
+        self.body.output.put(f"{self.body.unit.library(name)}({', '.join(words)});")
 
 
 def absolute(name: str) -> str:
@@ -315,6 +409,13 @@ def split_format(data: List[int], arguments: List[Any]) -> List[Union[List[int],
         parts.append(Conversion(flags, width, most, (match.group(4) or b"").decode(), letter, argument))
     parts.append(list(form[at:]))
     return parts
+
+
+def given(parts: List[Union[List[int], Conversion]]) -> List[Any]:
+    """The arguments that the conversions of a format take, in order."""
+    conversions = [part for part in parts if isinstance(part, Conversion)]
+    wanted = [argument for part in conversions for argument in (part.width, part.most, part.argument)]
+    return [argument for argument in wanted if isinstance(argument, c_ast.Node)]
 
 
 def taken(text: bytes, waiting: List[Any]) -> Union[int, Any, None]:

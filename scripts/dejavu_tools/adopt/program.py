@@ -21,7 +21,7 @@ from .symbols import Procedure, Scope, Symbol
 from .types import Array, Function, Number, Pointer, Struct, Type
 from .unread import Unread
 
-PRINTERS = {"printf", "fprintf"}
+PRINTERS = {"printf", "fprintf", "sprintf", "snprintf"}
 RESERVED = {"getchar", "putchar", "printf", "exit", "EOF"}
 
 
