@@ -144,15 +144,28 @@ def length_of(tree: Tree) -> int:
 
 def take_texts(program: Any, kind: Type, tree: Any) -> None:
     """Notes on each pointer that begins with a string how long that is, and tells of what else it begins with."""
-    if isinstance(tree, dict):
-        for k, below in tree.items():
+    if is_aggregate(kind) and (tree is None or isinstance(tree, dict)):
+        tree = tree or {}
+        for k in numbers_of(kind, tree):
             if part(kind, k) is not None:
-                take_texts(program, part(kind, k), below)
-    elif isinstance(kind, Pointer) and tree is not None and not is_struct_value(program, tree):
-        if is_string(tree) and isinstance(kind.target, Number) and kind.target.size == 1:
-            kind.text = max(kind.text, len(string_bytes(tree.value)) + 1)
+                take_texts(program, part(kind, k), tree.get(k))
+    elif isinstance(kind, Pointer) and (tree is None or not is_struct_value(program, tree)):
+        is_text = isinstance(kind.target, Number) and kind.target.size == 1
+        if is_text and tree is not None and is_string(tree):
+            data = string_bytes(tree.value)
+            kind.text = max(kind.text, len(data) + 1)
+            kind.has_empty = kind.has_empty or data[:1] in ([], [0])
+        elif tree is None or is_text and is_null(tree):
+            kind.has_null = True
         else:
-            program.obstacles.tell("null" if is_null(tree) else "pointer", tree)
+            program.obstacles.tell("pointer", tree)
+
+
+def numbers_of(kind: Type, tree: Dict[int, Any]) -> List[int]:
+    """The numbers of a struct's members, or of the elements that a list initialises and, by -1, of those that it doesn't."""
+    if isinstance(kind, Struct):
+        return list(range(len(kind.members or ())))
+    return [*tree, *([-1] if len(tree) < (kind.length or 0) else [])]
 
 
 def is_struct_value(program: Any, node: Any) -> bool:

@@ -70,6 +70,8 @@ class CallLowering:
         has_lost_offset = found.offset is not None and found.offset.constant != 0 and not parameter.moves
         if has_lost_offset or found.is_flat != isinstance(target, Array) or not are_alike(found.element, target):
             self.tell("pointer", argument)
+        if found.text is not None and found.text.has_null and parameter in self.program.null_tests.tested:
+            self.tell("null", argument)
         return self.reference_words(found, parameter.moves)
 
     def stored_value(self, node: Any, kind: Number) -> Value:

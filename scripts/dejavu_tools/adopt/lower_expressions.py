@@ -285,14 +285,15 @@ class ExpressionLowering:
         """1 where a pointer isn't NULL."""
         if isinstance(node, c_ast.FuncCall):
             return self.found_or_not(node)
-        kind = type_of(self.program, node)
-        if isinstance(kind, Pointer) and kind.text:
-            self.tell("null", node)
-            return ZERO
-        reference = self.reference(node)
-        if reference.offset is None or isinstance(kind, types.Array):
+        kind, reference = type_of(self.program, node), self.reference(node)
+        if isinstance(kind, types.Array):
             return number(1)
-        return operation(">=", reference.offset, ZERO, types.INT)
+        tests = [] if reference.offset is None else [operation(">=", reference.offset, ZERO, types.INT)]
+        if reference.text is not None:
+            if reference.text.has_empty:
+                self.tell("null", node)
+            tests.append(operation("!=", Value(f"{reference.base}[0]", PRIMARY, types.CHAR), ZERO, types.INT))
+        return operation("&&", *tests, types.INT) if len(tests) == 2 else tests[0] if tests else number(1)
 
     def is_plain(self, node: Any) -> bool:
         """Whether an expression makes no call of a function of the unit, and has nothing done before it."""

@@ -108,7 +108,7 @@ class PlaceLowering:
         if isinstance(kind, Struct) and symbol.is_parameter and symbol.moves:
             return Reference(symbol.unit, Value(self.offset_name(symbol), PRIMARY, types.INT), kind)
         if isinstance(kind, Pointer):
-            return Reference(symbol.unit, None, types.CHAR)
+            return Reference(symbol.unit, None, types.CHAR, text=kind)
         if isinstance(kind, Array):
             return Reference(symbol.unit, None, kind.element, kind.is_flat)
         return Reference(symbol.unit, None, kind)
@@ -165,7 +165,7 @@ class PlaceLowering:
         if isinstance(part.type, Array):
             return Reference(part.text, None, part.type.element, part.type.is_flat)
         if isinstance(part.type, Pointer) and part.type.text:
-            return Reference(part.text, None, types.CHAR)
+            return Reference(part.text, None, types.CHAR, text=part.type)
         if isinstance(part.type, Struct):
             return Reference(part.text[: -len("[0]")], None, part.type)
         self.tell("pointer", node)

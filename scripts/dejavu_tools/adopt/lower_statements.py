@@ -139,8 +139,8 @@ class StatementLowering:
         self.output.add(lines if is_single else [])
         name = self.offset_name(symbol)
         has_offset = symbol.moves or found.offset is not None
-        symbol.base = Reference(
-            found.base, Value(name, PRIMARY, types.INT) if has_offset else None, element_of(symbol.type))
+        offset = Value(name, PRIMARY, types.INT) if has_offset else None
+        symbol.base = Reference(found.base, offset, element_of(symbol.type), text=found.text)
         if has_offset:
             start = "" if node.init is None else f" = {self.start_of(node, found, is_single)}"
             self.output.put(f"int {name}{start};")

@@ -48,6 +48,7 @@ class Program:
         self.current: Optional[Procedure] = None
         self.standard_types: Set[str] = set()  # the names that headers of the system give to types
         self.named_constants: Set[str] = set()
+        self.null_tests: Any = None  # the parameters that are compared with NULL, once they are known
         self.pointed: Dict[int, List[Any]] = {}  # what is assigned to each pointer that is a local object
 
     def read(self, files: List[Path]) -> None:

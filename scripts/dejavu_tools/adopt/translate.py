@@ -13,6 +13,7 @@ from .effects import Effects
 from .flat import Flat
 from .initialisers import Reader, length_of, take_texts
 from .measure import check_limits
+from .nulls import NullTests
 from .offsets import Offsets
 from .options import Options
 from .output import Line
@@ -42,6 +43,7 @@ def adopt(files: Sequence[Path], options: Options) -> Adopted:
     trees = read_objects(program)
     Flat(program)
     Offsets(program)
+    program.null_tests = NullTests(program)
     effects = Effects(program)
     unit = Unit(program)
     objects = object_lines(program, unit, effects, trees)
@@ -70,7 +72,7 @@ def read_objects(program: Program) -> Dict[int, Any]:
         tree = trees[id(symbol)] = None if symbol.init is None else reader.read(symbol.type, symbol.init)
         if isinstance(symbol.type, Array) and symbol.type.length is None:
             symbol.type.length = length_of(tree) if tree is not None else 1
-        if tree is not None:
+        if tree is not None or is_aggregate(symbol.type):
             take_texts(program, symbol.type, tree)
     for procedure in program.procedures:
         take_local_texts(program, reader, procedure.node.body)

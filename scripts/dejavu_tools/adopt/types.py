@@ -66,6 +66,8 @@ class Pointer:
 
     target: "Type"
     text: int = 0  # bytes of the longest literal, its 0 among them
+    has_empty: bool = False  # whether one of them is an empty string
+    has_null: bool = False  # whether one of such pointers begins as NULL
     size: int = POINTER_SIZE
 
 

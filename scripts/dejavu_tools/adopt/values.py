@@ -63,6 +63,7 @@ class Reference:
     offset: Optional[Value]
     element: Type
     is_flat: bool = False
+    text: Optional[types.Pointer] = None  # the type of a string that may stand for NULL
 
     @property
     def is_simple(self) -> bool:

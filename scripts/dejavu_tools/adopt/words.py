@@ -34,7 +34,10 @@ OBSTACLES: Dict[str, Words] = {
     ),
     "pointer value": Words("the value of a pointer", "use an index"),
     "function pointer": Words("a pointer to a function", "call the function by its name, for instance in a `switch`"),
-    "null": Words("NULL in a table of strings", "end the table by a count"),
+    "null": Words(
+        "a string of a table that may be NULL or empty, or that a function compares with NULL",
+        "end the table by a count",
+    ),
     "heap": Words("`{name}` takes memory while the program runs", "use an array of a fixed length"),
     "file": Words("`{name}` works on a file", "read from stdin and write to stdout"),
     "stderr": Words("output to stderr", "take it out, or drop it by --drop-stderr"),

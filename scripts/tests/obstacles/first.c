@@ -9,7 +9,7 @@ double ratio;
 long total;
 unsigned long mask;
 int *cursor;
-const char *const names[] = {"one", NULL};
+const char *const names[] = {"one", "", NULL};
 int (*handler)(int);
 int lengths[2] = {1, sizeof(int)};
 int dated = sizeof(__DATE__);
@@ -105,4 +105,13 @@ struct table {
 int sums(unsigned n)
 {
     return (int)(total + n) + kind_of(limit);
+}
+
+int names_of(void)
+{
+    int n = 0;
+
+    while (names[n] != NULL)
+        n++;
+    return n;
 }
