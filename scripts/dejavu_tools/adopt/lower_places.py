@@ -133,7 +133,8 @@ class PlaceLowering:
         self.check_defined(symbol, node)
         is_local_pointer = isinstance(symbol.type, Pointer) and not symbol.is_parameter and not symbol.type.text
         if is_local_pointer and symbol.base is None:
-            self.tell("pointer", node)
+            if not symbol.is_told:
+                self.tell("pointer", node)
             return None
         if isinstance(symbol.type, Number) and not symbol.is_addressed:
             self.tell("pointer", node)

@@ -21,6 +21,7 @@ from .values import ASSIGNED, PRIMARY, Reference, Value, ZERO, as_boolean, is_pu
 
 HOLDS = "holds_?"  # an object that has no name yet
 DECLARING = re.compile(r"(?:int|unsigned|char|struct) ")
+VARIABLE_INDEX = re.compile(r"\[(?!\d+u?\])")
 SIMPLE_LINE = re.compile(r"[^{}]*;")
 
 
@@ -126,15 +127,15 @@ class StatementLowering:
         assigned = self.program.pointed.get(id(symbol), [])
         origins = [origin for origin in assigned if not is_null(origin) and not self.names(origin, symbol)]
         if not origins:
-            self.tell("pointer", node)
+            self.tell_pointer(symbol, node)
             self.look_at(assigned)
             return
         is_single = len(assigned) == 1 and node.init is not None
         with self.output.apart() as lines:
             found = self.reference(origins[0])
             found = self.fixed(found) if is_single else found
-        if found.is_flat or not is_single and "[" in found.base:
-            self.tell("pointer", node)
+        if found.is_flat or not is_single and VARIABLE_INDEX.search(found.base):
+            self.tell_pointer(symbol, node)
             return
         self.output.add(lines if is_single else [])
         name = self.offset_name(symbol)
@@ -144,6 +145,11 @@ class StatementLowering:
         if has_offset:
             start = "" if node.init is None else f" = {self.start_of(node, found, is_single)}"
             self.output.put(f"int {name}{start};")
+
+    def tell_pointer(self, symbol: Symbol, node: Any) -> None:
+        """Tells of the declaration of a pointer that isn't an array and an index."""
+        self.tell("pointer", node)
+        symbol.is_told = True
 
     def names(self, node: Any, symbol: Symbol) -> bool:
         """Whether the value of an expression depends on an object."""
@@ -259,7 +265,9 @@ class StatementLowering:
     def assign_pointer(self, node: Any, operator: str, left: Any, right: Any) -> None:
         """Moves a pointer within its array."""
         mine = self.reference(left)
-        if mine.offset is None:
+        if getattr(self.symbol(left), "is_told", False):
+            self.look_at([right])
+        elif mine.offset is None:
             self.tell("pointer", node)
         elif operator == "=":
             other = self.reference(right)

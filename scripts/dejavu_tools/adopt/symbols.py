@@ -23,6 +23,7 @@ class Symbol:
     is_defined: bool = False
     moves: bool = False  # a parameter with an offset behind it
     base: Any = None  # what a pointer object points into
+    is_told: bool = False  # whether an obstacle tells of its declaration, so that its uses needn't be told
 
 
 @dataclass(eq=False)
