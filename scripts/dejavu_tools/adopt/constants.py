@@ -7,7 +7,7 @@ from pycparser import c_ast
 
 from . import types
 from .literals import char_value, number_value, string_bytes
-from .types import Array, Function, Number, Pointer, Struct, Type
+from .types import Array, Function, Member, Number, Pointer, Struct, Type
 
 COMPARED = {"<", ">", "<=", ">=", "==", "!=", "&&", "||"}
 
@@ -130,12 +130,17 @@ def type_of(program: Any, node: Any) -> Type:
     return operation_type(program, node)
 
 
-def member_type(program: Any, node: Any) -> Type:
-    """The type of a member."""
+def member_of(program: Any, node: Any) -> Optional[Member]:
+    """The member that an expression with `.` or `->` names."""
     kind = type_of(program, node.name)
     if node.type == "->":
         kind = element_of(kind)
-    member = kind.member(node.field.name) if isinstance(kind, Struct) else None
+    return kind.member(node.field.name) if isinstance(kind, Struct) else None
+
+
+def member_type(program: Any, node: Any) -> Type:
+    """The type of a member."""
+    member = member_of(program, node)
     return member.type if member else types.INT
 
 

@@ -94,7 +94,7 @@ class PlaceLowering:
         if member is None:
             self.tell("expression", node)
             return NOWHERE
-        one = "[0]" if isinstance(member.type, Struct) else ""
+        one = "[0]" if member.is_one or isinstance(member.type, Struct) else ""
         return Part(f"{outer.text}.{member.name}{one}", member.type)
 
     def object_reference(self, symbol: Symbol) -> Reference:
@@ -228,6 +228,9 @@ class PlaceLowering:
         symbol = self.symbol(node)
         if isinstance(kind, Struct) or symbol is not None and symbol.is_addressed and isinstance(kind, Number):
             return self.reference(node)
+        if isinstance(node, c_ast.StructRef) and isinstance(kind, Number):
+            part = self.place(node)
+            return Reference(part.text[: -len("[0]")], None, kind)
         self.tell("pointer", node)
         return None
 

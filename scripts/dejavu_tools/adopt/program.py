@@ -9,7 +9,7 @@ from pycparser import c_ast
 
 from ..errors import ToolError
 from . import types
-from .constants import type_of, value_of
+from .constants import member_of, type_of, value_of
 from .declarations import Constant, Declarer
 from .effects import roots
 from .names import Names
@@ -221,6 +221,10 @@ class Program:
             symbol = self.symbols.get(id(node.expr))
             if isinstance(symbol, Symbol):
                 symbol.is_addressed = True
+        if isinstance(node, c_ast.UnaryOp) and node.op == "&" and isinstance(node.expr, c_ast.StructRef):
+            member = member_of(self, node.expr)
+            if member is not None:
+                member.is_addressed = True
         if isinstance(node, c_ast.Assignment) and node.op == "=" and isinstance(node.lvalue, c_ast.ID):
             symbol = self.symbols.get(id(node.lvalue))
             if isinstance(symbol, Symbol) and isinstance(symbol.type, Pointer):

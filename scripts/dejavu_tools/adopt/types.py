@@ -73,10 +73,16 @@ class Pointer:
 
 @dataclass(eq=False)
 class Member:
-    """A member of a struct."""
+    """A member of a struct; a number before which `&` stands becomes an array of one element."""
 
     name: str
     type: "Type"
+    is_addressed: bool = False
+
+    @property
+    def is_one(self) -> bool:
+        """Whether the unit has it as an array of one number."""
+        return self.is_addressed and isinstance(self.type, Number)
 
 
 @dataclass(eq=False)

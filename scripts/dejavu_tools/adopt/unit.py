@@ -8,7 +8,7 @@ from .initialisers import flattened, is_string
 from .library import definitions
 from .literals import spelled_char, string_bytes, text_name
 from .symbols import Procedure, Symbol
-from .types import Array, Number, Pointer, Struct, Type
+from .types import Array, Member, Number, Pointer, Struct, Type
 from .values import ASSIGNED
 
 
@@ -93,9 +93,9 @@ class Unit:
             return "0"
         kind = types.as_unit(kind)
         if isinstance(kind, Struct):
-            first = kind.members[0].type if kind.members else None
-            inner = self.zero(first) if first is not None else "0"
-            return f"{{{{{inner}}}}}" if isinstance(first, Struct) else f"{{{inner}}}"
+            first = kind.members[0] if kind.members else None
+            inner = self.zero(first.type) if first is not None else "0"
+            return f"{{{{{inner}}}}}" if first is not None and stands_in_braces(first) else f"{{{inner}}}"
         return f"{{{self.zero(kind.element) if isinstance(kind, Array) else 0}}}"
 
     def whole(self, body: Any, kind: Type, tree: Any, is_object: bool = False) -> str:
@@ -132,7 +132,7 @@ class Unit:
         for k in range(max(tree) + 1):
             inner = kind.element if isinstance(kind, Array) else kind.members[k].type
             text = self.initialiser(body, inner, tree.get(k))
-            is_single = isinstance(inner, Struct) and isinstance(kind, Struct)
+            is_single = isinstance(kind, Struct) and stands_in_braces(kind.members[k])
             parts.append(f"{{{text}}}" if is_single else text)
         return "{" + ", ".join(parts) + "}"
 
@@ -166,7 +166,8 @@ class Unit:
                 lines.append("enum { " + ", ".join(f"{c.name} = {c.value}" for c in shown) + " };")
         for struct in self.program.structs:
             lines.append(f"struct {struct.tag} {{")
-            lines.extend(f"    {self.declared(member.name, member.type)};" for member in struct.members or ())
+            for member in struct.members or ():
+                lines.append(f"    {self.declared(member.name, member.type, member.is_addressed)};")
             lines.append("};")
         return lines
 
@@ -212,7 +213,7 @@ class Unit:
         """A line for each member, in loops over the elements of arrays; `line` gets a type, a path and an index."""
         lines: List[str] = []
         for member in struct.members or ():
-            lengths, kind = types.lengths(member.type), types.innermost(member.type)
+            lengths, kind = types.lengths(member.type) or [1] * member.is_one, types.innermost(member.type)
             if isinstance(kind, Pointer):
                 lengths.append(max(kind.text, 1))
             names = "ijklmn"[: len(lengths)]
@@ -228,6 +229,11 @@ class Unit:
     def library_text(self) -> str:
         """The functions of the library that are called."""
         return definitions(self.called)
+
+
+def stands_in_braces(member: Member) -> bool:
+    """Whether the initialiser of a member stands in braces once more, since the unit has it as an array of one."""
+    return member.is_one or isinstance(member.type, Struct)
 
 
 def initial(unit: Unit, body: Any, symbol: Symbol, tree: Optional[Any]) -> str:
