@@ -3,7 +3,7 @@ import unittest
 
 from support import InFolder
 
-from dejavu_tools.adopt.items import declared, split
+from dejavu_tools.adopt.items import Declared, declared, split
 from dejavu_tools.adopt.obstacles import ObstaclesFound
 from dejavu_tools.adopt.options import Options
 from dejavu_tools.adopt.parse import MOST_FAULTS
@@ -36,6 +36,17 @@ int main(void) { return twice(2) + missing(1) + missing(twice(1)); }
 static int of(int n) { switch (n) { case 1 ... 3: return 1; } return 0; }
 int main(void) { return of(1.5); }
 """, [(2, 44, SYNTAX), (3, 28, FLOATING)]),
+    "a type of structs and one of an enum, with what begins as one or is assigned to one": ("""
+typedef enum { LOW, HIGH } __attribute__((unused)) level;
+struct point { int x, y; };
+typedef struct { level l; struct point origin, corners[2]; } __attribute__((unused)) pair;
+static pair first = { .l = LOW }, all[2] = { { HIGH, { 1, 2 } } };
+static pair made(level l) { pair p = { l }; return p; }
+int main(void) {
+    struct point p = { 1, 2 };
+    first.origin = p; all[1] = made(HIGH); first.corners[0] = p;
+    return first.l == LOW ? 1.5 : all[0].l; }
+""", [(2, 42, SYNTAX), (4, 76, SYNTAX), (10, 29, FLOATING)]),
     "main itself": ("""
 int main(void) { return __builtin_types_compatible_p(int, long); }
 double d;
@@ -82,7 +93,7 @@ class Unread(InFolder):
 
     def test_bound(self):
         count = MOST_FAULTS + 20
-        lines = [f"int of_{k}(int n) {{ return ({{ switch (n) {{ case 1 ... 3: n = {k}; }} n; }}); }}" for k in range(count)]
+        lines = [f"int of_{k}(int n) {{ switch (n) {{ case 1 ... 3: n = {k}; }} return n; }}" for k in range(count)]
         found = told(self.write("a.c", "\n".join([*lines, "int main(void) { return 0; }", ""])))
         self.assertEqual(len(found), MOST_FAULTS)
         self.assertTrue(found[-1][2].endswith(", and what stands behind it isn't read"))
@@ -93,24 +104,24 @@ class Items(unittest.TestCase):
     """External declarations by their brackets."""
 
     def test_split(self):
-        items = ["int a = 1, b[2] = {1, 2};", "struct s { int a; } __attribute__((packed));", "int f(void) { return 1; }",
-                 "typedef struct __attribute__((packed)) { int a; } t;", ";", "enum { A, B };", 'asm("} ; {");',
-                 "char c = '{';", "int g(a) int a;", "{ return a; }", "int (*h(void))(int) { return 0; }"]
+        items = ["int a = 1, b[2] = {1, 2};", "struct s { int a; } __attribute__((packed));",
+                 "int f(void) { return 1; }", "typedef struct __attribute__((packed)) { int a; } t;", ";", "enum { A, B };",
+                 'asm("} ; {");', "char c = '{';", "int g(a) int a;", "{ return a; }", "int (*h(void))(int) { return 0; }"]
         text = "\n".join(items)
         self.assertEqual([text[item.start:item.end] for item in split(text)], items)
 
     def test_declared(self):
-        for text, names, tags, is_typedef in (
-            ("int a = 1, *b, c[2], (*d)(int);", "a b c d", "", False),
-            ("typedef struct s { int a; } __attribute__((packed)) t, *u;", "t u", "s", True),
-            ("enum e { A, B = 2, } x;", "A B x", "e", False),
-            ("static __inline__ int f(int n) { int a; }", "f", "", False),
-            ("struct s __attribute__((aligned(4))) o = { .n = 1 };", "o", "", False),
+        for text, names, tags, constants, is_typedef in (
+            ("int a = 1, *b, c[2], (*d)(int);", "a b c d", "", "", False),
+            ("typedef struct s { int a; } __attribute__((packed)) t, *u;", "t u", "s", "", True),
+            ("typedef enum { A, B } t;", "t", "", "A B", True),
+            ("enum e { A, B = 2, } x;", "x", "e", "A B", False),
+            ("static __inline__ int f(int n) { int a; }", "f", "", "", False),
+            ("struct s __attribute__((aligned(4))) o = { .n = 1 };", "o", "", "", False),
         ):
             with self.subTest(text):
-                found = declared(text)
-                self.assertEqual((found.names, found.tags), (set(names.split()), set(tags.split())))
-                self.assertEqual(found.is_typedef, is_typedef)
+                expected = [set(words.split()) for words in (names, tags, constants)]
+                self.assertEqual(declared(text), Declared(*expected, is_typedef))
 
 
 if __name__ == "__main__":

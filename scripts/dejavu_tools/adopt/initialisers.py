@@ -162,7 +162,7 @@ def take_texts(program: Any, kind: Type, tree: Any) -> None:
 
 
 def numbers_of(kind: Type, tree: Dict[int, Any]) -> List[int]:
-    """The numbers of a struct's members, or of the elements that a list initialises and, by -1, of those that it doesn't."""
+    """The numbers of a struct's members, or of the elements that a list initialises and, by -1, of all others."""
     if isinstance(kind, Struct):
         return list(range(len(kind.members or ())))
     return [*tree, *([-1] if len(tree) < (kind.length or 0) else [])]

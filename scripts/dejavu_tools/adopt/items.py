@@ -30,10 +30,11 @@ class Item:
 
 @dataclass
 class Declared:
-    """The names of objects, functions, types and enum constants that an item declares, and the tags that it defines."""
+    """The names of objects, functions or types that an item declares, and the tags and enum constants that it defines."""
 
     names: Set[str]
     tags: Set[str]
+    constants: Set[str]
     is_typedef: bool
 
 
@@ -87,7 +88,7 @@ def declared(text: str) -> Declared:
     """What the text of an item declares."""
     tokens = Tokens(text)
     outer = list(tokens.outermost())
-    found = Declared(set(), set(), False)
+    found = Declared(set(), set(), set(), False)
     for k, behind in zip(outer, [*outer[1:], len(tokens.words)]):
         word = tokens.words[k]
         follows = tokens.words[behind] if behind < len(tokens.words) else ";"
@@ -95,8 +96,8 @@ def declared(text: str) -> Declared:
         if word == "(":
             found.names.update(pointed(tokens.words[k + 1:tokens.closing[k]]))
         elif word == "{" and "enum" in tokens.words[:k]:
-            found.names.update(listed(tokens.words[k:tokens.closing[k]]))
-        elif NAME.fullmatch(word) and follows == "{":
+            found.constants.update(listed(tokens.words[k:tokens.closing[k]]))
+        elif NAME.fullmatch(word) and word not in TAGGED and follows == "{":
             found.tags.add(word)
         elif NAME.fullmatch(word) and word not in TYPE_WORDS and follows in (",", ";", "=", "[", "(", ":"):
             found.names.add(word)

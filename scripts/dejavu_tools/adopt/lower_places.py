@@ -270,7 +270,8 @@ class PlaceLowering:
 
     def source(self, node: Any) -> Reference:
         """What a struct is copied from at once."""
-        return self.result_of(node) if isinstance(node, c_ast.FuncCall) else self.reference(node)
+        is_result = isinstance(node, c_ast.FuncCall) and isinstance(type_of(self.program, node), Struct)
+        return self.result_of(node) if is_result else self.reference(node)
 
     def found_reference(self, node: Any) -> Optional[Reference]:
         """Of what a function of the library finds in its first argument, or writes to it."""
@@ -306,7 +307,9 @@ class PlaceLowering:
         kind = type_of(self.program, node)
         name = self.temporary("literal")
         self.declare_object(name, kind, node.init, node)
-        return Reference(name, None, kind.element, kind.is_flat) if isinstance(kind, Array) else Reference(name, None, kind)
+        if isinstance(kind, Array):
+            return Reference(name, None, kind.element, kind.is_flat)
+        return Reference(name, None, kind)
 
     def refer_assignment(self, node: Any) -> Optional[Reference]:
         """Of what was assigned to."""

@@ -222,7 +222,7 @@ class StatementLowering:
         return bool(self.effects.of(node).writes) or any(self.does_something(child) for _, child in node.children())
 
     def is_constant(self, node: Any) -> bool:
-        """Whether the value of an expression is the same whenever it is evaluated: it reads no object and does nothing."""
+        """Whether an expression has one value, whenever it is evaluated: it reads no object and does nothing."""
         return not self.effects.of(node).reads and not self.does_something(node)
 
     def step_text(self, node: Any) -> str:
@@ -238,7 +238,9 @@ class StatementLowering:
     def assign(self, node: Any, operator: str, left: Any, right: Any) -> None:
         """Writes an assignment of a number, a struct or a pointer."""
         kind = type_of(self.program, left)
-        if isinstance(kind, Struct):
+        if self.program.unread.explains("struct", left, ""):
+            self.look_at([left, right])
+        elif isinstance(kind, Struct):
             self.assign_struct(kind, left, right)
         elif isinstance(kind, Pointer) and not kind.text:
             self.assign_pointer(node, operator, left, right)

@@ -94,10 +94,14 @@ class Program:
             declarer.resolve(node.init, scope)
             if symbol.init is not None:
                 self.check_once(symbol, node)
-            symbol.init = node.init
+            symbol.init = self.known_init(symbol, node)
         if not isinstance(kind, Function) and "extern" not in node.storage:
             symbol.is_defined = True
         return symbol
+
+    def known_init(self, symbol: Symbol, node: Any) -> Any:
+        """The initialiser of a declaration; None in place of the list of an object whose type isn't known."""
+        return None if isinstance(node.init, c_ast.InitList) and self.unread.is_unknown(symbol) else node.init
 
     def file_symbol(self, node: Any, kind: Type, scope: Scope, stem: str) -> Symbol:
         """The symbol of file scope that a declaration names, which others may have named before."""
@@ -243,9 +247,9 @@ class Program:
         else:
             is_static = "static" in node.storage
             symbol = declarer.symbol(node, scope, is_global=is_static)
-            symbol.init = node.init
             if node.init is not None:
                 self.resolve(node.init, scope, declarer)
+                symbol.init = node.init = self.known_init(symbol, node)
             if is_static:
                 symbol.is_defined = True
                 self.objects.append(symbol)

@@ -26,7 +26,7 @@ class Unread:
     def take(self, left: Declared) -> None:
         """Takes what an item declares that can't be read."""
         self.is_any = True
-        self.names |= left.names
+        self.names |= left.names | left.constants
         self.tags |= left.tags
 
     def spread(self, nodes: Iterable[Any]) -> None:
@@ -66,4 +66,5 @@ class Unread:
 
     def is_unknown(self, symbol: Any) -> bool:
         """Whether an object or a function is declared with a type that isn't known."""
-        return isinstance(symbol, Symbol) and symbol.node is not None and self.mentions(symbol.node.type)
+        is_declared = self.is_any and isinstance(symbol, Symbol) and symbol.node is not None
+        return is_declared and self.mentions(symbol.node.type)

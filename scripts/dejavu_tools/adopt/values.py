@@ -77,7 +77,8 @@ class Reference:
     def row(self, index: Value) -> "Reference":
         """The array at an index of a flat array of arrays."""
         size = types.cells(self.element)
-        step = operation("*", index, number(size), types.INT) if index.constant is None else number(index.constant * size)
+        is_constant = index.constant is not None
+        step = number(index.constant * size) if is_constant else operation("*", index, number(size), types.INT)
         inner = self.element.element
         return replace(self.moved(step), element=inner, is_flat=isinstance(inner, types.Array))
 
