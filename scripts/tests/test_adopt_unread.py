@@ -32,6 +32,13 @@ int main(void) { struct outer o; o.first.a = 1; double d; return o.first.a + mis
 static __inline__ int twice(int n) { return 2 * n; }
 int main(void) { return twice(2) + missing(1) + missing(twice(1)); }
 """, [(2, 36, SYNTAX), (3, 36, "the function `missing` isn't defined"), (3, 49, "the function `missing` isn't")]),
+    "functions with the names of helpers of the translator": ("""
+void pad(int count, int byte);
+int back(int n);
+static __inline__ int print_int(int n) { return n; }
+int main(void) { pad(1, 2); print_int(1); return back(3) + print_int(2) + (back(1) > 0); }
+""", [(4, 40, SYNTAX), (5, 18, "the function `pad` isn't defined"), (5, 50, "the function `back` isn't defined"),
+      (5, 76, "the function `back` isn't defined")]),
     "the body of a function": ("""
 static int of(int n) { switch (n) { case 1 ... 3: return 1; } return 0; }
 int main(void) { return of(1.5); }

@@ -12,6 +12,7 @@ what its parameters are.
 - `write_text_at`, `write_padded_text_at`, `write_int`, `write_number` and `write_pad` write the same to a char array,
   behind what was written since `written` became 0; so does `write_byte`, and `write_end` writes the 0 at its end. There
   is `room` for so many bytes: what has none is counted and not written.
+- `DECLARED` are the names of all functions and macros that the headers in `include` declare.
 - `scan_int` is `scanf("%d", ..)`: where it gives 1, the number is in the object `std_scanned`.
 - `getchar` is for units that push a byte back, by `ungetc` or `scan_int`: where it is among the functions of a unit,
   what the unit itself reads has to be read by `std_getchar` too.
@@ -30,6 +31,10 @@ NAMED = re.compile(r"\bstd_(\w+)")
 PRINTING = re.compile(r"\bstd_(?:pad|print_(\w+))\b")
 WRITING = re.compile(r"(\bstd_write_\w+\()")
 OFFSETS = re.compile(r", (?:unsigned )?\w+_at\b(?! \+)|\b\w+_at \+ |_at(?=\()")
+
+HEADERS = Path(__file__).resolve().with_name("include")  # stand in for those of the system
+DECLARED = frozenset(
+    name for header in HEADERS.glob("*.h") for name in re.findall(r"\b(\w+)\(", header.read_text(encoding="ascii")))
 
 
 @dataclass(frozen=True)

@@ -8,7 +8,7 @@ from pycparser import c_ast
 from . import types
 from .constants import decayed, type_of
 from .initialisers import is_null, is_string
-from .library import FUNCTIONS
+from .library import DECLARED, FUNCTIONS
 from .literals import string_bytes
 from .symbols import Procedure, Symbol
 from .types import Array, Number, Pointer, Struct
@@ -41,6 +41,11 @@ class CallLowering:
     def name_called(self, node: Any) -> str:
         """The name that a call has before its brackets."""
         return node.name.name if isinstance(node.name, c_ast.ID) else ""
+
+    def is_library(self, node: Any) -> bool:
+        """Whether a call of what no file defines is one of a function of the C library."""
+        name = self.name_called(node)
+        return name in DECLARED and name not in self.program.unread.names
 
     def call_text(self, node: Any) -> str:
         """A call of a function of the program."""
@@ -89,6 +94,9 @@ class CallLowering:
         procedure = self.called(node)
         name = self.name_called(node)
         if procedure is None:
+            if not self.is_library(node):
+                self.tell_unknown(node)
+                return ZERO
             handler = getattr(self, f"give_{name}", None)
             if handler is not None:
                 return handler(node)
@@ -262,6 +270,9 @@ class CallLowering:
         procedure = self.called(node)
         name = self.name_called(node)
         if procedure is None:
+            if not self.is_library(node):
+                self.tell_unknown(node)
+                return
             handler = getattr(self, f"do_{name.strip('_')}", None)
             if handler is not None:
                 handler(node)

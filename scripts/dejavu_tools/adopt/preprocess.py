@@ -10,10 +10,9 @@ from pathlib import Path
 from typing import Dict, List, NamedTuple, Optional, Sequence, Tuple
 
 from ..errors import ToolError
+from .library import HEADERS
 from .options import Options
 from .places import Place
-
-HEADERS = Path(__file__).resolve().parent / "include"  # stand in for those of the system
 
 NOT_THE_SAME = ("__DATE__", "__TIME__", "__TIMESTAMP__")  # from one run to the next
 
