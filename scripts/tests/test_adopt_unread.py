@@ -1,6 +1,7 @@
 """What can't be read is told and left out, and the rest of the program is looked at all the same."""
 import unittest
 
+from obstacles_told import told
 from support import InFolder
 
 from dejavu_tools.adopt.items import Declared, declared, split
@@ -65,15 +66,6 @@ static int sizes[SECOND];
 int main(void) { sizes[FIRST] = SECOND; handlers[0](1.5); switch (chosen) { case FIRST: return sizes[1]; } return 1; }
 """, [(2, 42, SYNTAX), (3, 32, SYNTAX), (5, 53, FLOATING)]),
 }
-
-
-def told(path):
-    """The lines, columns and words of a file's obstacles."""
-    try:
-        adopt([path], Options())
-    except ObstaclesFound as found:
-        return [(obstacle.place.line, obstacle.place.column, obstacle.what) for obstacle in found.obstacles]
-    return []
 
 
 class Unread(InFolder):

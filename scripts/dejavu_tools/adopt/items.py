@@ -30,7 +30,7 @@ class Item:
 
 @dataclass
 class Declared:
-    """The names of objects, functions or types that an item declares, and the tags and enum constants that it defines."""
+    """The names of objects, functions or types that an item declares, and the tags and constants that it defines."""
 
     names: Set[str]
     tags: Set[str]

@@ -208,7 +208,8 @@ class PlaceLowering:
             found = self.reference(node.expr)
             if found.offset is not None:
                 return Reference(found.base, self.stepped(node, found.offset), found.element)
-        self.tell("pointer", node)
+        if symbol is None or not symbol.is_told:
+            self.tell("pointer", node)
         return None
 
     @staticmethod

@@ -12,7 +12,7 @@ class Words(NamedTuple):
 
 
 OBSTACLES: Dict[str, Words] = {
-    "syntax": Words("this can't be read: {name}", "write it in C11 without extensions of a compiler"),
+    "syntax": Words("this can't be read: {name}", "write it in C11 without extensions of a compiler or `_Generic`"),
     "floating": Words("a floating-point number", "calculate in integers, for instance in hundredths"),
     "long": Words(
         "`{name}` has 64 bits",
