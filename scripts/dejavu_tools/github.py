@@ -7,8 +7,9 @@ from .change import Outcome
 from .compare import Compared
 from .console import readable
 from .reports import difference, headline, suite_lines, summary
-from .runs import Edge
+from .walks import Explanation
 
+MOST_ANNOTATIONS = 10  # so many of a kind GitHub shows of a step
 MOST_NAMED = 10  # tests in an annotation
 MOST_TOLD = 20  # tests whose differences the summary shows
 MOST_LINES = 60  # of a test's difference in the summary
@@ -18,10 +19,11 @@ MOST_COLUMNS = 200  # of such a line
 def annotations(outcome: Outcome) -> Iterator[str]:
     """A line for each dangerous edge for which tests are selected: where the new version goes on otherwise, and else
     where the edge begins in the old one."""
-    for edge in outcome.edges:
+    for why in outcome.explained[:MOST_ANNOTATIONS]:
+        edge = why.edge
         tests = [test for test in outcome.tests if test.edge == edge.number]
         kind = "error" if any(test.is_wrong and test.differs for test in tests) else "notice"
-        file, line, column = place_of(outcome, edge)
+        file, line, column = place_of(outcome, why)
         told = first([headline(test) for test in tests if test.differs], MOST_NAMED) or ["none of them differs"]
         counted = f"{len(tests)} test{'' if len(tests) == 1 else 's'} crossed edge {edge.number} of {edge.function}"
         message = "\n".join((f"{counted}:", *told))
@@ -34,10 +36,10 @@ def first(lines: List[str], most: int) -> List[str]:
     return lines if len(lines) <= most else [*lines[:most], f".. {len(lines) - most:,} more"]
 
 
-def place_of(outcome: Outcome, edge: Edge) -> Tuple[str, int, int]:
+def place_of(outcome: Outcome, why: Explanation) -> Tuple[str, int, int]:
     """The file, the line and the column that an edge is told at."""
-    side = outcome.new if edge.new else outcome.old
-    file, line, column = side.unit.origin(*(edge.new or edge.old))
+    side = outcome.new if why.new else outcome.old
+    file, line, column = side.unit.origin(*(why.new or why.edge.place))
     return side.version.inside(file), line, column
 
 

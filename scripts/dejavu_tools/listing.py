@@ -47,14 +47,24 @@ def read_coverage(history: Path, points: Path, source: Path) -> Coverage:
     if told.source != sha256(data).hexdigest():
         raise ToolError(f"{history}: this is a history of another source than {source}")
     lines = data.split(b"\n")
+    check_points(graph, lines, points, source)
+    edges = len(list(graph.edges))
+    if told.edges != edges:
+        raise ToolError(f"{points}: there are {edges} edges, and {history} tells of {told.edges}")
+    return coverage_of(told, graph, lines)
+
+
+def check_points(graph: Graph, lines: Sequence[bytes], points: Path, source: Path) -> None:
+    """Raises a `ToolError` where a point isn't one of a source with these lines."""
     for point in graph.points:
         if text_at(lines, point.line, point.column) != point.text:
             raise ToolError(f"{points}: point {point.number} isn't one of {source}, which has another text there")
-    edges = list(graph.edges)
-    if told.edges != len(edges):
-        raise ToolError(f"{points}: there are {len(edges)} edges, and {history} tells of {told.edges}")
-    crossed = tests_by_edge(told)
-    return Coverage(lines, graph, len(told.entries), crossed, tests_by_point(graph, crossed))
+
+
+def coverage_of(history: History, graph: Graph, lines: List[bytes]) -> Coverage:
+    """What a history tells of the points and edges of its source, which has these lines."""
+    crossed = tests_by_edge(history)
+    return Coverage(lines, graph, len(history.entries), crossed, tests_by_point(graph, crossed))
 
 
 def tests_by_edge(history: History) -> List[int]:
@@ -117,13 +127,17 @@ def listing(coverage: Coverage) -> Iterator[str]:
     yield summary(coverage, by_line)
 
 
+def ways_told(coverage: Coverage, point: Point, tests: int) -> List[Edge]:
+    """The ways out of a point of a line that these tests reach; the only one is left out where the same cross it."""
+    is_plain = len(point.edges) == 1 and coverage.crossed[point.edges[0].number] == tests
+    return [] if is_plain else point.edges
+
+
 def ways_shown(coverage: Coverage, point: Point, tests: int) -> Iterator[str]:
-    """The ways out of a point of a line that these tests reach, each with how many tests cross it."""
-    for edge in point.edges:
-        crossed = coverage.crossed[edge.number]
-        if len(point.edges) > 1 or crossed != tests:
-            place = f"{point.line}:{point.column}"
-            yield f"{count(crossed):>{MARGIN}}  {'':>{MARGIN}}  edge {edge.number} at {place} {edge.exit}"
+    """These ways out, each with how many tests cross it."""
+    for edge in ways_told(coverage, point, tests):
+        tests = count(coverage.crossed[edge.number])
+        yield f"{tests:>{MARGIN}}  {'':>{MARGIN}}  edge {edge.number} at {point.line}:{point.column} {edge.exit}"
 
 
 def summary(coverage: Coverage, by_line: Dict[int, List[Point]]) -> str:

@@ -5,7 +5,7 @@ import re
 from dataclasses import dataclass
 from itertools import count
 from pathlib import Path
-from typing import Iterator, List, Optional, Tuple
+from typing import Iterator, List, Optional, Sequence, Tuple
 
 from .errors import ToolError
 from .files import read_file
@@ -104,7 +104,7 @@ def broken(path: Path, line: int, wrong: str) -> ToolError:
     return ToolError(f"{path}:{line}: {wrong}")
 
 
-def text_at(lines: List[bytes], line: int, column: int) -> Optional[bytes]:
+def text_at(lines: Sequence[bytes], line: int, column: int) -> Optional[bytes]:
     """What `points` shows of these lines of a source at a place; nothing where there is no such place."""
     if not 1 <= line <= len(lines) or not 1 <= column <= len(lines[line - 1]) + 1:
         return None

@@ -2,35 +2,25 @@
 from __future__ import annotations
 
 import os
-import re
+import subprocess
+from concurrent.futures import ThreadPoolExecutor
+from functools import partial
 from pathlib import Path
-from typing import Dict, List, NamedTuple, Optional, Sequence, Tuple
+from typing import Dict, List, Optional, Sequence, Tuple
 
 from .errors import Told, ToolError
 from .files import write_whole
 from .formats import History, Test, read_history, suite_text
 from .histories import NoHistory
-from .programs import Answer, output_of
+from .points import Graph, read_points
+from .programs import Answer
 from .refusals import Message, Place, files_of, message_of
 from .sides import Side
+from .walks import Explanation, Walk, read_choice, read_explanation, read_walk
 
 HISTORY_REFUSED = 5  # the status of `dejavu` where it refuses a history
 MOST_WORKERS = 64
-
-# The lines that the program writes.
-CHOICE = re.compile(r"left ([\w.-]+)|run ([\w.-]+) edge (\d{1,9})", re.ASCII)
-EDGE = re.compile(r"edge (\d{1,9}) (\S+) (\d{1,9}):(\d{1,9}) \S.*", re.ASCII)
-DANGER = re.compile(r"danger \d{1,9} (?:\d{1,9} )?(?:next|true|false|case -?\d{1,10}|default)"
-                    r" (?:(\d{1,9}):(\d{1,9})|none)", re.ASCII)
-
-
-class Edge(NamedTuple):
-    """A dangerous edge: where it begins in the old unit, and where the new version goes on along it."""
-
-    number: int
-    function: str
-    old: Tuple[int, int]  # line and column
-    new: Optional[Tuple[int, int]]  # none where the new version has no such way out
+AT_ONCE = 4  # explanations
 
 
 class Runs:
@@ -47,21 +37,25 @@ class Runs:
 
     def select(self, history: str) -> Dict[str, Optional[int]]:
         """The edge for which each test of a history of the old version is selected; none where it is left."""
-        lines = self.lines("select", *self.units(), history)[:-1]
-        found = (taken(CHOICE, line, "select") for line in lines)
-        return {left or run: int(edge) if run else None for left, run, edge in found}
+        return dict(map(read_choice, self.lines("select", *self.units(), history)[:-1]))
 
     def carry(self, history: str) -> History:
         """The history of the new version for the tests of one of the old version."""
         return self.history("carry", *self.units(), history, "--workers", self.workers)
 
-    def explain(self, history: str, name: str) -> Edge:
-        """The dangerous edge for which a test of a history of the old version is selected."""
-        lines = self.lines("explain", *self.units(), history, name)
-        number, function, line, column = taken(EDGE, "".join(lines[1:2]), "explain")
-        new_line, new_column = taken(DANGER, lines[-1], "explain")
-        new = (int(new_line), int(new_column)) if new_line else None
-        return Edge(int(number), function, (int(line), int(column)), new)
+    def walk(self) -> Walk:
+        """Where the versions part."""
+        return read_walk(self.lines("walk", *self.units()))
+
+    def explain(self, history: str, names: Sequence[str]) -> List[Explanation]:
+        """Why each of these tests of a history of the old version is selected."""
+        with ThreadPoolExecutor(AT_ONCE) as pool:
+            texts = list(pool.map(partial(self.lines, "explain", *self.units(), history), names))
+        return list(map(read_explanation, texts))
+
+    def points(self, program: Path, side: Side) -> Graph:
+        """The points and edges that the program `points` lists of a version."""
+        return read_points(Path(self.written("points", self.output(program, [str(side.unit.path)]))))
 
     def units(self) -> Tuple[str, str]:
         """The files of both units."""
@@ -86,14 +80,21 @@ class Runs:
 
         That is a `NoHistory` where it refuses the history.
         """
-        status, output = output_of(self.program, words)
-        refusal = Answer(status, output).refusal
+        return self.output(self.program, words)
+
+    def output(self, program: Path, words: Sequence[str]) -> bytes:
+        """What a program writes for these words, with the same errors."""
+        try:
+            done = subprocess.run([program, *words], stdin=subprocess.DEVNULL, stdout=subprocess.PIPE, check=False)
+        except OSError as error:
+            raise ToolError(f"{program}: {error.strerror}") from error
+        refusal = Answer(done.returncode, done.stdout).refusal
         if refusal:
-            raise self.refused(message_of(refusal, files_of(words), self.origin), status)
-        if status:
-            ended = f"ended with status {status}" if status > 0 else "was ended by a signal"
-            raise ToolError(f"{self.program} {words[0]} {ended}")
-        return output
+            raise self.refused(message_of(refusal, files_of(words), self.origin), done.returncode)
+        if done.returncode:
+            ended = f"ended with status {done.returncode}" if done.returncode > 0 else "was ended by a signal"
+            raise ToolError(f"{program} {words[0]} {ended}")
+        return done.stdout
 
     def refused(self, message: Message, status: int) -> ToolError:
         """What is told of a refusal; a unit that was made stands in it by the name of its version."""
@@ -109,11 +110,3 @@ class Runs:
         """The place of a version's own file from which a place of its unit is."""
         side = self.old if place.file == str(self.old.unit.path) else self.new
         return side.unit.origin(place.line, place.column)
-
-
-def taken(form: re.Pattern[str], line: str, command: str) -> Tuple[str, ...]:
-    """The parts of a line that the program wrote; a `ToolError` where it has another form."""
-    found = form.fullmatch(line)
-    if not found:
-        raise ToolError(f"{command} wrote a line that isn't known: {line[:100]}")
-    return found.groups()

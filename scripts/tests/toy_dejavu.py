@@ -4,6 +4,9 @@ A source has a line `INPUT OUTPUT STATUS` for each input that it knows, where OU
 nothing. A test runs the line of its input: it crosses the edge of that line's number from 0, and takes as many turns as
 the line has bytes. An edge is dangerous where the new source has another line of that number. A line `BAD` is a fault
 of syntax. What runs is written to the file that the variable RUNS names.
+
+`points SOURCE` stands in for the program of that name: point 0 is at the first line, and behind it there is a point for
+each line, with the line's edge, which leads back to it.
 """
 import hashlib
 import os
@@ -97,10 +100,29 @@ def explain(old_path, new_path, history, name):
     print(f"danger 1 case {edge} {f'{edge + 1}:1' if edge < len(new) else 'none'}")
 
 
+def walk(old_path, new_path):
+    old, new = source_of("old", old_path), source_of("new", new_path)
+    edges = [edge for edge in range(len(old)) if new[edge:edge + 1] != [old[edge]]]
+    for edge in edges:
+        print(f"edge {edge} main {edge + 1}:1 case {edge}")
+    print(f"dangerous {len(edges)} of {len(old)}\npairs {len(old) - len(edges)}")
+
+
+def points(source):
+    lines = source_of("source", source)
+    print(f"points 1\npoint 0 #start 1:1 {lines[0]}")
+    for at, line in enumerate(lines):
+        print(f"point {at + 1} main {at + 1}:1 {line}\nedge {at} {at + 1} case {at} {at + 1}")
+    print(f"end {len(lines) + 1} {len(lines)}")
+
+
+COMMANDS = {command.__name__: command for command in (record, select, carry, explain, walk, points)}
+
+
 def main():
     words = [word for word in sys.argv[1:] if not word.isdigit() and word != "--workers"]
     try:
-        {"record": record, "select": select, "carry": carry, "explain": explain}[words[0]](*words[1:])
+        COMMANDS[words[0]](*words[1:])
     except Refused as refused:
         status, line = refused.args
         print(f"refused: {line}")
