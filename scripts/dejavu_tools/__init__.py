@@ -1,4 +1,4 @@
-"""What the scripts `program`, `suite`, `listing`, `tell`, `help`, `adopt`, `change`, `ci_lines`, `study` and
+"""What the scripts `program`, `suite`, `listing`, `report`, `tell`, `help`, `adopt`, `change`, `ci_lines`, `study` and
 `disk_calls` stand on.
 
 - `crates`: the crates that the program is built from, and a sum over their files
@@ -8,8 +8,9 @@
 - `listing`: what tests cross of a source, as a listing, an lcov trace and a graph; `points` reads its points and edges
 - `refusals`: what a refusal of `dejavu` means, as a message for people; `words` has its texts, each once
 - `change`: what a change does to the tests; `settings` reads dejavu.toml, `revisions` has the files of a version, `sides`
-  makes a source and a suite of them, `runs` calls `dejavu`, `histories` are kept, `compare` holds two against each
-  other, `steps` says on a terminal what is done, and `reports` and `github` tell the outcome
+  makes a source and a suite of them, `runs` calls `dejavu`, `walks` reads where versions part, `histories` are kept,
+  `compare` holds two against each other, `steps` says on a terminal what is done, and `reports`, `github` and the
+  package `page` tell the outcome
 - `ci`: the lines of docs/ci.md, and the clones in which they are run
 - `maps`: from places of a unit to those of the files of which it was made
 - `traced`: a program under strace, in which chosen calls of the system fail
