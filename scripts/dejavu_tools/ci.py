@@ -63,6 +63,9 @@ OF_SUITES = {
 SUITE = "${{ matrix.suite }}"
 
 
+REPORTS = ("tests.xml", "tests.json", "tests.html")
+
+
 def outside() -> Dict[str, str]:
     """The environment without what git or GitHub has in it for the repository of this script."""
     return {name: value for name, value in os.environ.items() if not name.startswith(("GIT_", "GITHUB_"))}
@@ -136,18 +139,14 @@ def tried(clones: Clones, text: str) -> Iterator[str]:
     """Runs all lines of the document `text`, and tells of each that doesn't answer what it has to."""
     workflow, matrix = blocks(text, "yaml")
     script, *recipe = blocks(text, "sh")
-    (line,), (line_of_suite,) = run_lines(workflow), run_lines(matrix)
-    yield from told("workflow", tried_workflow(clones, line), SUMMARIES)
-    if values_of(matrix, "suite") != list(OF_SUITES) or SUITE not in line_of_suite:
-        yield "matrix: it has other suites, or its line names none"
-    for suite, wanted in OF_SUITES.items():
-        yield from told(suite, tried_workflow(clones, line_of_suite.replace(SUITE, suite), f"{suite}-"), wanted)
-    yield from told("script", tried_script(clones, script), SUMMARIES)
-    failing = Answer("".join(f"{name} fails\n" for name in FAILING), 0)
-    for runner in ("", "valgrind --quiet"):
-        answer = failing if runner and not shutil.which("valgrind") else tried_recipe(clones, recipe, runner)
-        if answer != failing:
-            yield f"recipe {runner}: {answer}, and not {failing}"
+    (line,) = run_lines(workflow)
+    yield from told("workflow", tried_workflow(clones, line))
+    yield from missing("workflow", [clones.scratch / f"checkout-{branch}" for branch in SUMMARIES])
+    yield from told("script", tried_script(clones, script))
+    yield from missing("script", [clones.scratch / f"reports-{branch}" for branch in SUMMARIES])
+    answer, wanted = tried_recipe(clones, recipe), Answer("".join(f"{name} fails\n" for name in FAILING), 0)
+    if answer != wanted:
+        yield f"recipe: {answer}, and not {wanted}"
 
 
 def told(what: str, answers: Dict[str, Answer], wanted: Dict[str, Answer]) -> Iterator[str]:
@@ -161,12 +160,17 @@ def told(what: str, answers: Dict[str, Answer], wanted: Dict[str, Answer]) -> It
             yield f"{what} on {branch}: the history of HEAD^1 was {'kept' if branch == 'main' else 'recorded'}"
 
 
-def tried_workflow(clones: Clones, line: str, name: str = "") -> Dict[str, Answer]:
-    """What a line of a workflow answers on `main` and for the change; a folder stands for the cache.
+def missing(what: str, folders: Sequence[Path]) -> Iterator[str]:
+    """Tells which reports aren't in their folders."""
+    for folder in folders:
+        for name in REPORTS:
+            if not (folder / name).is_file():
+                yield f"{what}: there is no {name} in {folder.name}"
 
-    The names of its folders begin with `name`.
-    """
-    cache, answers = clones.scratch / f"{name}cache", {}
+
+def tried_workflow(clones: Clones, line: str) -> Dict[str, Answer]:
+    """What a line of a workflow answers on `main` and for the change; a folder stands for the cache."""
+    cache, answers = clones.scratch / "cache", {}
     for branch in ("main", "merge"):
         folder = clones.fresh(f"{name}checkout-{branch}", branch)
         moved(cache, folder / ".dejavu")

@@ -15,6 +15,7 @@ from types import SimpleNamespace
 from unittest import mock
 from xml.etree import ElementTree
 
+from pages import Page, faults
 from support import SCRIPTS, TOP, InFolder, sealed
 
 from dejavu_tools import console, environment
@@ -506,6 +507,36 @@ class Adopted(WithRepository):
         self.assertEqual((done.returncode, done.stdout, lines[-1]), (2, b"", "change: v2:b.c: gcc refuses it"))
         self.assertRegex("\n".join(lines), r"b\.c:3:\d+: error: .m. undeclared")
 
+    def test_page_shows_the_files(self):
+        self.commit(**self.FILES)
+        self.commit(b__c=self.FILES["b__c"].replace("n + n", "n + n + 1"))
+        # The toy knows no C, so what is selected is told here: no test, and an edge at the line that changes.
+        program = self.write("telling", f"""#!/bin/sh
+line=$(grep -n 'n = n + n' "$2" | cut -d: -f1)
+case $1 in
+record|carry)
+  [ $1 = record ] && unit=$2 || unit=$3
+  {sys.executable} - "$unit" <<'END'
+import hashlib, sys
+text = f"dejavu history 3\\nsource {{hashlib.sha256(open(sys.argv[1], 'rb').read()).hexdigest()}}\\nedges 1\\ntests 1\\n" \\
+    "test t1\\nbudget 100\\ninput -\\nstatus exit 2\\nturns 9\\noutput -\\ncrossed 00\\n"
+print(f"{{text}}end {{hashlib.sha256(text.encode()).hexdigest()}}")
+END
+  ;;
+select) echo left t1; echo selected 0 of 1 ;;
+walk) echo "edge 0 twice $line:5 next"; echo dangerous 1 of 1; echo pairs 0 ;;
+esac
+""")
+        program.chmod(0o755)
+        done = self.change("--program", program, "--page", "page.html", "v1", "v2")
+        self.assertEqual(done.returncode, 0, done.stderr)
+        page = Page((self.folder / "page.html").read_bytes())
+        self.assertEqual(faults(page), [])
+        self.assertEqual([text for text in page.all("h3") if text.endswith(".c")], ["b.c", "a.c"])
+        rows = page.rows("sources")
+        at = rows.index(["4", "    n = n + n;", "4", "    n = n + n + 1;"])
+        self.assertEqual(rows[at + 1], ["edge 0 next of twice: crossed by no test", ""])
+
     def test_limit_that_a_unit_passes(self):
         self.commit(**self.FILES)
         self.commit(b__c="int twice(int n)\n{\n    int a[5000] = {0};\n    a[n] = n;\n    return a[n] * 2;\n}\n")
@@ -612,6 +643,45 @@ class Reports(WithRepository):
         path = self.folder / "summary.md"
         self.change("--github", "v1", "v2", GITHUB_STEP_SUMMARY=str(path))
         self.assertIn(f"\n-{'y' * 199}..\n", path.read_text(encoding="utf-8"))
+
+
+    def test_page(self):
+        self.commit_two(dejavu__toml=SETTINGS + 'expected = "tests"\n', tests_t3__out="three\nfour\n",
+                        tests_t3__status="1")
+        program = self.write("points", f'#!/bin/sh\nexec {sys.executable} -IS {TOY} points "$@"\n')
+        program.chmod(0o755)
+        done = self.change("--page", "page.html", "--points", program, "v1", "v2")
+        self.check_answer(done, 1, NONE_KEPT + DIFFERS.replace("differs t3", "fails t3, and differs")
+                          .replace("recorded", "expected") + "1 of 3 tests run again, 1 differ, 1 fail\n")
+        self.assertEqual(self.runs, ["t1", "t2", "t3", "t3"])  # as without a page
+        page = Page((self.folder / "page.html").read_bytes())
+        self.assertEqual(faults(page), [])
+        self.assertEqual((page.one("h1"), page.one("strong")), ("v1 to v2", "1 of 3 tests run again, 1 differ, 1 fail."))
+        self.assertIn("v1 was recorded: none is kept in .dejavu", page.all("p"))
+        self.assertEqual(page.rows("margins")[3], ["3", "1", "", "c three_four_ 1", "3", "1", "", "c three_five_ 1"])
+        self.assertEqual(page.all("caption"), ["Output: \u2212 expected and before, + now"])
+
+    def test_page_of_a_suite_that_changes(self):
+        self.commit_two()
+        (self.folder / "tests/t2.in").unlink()
+        self.commit(tests_t0__in="b", tests_t3__in="b")
+        self.change("--page", "page.html", "v2", "v3")
+        page = Page((self.folder / "page.html").read_bytes())
+        self.assertEqual(faults(page), [])
+        self.assertIn("the suite has other tests: 1 added, 1 changed, 1 removed", page.all("p"))
+        summaries = page.all("summary")
+        for text in ("1 test left: they crossed no dangerous edge", "1 test removed from the suite",
+                     "1 test added to the suite, which ran for the first time",
+                     "1 test changed in the suite, which ran for the first time"):
+            self.assertIn(text, summaries)
+
+    def test_page_that_cannot_be_made_leaves_no_report(self):
+        self.commit_two()
+        program = self.write("points", "#!/bin/sh\necho points 1\necho end 0 0\n")
+        program.chmod(0o755)
+        done = self.change("--page", "page.html", "--json", "told.json", "--points", program, "v1", "v2")
+        self.check_answer(done, 2, "", f"change: {program}: there are 0 edges, and dejavu tells of 3\n")
+        self.assertEqual([name for name in self.names() if name in ("page.html", "told.json")], [])
 
 
 class Document(unittest.TestCase):

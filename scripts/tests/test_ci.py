@@ -1,9 +1,9 @@
 """How lines are taken out of docs/ci.md."""
 import unittest
 
-from support import TOP
+from support import TOP, InFolder
 
-from dejavu_tools.ci import blocks, run_lines, values_of
+from dejavu_tools.ci import blocks, missing, run_lines
 
 TEXT = """Words.
 
@@ -48,6 +48,18 @@ class Lines(unittest.TestCase):
         text = (TOP / "docs" / "ci.md").read_text(encoding="utf-8")
         self.assertEqual([len(run_lines(workflow)) for workflow in blocks(text, "yaml")], [1, 1])
         self.assertEqual(len(blocks(text, "sh")), 3)
+
+
+class Reports(InFolder):
+    """The reports that lines leave."""
+
+    def test_missing(self):
+        for name in ("tests.xml", "tests.json"):
+            self.write(f"one/{name}", "")
+        self.write("two/tests.html", "")
+        self.assertEqual(list(missing("script", [self.folder / "one", self.folder / "two"])),
+                         ["script: there is no tests.html in one", "script: there is no tests.xml in two",
+                          "script: there is no tests.json in two"])
 
 
 if __name__ == "__main__":
