@@ -96,7 +96,7 @@ class Graded(InFolder):
         rows = page.rows("margins")
         self.assertEqual(rows[0], ["Line", "Tests", "Ways out", "old.c", "Line", "Tests", "Ways out", "new.c"])
         self.assertEqual(rows[1], ["1", "2", "", "int grade(int mark)"] * 2)
-        self.assertEqual(rows[3], ["3", "2", "true 1false 1", "    if (mark < 5)"] * 2)
+        self.assertEqual(rows[3], ["3", "2", "true: 1false: 1", "    if (mark < 5)"] * 2)
         note = "edge 3 true of grade: crossed by 1 test: failed; the new version goes on at 4:9"
         self.assertEqual(rows[4], [note, ""])
         self.assertEqual(rows[5], ["4", "1", "", "        return 'F';", "4", "1", "", "        return 'f';"])
@@ -397,6 +397,20 @@ class Lines(unittest.TestCase):
     def test_pairs(self):
         pairs = lines.pairs_of([b"a", b"b", b"c"], [b"a", b"x", b"y", b"c"])
         self.assertEqual([tuple(pair) for pair in pairs], [(0, 0, True), (1, 1, False), (None, 2, False), (2, 3, True)])
+
+    def test_pairs_of_texts_that_begin_and_end_alike(self):
+        for old, new, pairs in (
+            ([b"a", b"a"], [b"a"], [(0, 0, True), (1, None, False)]),
+            ([b"a", b"b"], [b"a", b"b"], [(0, 0, True), (1, 1, True)]),
+            ([], [b"a"], [(None, 0, False)]),
+            ([b"x", b"m", b"y", b"z"], [b"v", b"m", b"w", b"z"],
+             [(0, 0, False), (1, 1, True), (2, 2, False), (3, 3, True)]),
+        ):
+            with self.subTest((old, new)):
+                self.assertEqual([tuple(pair) for pair in lines.pairs_of(old, new)], pairs)
+        many = lines.pairs_of([b"x", b"m", b"y", b"z"], [b"v", b"m", b"w", b"z"], 2)
+        self.assertEqual([tuple(pair) for pair in many],
+                         [(0, 0, False), (1, 1, False), (2, 2, False), (3, 3, True)])
 
     def test_stretches(self):
         pairs = [lines.Pair(at, at, True) for at in range(20)]

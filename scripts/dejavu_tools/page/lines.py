@@ -24,13 +24,23 @@ class Stretch(NamedTuple):
     is_told: bool
 
 
-def pairs_of(old: Sequence[bytes], new: Sequence[bytes]) -> List[Pair]:
-    """All lines of two texts, each once: equal ones beside each other, and replaced ones beside what replaces them."""
-    found: List[Pair] = []
-    for kind, low, high, new_low, new_high in SequenceMatcher(None, old, new).get_opcodes():
-        places = zip_longest(range(low, high), range(new_low, new_high))
+def pairs_of(old: Sequence[bytes], new: Sequence[bytes], most: Optional[int] = None) -> List[Pair]:
+    """All lines of two texts, each once: equal ones beside each other, and replaced ones beside what replaces them.
+
+    Where there are more than `most` lines between the first that differs and the last, all of these are replaced ones:
+    to find equal ones among lines that often recur takes time by the square of their number.
+    """
+    first = len(os.path.commonprefix([old, new]))
+    behind = len(os.path.commonprefix([old[first:][::-1], new[first:][::-1]]))
+    ends = len(old) - behind, len(new) - behind
+    parts = [("replace", 0, ends[0] - first, 0, ends[1] - first)]
+    if most is None or max(ends) - first <= most:
+        parts = SequenceMatcher(None, old[first:ends[0]], new[first:ends[1]]).get_opcodes()
+    found = [Pair(at, at, True) for at in range(first)]
+    for kind, low, high, new_low, new_high in parts:
+        places = zip_longest(range(first + low, first + high), range(first + new_low, first + new_high))
         found += [Pair(at, new_at, kind == "equal") for at, new_at in places]
-    return found
+    return found + [Pair(at, new_at, True) for at, new_at in zip(range(ends[0], len(old)), range(ends[1], len(new)))]
 
 
 def stretches(pairs: Sequence[Pair], is_told: Sequence[bool], least: int = 1) -> Iterator[Stretch]:

@@ -13,6 +13,7 @@ from .markup import counted, decoded, folded, marked, plain, row, shown, table
 
 MOST_TESTS = 40  # that are told in full
 MOST_OPEN = 10  # of these
+MOST_COMPARED = 1_000  # lines between the first that differs and the last
 MOST_LINES = 60  # of a difference
 MOST_CHARACTERS = 300  # of one of its lines
 LEAD = 60  # characters before the first that differs, where a line is cut
@@ -128,7 +129,7 @@ def difference(other: Text, now: Text) -> str:
 
 def rows_of(old: List[bytes], new: List[bytes]) -> Iterator[str]:
     """The rows of two outputs' lines, which have their newlines; those that are far from a difference are left out."""
-    pairs = pairs_of(old, new)
+    pairs = pairs_of(old, new, MOST_COMPARED)
     for stretch in stretches(pairs, [not pair.is_equal for pair in pairs], 2):
         if not stretch.is_told:
             yield f'<tr><td colspan="4">{counted(len(stretch.pairs), "equal line")}</td></tr>'

@@ -167,6 +167,7 @@ def margin_cells(file: File, line: int) -> str:
     if margin is None:
         return "<td></td><td></td>"
     tests = count(margin.tests)
-    ways = [f"{exit} {tests:,}" for exit, tests in margin.ways]
-    shown_ways = "<br>".join([*ways[:MOST_WAYS], *([f"{len(ways) - MOST_WAYS} more"] if len(ways) > MOST_WAYS else [])])
-    return f"""<td class="n{'' if tests else ' zero'}">{tests:,}</td><td class="w">{shown_ways}</td>"""
+    ways = [f"{exit}: {crossing:,}" for exit, crossing in margin.ways]
+    more = len(ways) - MOST_WAYS
+    told = "<br>".join([*ways[:MOST_WAYS], *([f"{more} more"] if more > 0 else [])])
+    return f"""<td class="n{'' if tests else ' zero'}">{tests:,}</td><td class="w">{told}</td>"""
