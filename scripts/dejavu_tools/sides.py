@@ -3,6 +3,7 @@ from __future__ import annotations
 
 from bisect import bisect_right
 from dataclasses import dataclass
+from functools import cached_property
 from hashlib import sha256
 from pathlib import Path
 from typing import List, Sequence, Tuple
@@ -26,9 +27,14 @@ class Unit:
     digest: str
     rows: Sequence[Row]  # rising; none where the source is the maintainer's own
 
+    @cached_property
+    def starts(self) -> List[Tuple[int, int]]:
+        """The places of the unit at which its rows begin."""
+        return [row[:2] for row in self.rows]
+
     def origin(self, line: int, column: int) -> Tuple[str, int, int]:
         """The file, the line and the column from which what stands at a place of the unit is."""
-        at = bisect_right([row[:2] for row in self.rows], (line, column))
+        at = bisect_right(self.starts, (line, column))
         if not at:
             return str(self.path), line, column
         _, _, line, column, file = self.rows[at - 1]

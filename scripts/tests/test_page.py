@@ -1,5 +1,6 @@
 """The page of a change: over texts made by hand, and over a program that stands in for `dejavu` (toy_dejavu.py)."""
 import hashlib
+import os
 import re
 import subprocess
 import sys
@@ -10,7 +11,8 @@ from graded import FAILED, NONE, PASSED, POINTS, SOURCE, row
 from pages import Page, colors, contrast, faults
 from support import SCRIPTS, TOP, InFolder, sealed
 
-from dejavu_tools.page import lines, markup, outputs, places, sources, steps
+from dejavu_tools.change import outcome_of_files
+from dejavu_tools.page import document, lines, markup, outputs, places, sources, steps
 from dejavu_tools.revisions import Version
 from dejavu_tools.settings import settings_of
 from dejavu_tools.sides import Side, Unit
@@ -178,20 +180,33 @@ class Graded(InFolder):
         self.assertEqual([page.one("li", id=f"test-{name}") for name in ("none", "passed")], ["none", "passed"])
 
     def test_without_lists_of_points(self):
-        page = self.page("--points", "nowhere")
+        self.made(("--points", "points"), EXPLAIN, b"f")
+        here = Path.cwd()
+        self.addCleanup(os.chdir, here)
+        os.chdir(self.folder)
+        scratch = self.folder / "scratch"
+        scratch.mkdir()
+        files = (Path("old.c"), Path("new.c")), Path("history"), None, self.folder / "program", scratch
+        page = Page(document.page(outcome_of_files(*files, document.looks(self.folder, None))))
+        self.assertEqual(faults(page), [])
         self.assertEqual(page.rows("sources")[0], ["Line", "old.c", "Line", "new.c"])
         self.assertEqual(page.rows("steps")[8][2:4], ["point 4", "point 4"])
         self.assertEqual(sum("the program points isn't there" in text for text in page.all("p")), 2)
 
+    def test_points_that_are_missing(self):
+        self.made(("--points", "points"), EXPLAIN, b"f")
+        done = self.run_script("report", "--program", "program", "--points", "none", "old.c", "new.c", "history")
+        self.check_answer(done, 2, "", f"report: {self.folder}/none: No such file or directory\n")
+
     def test_points_of_another_source(self):
-        self.made((), EXPLAIN, b"f")
+        self.made(("--points", "points"), EXPLAIN, b"f")
         self.write("points-new.c", POINTS)
         done = self.run_script("report", "--program", "program", "--points", "points", "old.c", "new.c", "history")
         self.check_answer(done, 2, "", f"report: {self.folder}/points: point 5 isn't one of new.c, which has another"
                                        " text there\n")
 
     def test_walk_that_is_not_known(self):
-        self.made((), EXPLAIN, b"f")
+        self.made(("--points", "points"), EXPLAIN, b"f")
         for command, text, line in (("walk", "edge 3\n", "walk wrote a line that isn't known: "),
                                     ("explain", "left failed\n", "explain wrote too few lines"),
                                     ("explain", EXPLAIN.replace("8 grade", "9 grade"),
@@ -338,7 +353,8 @@ class OverToy(InFolder):
 
     def test_output_that_nobody_reads(self):
         self.prepare()
-        self.check_unread("report", "--program", self.folder / "program", "old.c", "new.c", "history")
+        programs = ("--program", self.folder / "program", "--points", self.folder / "points")
+        self.check_unread("report", *programs, "old.c", "new.c", "history")
 
 
 class Files(InFolder):

@@ -2,7 +2,7 @@
 from __future__ import annotations
 
 from pathlib import Path
-from typing import Iterator
+from typing import Iterator, Optional
 
 from ..change import Looks, Outcome
 from ..reports import suite_lines, summary
@@ -18,9 +18,14 @@ SECTIONS = (("sources", "What the change does to the sources"), ("outputs", "Tes
             ("ways", "How the walk comes to where the versions part"), ("tests", "All tests"))
 
 
-def looks(points: Path) -> Looks:
-    """What has to be looked for, so that a page can be made of the outcome; `points` is the program, if it is there."""
-    return Looks(steps.MOST_EDGES, True, points.absolute() if points.is_file() else None)
+def looks(top: Path, points: Optional[Path]) -> Looks:
+    """What has to be looked for, so that a page can be made of the outcome.
+
+    Where no program `points` is named, it is the one of the repository whose folder is `top`, if it is there.
+    """
+    built = top / POINTS
+    program = points or (built if built.is_file() else None)
+    return Looks(steps.MOST_EDGES, True, program.absolute() if program else None)
 
 
 def page(outcome: Outcome) -> bytes:
