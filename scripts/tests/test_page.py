@@ -381,7 +381,7 @@ class Files(InFolder):
         found = self.places()
         self.assertEqual(found.link((1, 9)), '<a href="#o1-2">a.c:2:1</a>')
         self.assertEqual(found.link((3, 1)), '<a href="#o2-1">inc/b.h:1:5</a>')
-        self.assertEqual(found.link((4, 1)), "9:1 outside these files")
+        self.assertEqual(found.link((4, 1)), "4:1 of the unit")
 
     def test_note_outside_the_files(self):
         found = self.places()

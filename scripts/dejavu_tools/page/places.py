@@ -103,10 +103,11 @@ class Places:
             self.outside.append(note)
 
     def text(self, place: Tuple[int, int]) -> str:
-        """A place of the unit, in words."""
+        """A place of the unit, in words. What `adopt` puts before the files' own functions is in none of the files."""
         file, line, column = self.origin(place)
-        before = f"{shown(file.name)}:" if file and len(self.files) > 1 else ""
-        return f"{before}{line}:{column}{'' if file else ' outside these files'}"
+        if not file:
+            return f"{place[0]}:{place[1]} of the unit"
+        return f"{shown(file.name)}:{line}:{column}" if len(self.files) > 1 else f"{line}:{column}"
 
     def link(self, place: Tuple[int, int]) -> str:
         """The same as a link."""
@@ -121,10 +122,11 @@ class Places:
         point = points[number]
         place = point.line, point.column
         file, line, column = self.origin(place)
-        text = f"<code>{marked(file.text(line), range(0), file.words(line, [column])).strip()}</code>" if file else ""
+        text = marked(file.text(line), range(0), file.words(line, [column])).strip() if file else shown(point.text)
         is_first = number == 0 or points[number - 1].function != point.function
         is_last = number + 1 == len(points) or points[number + 1].function != point.function
-        return f"{self.link(place)} {text}{' (its entry)' if is_first else ' (its exit)' if is_last else ''}"
+        end = " (its entry)" if is_first else " (its exit)" if is_last else ""
+        return f"{self.link(place)} <code>{text}</code>{end}"
 
 
 # ---- which files a version has

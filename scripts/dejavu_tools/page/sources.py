@@ -83,7 +83,7 @@ def section(outcome: Outcome, crossing: Crossing, old: Places, new: Places) -> I
         yield part.html
     outside = [*old.outside, *new.outside]
     if outside:
-        yield f"<p>Places outside these files:</p><ul>{''.join(outside)}</ul>"
+        yield f"<p>At places of the unit that are in none of these files:</p><ul>{''.join(outside)}</ul>"
     if more:
         yield f"<p>{counted(more, 'more dangerous edge')} {'is' if more == 1 else 'are'} told by <code>walk</code>.</p>"
 
