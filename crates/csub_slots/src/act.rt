@@ -9,10 +9,10 @@ ghost use Rattle.csub_flat.specs.Seen.{variable_seen, given_seen, arg_seen, call
 ghost use Rattle.csub_slots.specs.Seen.{slot_seen};
 ghost use Rattle.csub_slots.specs.States.{state_of, Gives, Acts, Keeps, FewInGiven, FitsMost};
 
-use crate::eval::{eval, fetch, locate, put_at, put_slot};
+use crate::eval::{eval, eval_variable, locate, put_at, put_slot};
 use crate::init::initialise;
 use crate::slot::Slot;
-use crate::spot::{refer_to, stand};
+use crate::spot::refer_to;
 use crate::store::Store;
 use csub_flat::{FlatArg, FlatCall, FlatGiven, FlatLabel, FlatVariable};
 use csub_semantics::{EndRule, ExitLabel, Status, Trap};
@@ -95,6 +95,7 @@ fn end_with(value: i64) -> Outcome
 }
 
 /// The act at the end of a function.
+#[inline(never)]
 fn act_exit(
     store: &mut Store,
     rule: EndRule,
@@ -117,8 +118,7 @@ fn act_exit(
             Some(value) => Some(value),
         },
         EndRule::Start => {
-            let spot = stand(store.slots.as_slice(), base, first)?;
-            let value = fetch(store, spot)?;
+            let value = eval_variable(store, base, first)?;
             return Ok(end_with(value));
         }
     };
@@ -136,6 +136,7 @@ fn leave(store: &mut Store, base: u32)
 }
 
 /// The act of a call, where so many frames stand: its arguments, then a frame with its parameters.
+#[inline(never)]
 fn act_call(store: &mut Store, call: &FlatCall, count: u32, base: u32) -> Result<Outcome, Trap>
     requires few { count ≤ 256 }
     requires room { length store.old.slots.items ≤ store.old.sizes.globals + count * store.old.sizes.most }

@@ -1,23 +1,29 @@
 //! What expressions give, over slots. Nothing here takes memory.
+//!
+//! [`evaluate`] chooses by the form of an expression, and what has locals in memory is a function of its own: a function
+//! clears all of its locals whenever it is called, whichever of its cases it comes to. Operators and kinds go to these by
+//! reference, since a copy of a small enum would be such a local.
 ghost use Rattle.std.specs.Prelude.{◌≡◌, ◌≤◌, [], length, map, All, slice_set, Ok};
 ghost use Rattle.csub_types.specs.Kinds.{promote, convert};
 ghost use Rattle.csub_types.specs.Arithmetic.{unary, binary, right_operand};
-ghost use Rattle.csub_semantics.specs.Trees.{formatted, exprs_of};
+ghost use Rattle.csub_semantics.specs.Trees.{variable, reading, unary_operation, stepping, output_byte, formatted, exprs_of};
 ghost use Rattle.csub_semantics.specs.Memory.{value, then_do, get_byte};
 ghost use Rattle.csub_semantics.specs.Evaluation as the;
-ghost use Rattle.csub_semantics.specs.Evaluation.{is_nonzero, locate, eval, eval_all, fetch};
+ghost use Rattle.csub_semantics.specs.Evaluation.{is_nonzero, locate, eval, eval_all, fetch, computed, indexed};
 ghost use Rattle.csub_slots.specs.Layout as layout;
 ghost use Rattle.csub_slots.specs.Memory.{flat, spots};
-ghost use Rattle.csub_flat.specs.Seen.{place_seen, expr_seen};
+ghost use Rattle.csub_flat.specs.Seen.{variable_seen, part_seen, place_seen, expr_seen};
 ghost use Rattle.csub_slots.specs.Seen.{slot_seen, spot_seen};
+ghost use Rattle.csub_slots.specs.Numbered.{narrowed};
 ghost use Rattle.csub_slots.specs.States.{state_of, Gives, same, Keeps, FewAtPlace, FewValues};
 
 use crate::output::{write_format, write_low};
+use crate::registers::{Numbered, narrow, narrow_spot, number_of, widen};
 use crate::slot::{Slot, set_slot, slot_at};
 use crate::spot::{Spot, element, member, stand};
 use crate::store::Store;
 use arrayvec::ArrayVec;
-use csub_flat::{FlatExpr, FlatPlace};
+use csub_flat::{FlatExpr, FlatPart, FlatPlace, FlatVariable};
 use csub_semantics::{BinOp, IntKind, Piece, StepOp, Trap, UnaryOp};
 use csub_types::arithmetic::{binary, unary};
 use csub_types::kind::{convert, promote};
@@ -26,26 +32,29 @@ use csub_types::kind::{convert, promote};
 const MOST_VALUES: usize = 8;
 
 /// An operation in a kind, to which its operands are converted first.
-fn compute(op: BinOp, kind: IntKind, left: i64, right: i64) -> Result<i64, Trap>
-    ensures { result ≡ binary op (promote kind) (convert (promote kind) left) (right_operand op (promote kind) right) }
+#[inline(always)]
+fn compute(op: BinOp, kind: IntKind, left: i64, right: i64) -> Numbered<i64>
+    ensures { narrowed result ≡ binary op (promote kind) (convert (promote kind) left) (right_operand op (promote kind) right) }
 {
     let promoted = promote(kind);
     let operand = match op {
         BinOp::Shl | BinOp::Shr => right,
         _ => convert(promoted, right),
     };
-    binary(op, promoted, convert(promoted, left), operand)
+    widen(binary(op, promoted, convert(promoted, left), operand))
 }
 
 /// The same of one operand.
-fn compute_unary(op: UnaryOp, kind: IntKind, operand: i64) -> Result<i64, Trap>
-    ensures { result ≡ unary op (promote kind) (convert (promote kind) operand) }
+#[inline(always)]
+fn compute_unary(op: UnaryOp, kind: IntKind, operand: i64) -> Numbered<i64>
+    ensures { narrowed result ≡ unary op (promote kind) (convert (promote kind) operand) }
 {
     let promoted = promote(kind);
-    unary(op, promoted, convert(promoted, operand))
+    widen(unary(op, promoted, convert(promoted, operand)))
 }
 
 /// A slot gets a content.
+#[inline(always)]
 pub fn put_slot(store: &mut Store, at: usize, slot: Slot)
     ensures value { state_of store.new ≡ record (state_of store.old) { cells = slice_set (map slot_seen store.old.slots.items) at (slot_seen slot) } }
     ensures kept { Keeps store.old store.new }
@@ -54,6 +63,7 @@ pub fn put_slot(store: &mut Store, at: usize, slot: Slot)
 }
 
 /// A number goes into a slot.
+#[inline(always)]
 pub fn put_at(store: &mut Store, at: usize, value: i64)
     ensures value { state_of store.new ≡ record (state_of store.old) { cells = slice_set (map slot_seen store.old.slots.items) at (layout.holding value) } }
     ensures kept { Keeps store.old store.new }
@@ -76,16 +86,18 @@ fn next_byte(store: &mut Store) -> i64
 }
 
 /// The number at a spot, in the kind that is declared there; one that was never written is the trap `unset`.
-pub fn fetch(store: &Store, spot: Spot) -> Result<i64, Trap>
-    ensures { Gives same (fetch spots (spot_seen spot) (state_of store.now)) result (state_of store.now) }
+#[inline(always)]
+fn fetch(store: &Store, spot: Spot) -> Numbered<i64>
+    ensures { Gives same (fetch spots (spot_seen spot) (state_of store.now)) (narrowed result) (state_of store.now) }
 {
     match slot_at(store.slots.as_slice(), spot.slot) {
         Slot::Holding(value) => Ok(convert(spot.form.kind, value)),
-        Slot::Empty | Slot::Referring(_, _) => Err(Trap::Unset),
+        Slot::Empty | Slot::Referring(_, _) => Err(number_of(Trap::Unset)),
     }
 }
 
 /// A number goes to a spot, converted to the kind that is declared there, and is given so.
+#[inline(always)]
 fn put(store: &mut Store, spot: Spot, number: i64) -> i64
     ensures value { Gives same (the.store spots (spot_seen spot) number (state_of store.old)) (Ok result) (state_of store.new) }
     ensures kept { Keeps store.old store.new }
@@ -96,8 +108,9 @@ fn put(store: &mut Store, spot: Spot, number: i64) -> i64
 }
 
 /// What `++` and `--` give at a spot (C11 6.5.2.4 and 6.5.3.1).
-fn step(store: &mut Store, op: StepOp, spot: Spot) -> Result<i64, Trap>
-    ensures value { Gives same (the.step spots op (spot_seen spot) (state_of store.old)) result (state_of store.new) }
+#[inline(always)]
+fn step(store: &mut Store, op: StepOp, spot: Spot) -> Numbered<i64>
+    ensures value { Gives same (the.step spots op (spot_seen spot) (state_of store.old)) (narrowed result) (state_of store.new) }
     ensures kept { Keeps store.old store.new }
 {
     let before = fetch(store, spot)?;
@@ -113,106 +126,275 @@ fn step(store: &mut Store, op: StepOp, spot: Spot) -> Result<i64, Trap>
     }
 }
 
+/// The number that a variable holds for the frame at a base, or the number of its trap.
+#[inline(always)]
+fn read_variable(store: &Store, base: u32, named: FlatVariable) -> Numbered<i64>
+    ensures { Gives same (eval (flat base) (reading (variable (variable_seen named))) (state_of store.now)) (narrowed result) (state_of store.now) }
+{
+    let spot = stand(store.slots.as_slice(), base, named)?;
+    fetch(store, spot)
+}
+
+/// The number that a variable holds for the frame at a base (C11 6.5.1).
+pub fn eval_variable(store: &Store, base: u32, named: FlatVariable) -> Result<i64, Trap>
+    ensures { Gives same (eval (flat base) (reading (variable (variable_seen named))) (state_of store.now)) result (state_of store.now) }
+{
+    narrow(read_variable(store, base, named))
+}
+
 /// Where a place is for the frame at a base; an index comes behind the place that it stands on.
-#[cycle(expressions)]
 pub fn locate(store: &mut Store, base: u32, place: &FlatPlace) -> Result<Spot, Trap>
     requires { FewAtPlace (place_seen place.now) }
     ensures value { Gives spot_seen (locate (flat base) (place_seen place.now) (state_of store.old)) result (state_of store.new) }
     ensures kept { Keeps store.old store.new }
 {
-    match place {
-        FlatPlace::Variable(variable) => stand(store.slots.as_slice(), base, *variable),
-        FlatPlace::Element(part, array, index) => {
-            let spot = locate(store, base, array)?;
-            let value = eval(store, base, index)?;
-            element(*part, spot, value)
-        }
-        FlatPlace::Member(part, whole) => {
-            let spot = locate(store, base, whole)?;
-            Ok(member(*part, spot))
-        }
-    }
+    let found = find(store, base, place);
+    narrow_spot(found)
 }
 
 /// What an expression gives for the frame at a base (C11 6.5).
-#[cycle(expressions)]
+#[inline(always)]
 pub fn eval(store: &mut Store, base: u32, expr: &FlatExpr) -> Result<i64, Trap>
     requires { FewValues (expr_seen expr.now) }
     ensures value { Gives same (eval (flat base) (expr_seen expr.now) (state_of store.old)) result (state_of store.new) }
     ensures kept { Keeps store.old store.new }
 {
+    let given = evaluate(store, base, expr);
+    narrow(given)
+}
+
+/// Where a place is, or the number of its trap.
+#[cycle(expressions)]
+#[inline(never)]
+fn find(store: &mut Store, base: u32, place: &FlatPlace) -> Numbered<Spot>
+    requires { FewAtPlace (place_seen place.now) }
+    ensures value { Gives spot_seen (locate (flat base) (place_seen place.now) (state_of store.old)) (narrowed result) (state_of store.new) }
+    ensures kept { Keeps store.old store.new }
+{
+    match place {
+        FlatPlace::Variable(named) => stand(store.slots.as_slice(), base, *named),
+        FlatPlace::Element(part, array, index) => {
+            let spot = find_near(store, base, array)?;
+            find_element(store, base, *part, spot, index)
+        }
+        FlatPlace::Member(part, whole) => {
+            let spot = find_near(store, base, whole)?;
+            Ok(member(*part, spot))
+        }
+    }
+}
+
+/// Where a place is, as [`find`] says; a variable needs no call.
+#[cycle(expressions)]
+#[inline(always)]
+fn find_near(store: &mut Store, base: u32, place: &FlatPlace) -> Numbered<Spot>
+    requires { FewAtPlace (place_seen place.now) }
+    ensures value { Gives spot_seen (locate (flat base) (place_seen place.now) (state_of store.old)) (narrowed result) (state_of store.new) }
+    ensures kept { Keeps store.old store.new }
+{
+    match place {
+        FlatPlace::Variable(named) => stand(store.slots.as_slice(), base, *named),
+        _ => find(store, base, place),
+    }
+}
+
+/// Where an element of the array at a spot is, by its index.
+#[cycle(expressions)]
+#[inline(always)]
+fn find_element(
+    store: &mut Store,
+    base: u32,
+    part: FlatPart,
+    spot: Spot,
+    index: &FlatExpr,
+) -> Numbered<Spot>
+    requires { FewValues (expr_seen index.now) }
+    ensures value { Gives spot_seen (then_do (eval (flat base) (expr_seen index.now) (state_of store.old)) (indexed (flat base) (part_seen part) (spot_seen spot))) (narrowed result) (state_of store.new) }
+    ensures kept { Keeps store.old store.new }
+{
+    let value = operand(store, base, index)?;
+    element(part, spot, value)
+}
+
+/// What an expression gives, or the number of its trap.
+#[cycle(expressions)]
+#[inline(never)]
+fn evaluate(store: &mut Store, base: u32, expr: &FlatExpr) -> Numbered<i64>
+    requires { FewValues (expr_seen expr.now) }
+    ensures value { Gives same (eval (flat base) (expr_seen expr.now) (state_of store.old)) (narrowed result) (state_of store.new) }
+    ensures kept { Keeps store.old store.new }
+{
     match expr {
         FlatExpr::Const(_, value) => Ok(*value),
-        FlatExpr::Read(place) => {
-            let spot = locate(store, base, place)?;
-            fetch(store, spot)
-        }
-        FlatExpr::Unary(op, kind, operand) => {
-            let value = eval(store, base, operand)?;
-            compute_unary(*op, *kind, value)
-        }
-        FlatExpr::Cast(kind, operand) => {
-            let value = eval(store, base, operand)?;
-            Ok(convert(*kind, value))
-        }
-        FlatExpr::Step(op, place) => {
-            let spot = locate(store, base, place)?;
-            step(store, *op, spot)
-        }
+        FlatExpr::Read(place) => eval_read(store, base, place),
+        FlatExpr::Unary(op, kind, inner) => eval_unary(store, base, op, kind, inner),
+        FlatExpr::Cast(kind, inner) => eval_as(store, base, kind, inner),
+        FlatExpr::Step(op, place) => eval_step(store, base, op, place),
         FlatExpr::Binary(op, kind, left, right) => {
-            let a = eval(store, base, left)?;
-            let b = eval(store, base, right)?;
-            compute(*op, *kind, a, b)
+            let a = operand(store, base, left)?;
+            eval_right(store, base, op, kind, a, right)
         }
-        FlatExpr::And(left, right) => match eval(store, base, left)? {
+        FlatExpr::And(left, right) => match operand(store, base, left)? {
             0 => Ok(0),
             _ => eval_truth(store, base, right),
         },
-        FlatExpr::Or(left, right) => match eval(store, base, left)? {
+        FlatExpr::Or(left, right) => match operand(store, base, left)? {
             0 => eval_truth(store, base, right),
             _ => Ok(1),
         },
-        FlatExpr::Choose(kind, test, left, right) => match eval(store, base, test)? {
-            0 => eval_as(store, base, *kind, right),
-            _ => eval_as(store, base, *kind, left),
+        FlatExpr::Choose(kind, test, left, right) => match operand(store, base, test)? {
+            0 => eval_as(store, base, kind, right),
+            _ => eval_as(store, base, kind, left),
         },
-        FlatExpr::Assign(place, operand) => {
-            let spot = locate(store, base, place)?;
-            let number = eval(store, base, operand)?;
-            Ok(put(store, spot, number))
+        FlatExpr::Assign(place, inner) => {
+            let spot = find_near(store, base, place)?;
+            assign(store, base, &spot, inner)
         }
-        FlatExpr::Update(place, op, kind, operand) => {
-            let spot = locate(store, base, place)?;
-            let before = fetch(store, spot)?;
-            let value = eval(store, base, operand)?;
-            let after = compute(*op, *kind, before, value)?;
-            Ok(put(store, spot, after))
+        FlatExpr::Update(place, op, kind, inner) => {
+            let spot = find_near(store, base, place)?;
+            update(store, base, &spot, op, kind, inner)
         }
         FlatExpr::Getchar => Ok(next_byte(store)),
-        FlatExpr::Putchar(inner) => {
-            let value = eval(store, base, inner)?;
-            write_low(store, value)
-        }
+        FlatExpr::Putchar(inner) => eval_putchar(store, base, inner),
         FlatExpr::Printf(pieces, exprs) => eval_format(store, base, pieces, exprs),
     }
 }
 
-/// What `printf` gives: it evaluates all its values, and then writes (C11 7.21.6.3).
+/// What an expression gives, as [`evaluate`] says; a constant and a variable need no call.
 #[cycle(expressions)]
-fn eval_format(
+#[inline(always)]
+fn operand(store: &mut Store, base: u32, expr: &FlatExpr) -> Numbered<i64>
+    requires { FewValues (expr_seen expr.now) }
+    ensures value { Gives same (eval (flat base) (expr_seen expr.now) (state_of store.old)) (narrowed result) (state_of store.new) }
+    ensures kept { Keeps store.old store.new }
+{
+    match expr {
+        FlatExpr::Const(_, value) => Ok(*value),
+        FlatExpr::Read(FlatPlace::Variable(named)) => read_variable(store, base, *named),
+        _ => evaluate(store, base, expr),
+    }
+}
+
+/// The number in a place.
+#[cycle(expressions)]
+#[inline(never)]
+fn eval_read(store: &mut Store, base: u32, place: &FlatPlace) -> Numbered<i64>
+    requires { FewAtPlace (place_seen place.now) }
+    ensures value { Gives same (eval (flat base) (reading (place_seen place.now)) (state_of store.old)) (narrowed result) (state_of store.new) }
+    ensures kept { Keeps store.old store.new }
+{
+    let spot = find_near(store, base, place)?;
+    fetch(store, spot)
+}
+
+/// What a unary operation gives.
+#[cycle(expressions)]
+#[inline(never)]
+fn eval_unary(
     store: &mut Store,
     base: u32,
-    pieces: &[Piece],
-    exprs: &[FlatExpr],
-) -> Result<i64, Trap>
+    op: &UnaryOp,
+    kind: &IntKind,
+    inner: &FlatExpr,
+) -> Numbered<i64>
+    requires { FewValues (expr_seen inner.now) }
+    ensures value { Gives same (eval (flat base) (unary_operation op.now kind.now (expr_seen inner.now)) (state_of store.old)) (narrowed result) (state_of store.new) }
+    ensures kept { Keeps store.old store.new }
+{
+    let value = operand(store, base, inner)?;
+    compute_unary(*op, *kind, value)
+}
+
+/// What `++` and `--` give at a place.
+#[cycle(expressions)]
+#[inline(never)]
+fn eval_step(store: &mut Store, base: u32, op: &StepOp, place: &FlatPlace) -> Numbered<i64>
+    requires { FewAtPlace (place_seen place.now) }
+    ensures value { Gives same (eval (flat base) (stepping op.now (place_seen place.now)) (state_of store.old)) (narrowed result) (state_of store.new) }
+    ensures kept { Keeps store.old store.new }
+{
+    let spot = find_near(store, base, place)?;
+    step(store, *op, spot)
+}
+
+/// What a binary operation gives by its left operand's number and its right operand.
+#[cycle(expressions)]
+#[inline(never)]
+fn eval_right(
+    store: &mut Store,
+    base: u32,
+    op: &BinOp,
+    kind: &IntKind,
+    left: i64,
+    right: &FlatExpr,
+) -> Numbered<i64>
+    requires { FewValues (expr_seen right.now) }
+    ensures value { Gives same (then_do (eval (flat base) (expr_seen right.now) (state_of store.old)) (computed op.now kind.now left)) (narrowed result) (state_of store.new) }
+    ensures kept { Keeps store.old store.new }
+{
+    let value = operand(store, base, right)?;
+    compute(*op, *kind, left, value)
+}
+
+/// What an assignment to a spot gives.
+#[cycle(expressions)]
+#[inline(never)]
+fn assign(store: &mut Store, base: u32, spot: &Spot, inner: &FlatExpr) -> Numbered<i64>
+    requires { FewValues (expr_seen inner.now) }
+    ensures value { Gives same (then_do (eval (flat base) (expr_seen inner.now) (state_of store.old)) (the.store (flat base) (spot_seen spot.now))) (narrowed result) (state_of store.new) }
+    ensures kept { Keeps store.old store.new }
+{
+    let number = operand(store, base, inner)?;
+    Ok(put(store, *spot, number))
+}
+
+/// What a compound assignment to a spot gives: it reads before its operand (C11 6.5.16.2).
+#[cycle(expressions)]
+#[inline(never)]
+fn update(
+    store: &mut Store,
+    base: u32,
+    spot: &Spot,
+    op: &BinOp,
+    kind: &IntKind,
+    inner: &FlatExpr,
+) -> Numbered<i64>
+    requires { FewValues (expr_seen inner.now) }
+    ensures value { Gives same (then_do (fetch (flat base) (spot_seen spot.now) (state_of store.old)) (λ v u. then_do (eval (flat base) (expr_seen inner.now) u) (λ w x. then_do (computed op.now kind.now v w x) (the.store (flat base) (spot_seen spot.now))))) (narrowed result) (state_of store.new) }
+    ensures kept { Keeps store.old store.new }
+{
+    let before = fetch(store, *spot)?;
+    let number = operand(store, base, inner)?;
+    let after = compute(*op, *kind, before, number)?;
+    Ok(put(store, *spot, after))
+}
+
+/// What `putchar` gives.
+#[cycle(expressions)]
+#[inline(never)]
+fn eval_putchar(store: &mut Store, base: u32, inner: &FlatExpr) -> Numbered<i64>
+    requires { FewValues (expr_seen inner.now) }
+    ensures value { Gives same (eval (flat base) (output_byte (expr_seen inner.now)) (state_of store.old)) (narrowed result) (state_of store.new) }
+    ensures kept { Keeps store.old store.new }
+{
+    let value = operand(store, base, inner)?;
+    let given = write_low(store, value);
+    widen(given)
+}
+
+/// What `printf` gives: it evaluates all its values, and then writes (C11 7.21.6.3).
+#[cycle(expressions)]
+#[inline(never)]
+fn eval_format(store: &mut Store, base: u32, pieces: &[Piece], exprs: &[FlatExpr]) -> Numbered<i64>
     requires few { length exprs.now ≤ 8 }
     requires each { All FewValues (map expr_seen exprs.now) }
-    ensures value { Gives same (eval (flat base) (formatted pieces.now (exprs_of (map expr_seen exprs.now))) (state_of store.old)) result (state_of store.new) }
+    ensures value { Gives same (eval (flat base) (formatted pieces.now (exprs_of (map expr_seen exprs.now))) (state_of store.old)) (narrowed result) (state_of store.new) }
     ensures kept { Keeps store.old store.new }
 {
     let mut values = ArrayVec::new();
     eval_values(store, base, exprs, &mut values)?;
-    write_format(store, pieces, values.as_slice())
+    let given = write_format(store, pieces, values.as_slice());
+    widen(given)
 }
 
 /// What expressions give, from left to right.
@@ -222,37 +404,39 @@ fn eval_values(
     base: u32,
     exprs: &[FlatExpr],
     values: &mut ArrayVec<i64, MOST_VALUES>,
-) -> Result<(), Trap>
+) -> Numbered<()>
     requires few { length exprs.now ≤ 8 }
     requires empty { values.old.items ≡ [] }
     requires each { All FewValues (map expr_seen exprs.now) }
-    ensures value { Gives (λ _. values.new.items) (eval_all (flat base) (exprs_of (map expr_seen exprs.now)) (state_of store.old)) result (state_of store.new) }
+    ensures value { Gives (λ _. values.new.items) (eval_all (flat base) (exprs_of (map expr_seen exprs.now)) (state_of store.old)) (narrowed result) (state_of store.new) }
     ensures kept { Keeps store.old store.new }
 {
     for expr in exprs {
-        values.push(eval(store, base, expr)?);
+        values.push(operand(store, base, expr)?);
     }
     Ok(())
 }
 
 /// What an expression gives, converted to a kind.
 #[cycle(expressions)]
-fn eval_as(store: &mut Store, base: u32, kind: IntKind, expr: &FlatExpr) -> Result<i64, Trap>
+#[inline(never)]
+fn eval_as(store: &mut Store, base: u32, kind: &IntKind, expr: &FlatExpr) -> Numbered<i64>
     requires { FewValues (expr_seen expr.now) }
-    ensures value { Gives same (then_do (eval (flat base) (expr_seen expr.now) (state_of store.old)) (λ w u. value (convert kind w) u)) result (state_of store.new) }
+    ensures value { Gives same (then_do (eval (flat base) (expr_seen expr.now) (state_of store.old)) (λ w u. value (convert kind.now w) u)) (narrowed result) (state_of store.new) }
     ensures kept { Keeps store.old store.new }
 {
-    let value = eval(store, base, expr)?;
-    Ok(convert(kind, value))
+    let value = operand(store, base, expr)?;
+    Ok(convert(*kind, value))
 }
 
 /// Whether what an expression gives isn't 0, as 1 or 0.
 #[cycle(expressions)]
-fn eval_truth(store: &mut Store, base: u32, expr: &FlatExpr) -> Result<i64, Trap>
+#[inline(never)]
+fn eval_truth(store: &mut Store, base: u32, expr: &FlatExpr) -> Numbered<i64>
     requires { FewValues (expr_seen expr.now) }
-    ensures value { Gives same (then_do (eval (flat base) (expr_seen expr.now) (state_of store.old)) (λ w u. value (is_nonzero w) u)) result (state_of store.new) }
+    ensures value { Gives same (then_do (eval (flat base) (expr_seen expr.now) (state_of store.old)) (λ w u. value (is_nonzero w) u)) (narrowed result) (state_of store.new) }
     ensures kept { Keeps store.old store.new }
 {
-    let value = eval(store, base, expr)?;
+    let value = operand(store, base, expr)?;
     Ok(i64::from(value != 0))
 }

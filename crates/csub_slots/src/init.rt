@@ -53,6 +53,7 @@ fn take_step(store: &mut Store, base: u32, step: &FlatWrite) -> Result<(), Trap>
 }
 
 /// An object of the frame at a base gets its initial contents, step by step (C11 6.7.9).
+#[inline(never)]
 pub fn initialise(store: &mut Store, base: u32, steps: &[FlatWrite]) -> Result<(), Trap>
     requires { All FewInWrite (map write_seen steps.now) }
     ensures value { Gives nothing (flat_begins base (map write_seen steps.now) (state_of store.old)) result (state_of store.new) }

@@ -25,6 +25,7 @@ mod begin;
 mod eval;
 mod init;
 mod output;
+mod registers;
 mod slot;
 mod spot;
 mod store;

@@ -18,6 +18,7 @@ pub enum Slot {
 const _: () = prove!(size_of::<Slot>() == 16);
 
 /// The slot at a place; behind the last one nothing.
+#[inline(always)]
 pub fn slot_at(slots: &[Slot], at: usize) -> Slot
     ensures { slot_seen result ≡ slice_index_or (map slot_seen slots.now) at layout.empty }
 {
@@ -29,6 +30,7 @@ pub fn slot_at(slots: &[Slot], at: usize) -> Slot
 }
 
 /// A slot gets a content; behind the last one nothing happens.
+#[inline(always)]
 pub fn set_slot(slots: &mut [Slot], at: usize, slot: Slot)
     ensures { map slot_seen slots.new ≡ slice_set (map slot_seen slots.old) at (slot_seen slot) }
 {

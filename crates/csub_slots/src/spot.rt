@@ -5,9 +5,11 @@ ghost use Rattle.csub_semantics.specs.Evaluation.{indexed};
 ghost use Rattle.csub_flat.specs.Seen.{form_seen, variable_seen, part_seen};
 ghost use Rattle.csub_slots.specs.Memory.{behind, flat_stand, part_at, spots};
 ghost use Rattle.csub_slots.specs.Acts.{FlatStore, referring_to};
+ghost use Rattle.csub_slots.specs.Numbered.{narrowed};
 ghost use Rattle.csub_slots.specs.Seen.{slot_seen, spot_seen};
 ghost use Rattle.csub_slots.specs.States.{Gives};
 
+use crate::registers::{Numbered, number_of};
 use crate::slot::{Slot, slot_at};
 use csub_flat::{FlatPart, FlatVariable, Form};
 use csub_semantics::Trap;
@@ -25,8 +27,9 @@ pub struct Spot {
 }
 
 /// Where the array is to which a slot refers; a slot that refers to none is the trap `unset`.
-fn behind(form: Form, slot: Slot) -> Result<Spot, Trap>
-    ensures { (s : FlatStore) → Gives spot_seen (found (behind (form_seen form) (slot_seen slot)) s) result s }
+#[inline(always)]
+fn behind(form: Form, slot: Slot) -> Numbered<Spot>
+    ensures { (s : FlatStore) → Gives spot_seen (found (behind (form_seen form) (slot_seen slot)) s) (narrowed result) s }
 {
     match slot {
         Slot::Referring(at, length) => Ok(Spot {
@@ -36,14 +39,15 @@ fn behind(form: Form, slot: Slot) -> Result<Spot, Trap>
                 length,
             },
         }),
-        Slot::Empty | Slot::Holding(_) => Err(Trap::Unset),
+        Slot::Empty | Slot::Holding(_) => Err(number_of(Trap::Unset)),
     }
 }
 
 /// Where a variable is, for the frame whose slots begin at a base. An array parameter is where its slot refers to, and is
 /// the trap `unset` where it got no array.
-pub fn stand(slots: &[Slot], base: u32, variable: FlatVariable) -> Result<Spot, Trap>
-    ensures { (s : FlatStore) → Gives spot_seen (found (flat_stand base (variable_seen variable) (map slot_seen slots.now)) s) result s }
+#[inline(always)]
+pub fn stand(slots: &[Slot], base: u32, variable: FlatVariable) -> Numbered<Spot>
+    ensures { (s : FlatStore) → Gives spot_seen (found (flat_stand base (variable_seen variable) (map slot_seen slots.now)) s) (narrowed result) s }
 {
     match variable {
         FlatVariable::Frame(slot, form) => Ok(Spot {
@@ -61,6 +65,7 @@ pub fn stand(slots: &[Slot], base: u32, variable: FlatVariable) -> Result<Spot, 
 }
 
 /// A part that begins so many slots behind a spot.
+#[inline(always)]
 fn part_at(part: FlatPart, spot: Spot, before: usize) -> Spot
     ensures { spot_seen result ≡ part_at (part_seen part) (spot_seen spot) before }
 {
@@ -71,16 +76,18 @@ fn part_at(part: FlatPart, spot: Spot, before: usize) -> Spot
 }
 
 /// An element of the array at a spot; an index that isn't that of an element is the trap `bounds`.
-pub fn element(part: FlatPart, spot: Spot, index: i64) -> Result<Spot, Trap>
-    ensures { (s : FlatStore) → Gives spot_seen (indexed spots (part_seen part) (spot_seen spot) index s) result s }
+#[inline(always)]
+pub fn element(part: FlatPart, spot: Spot, index: i64) -> Numbered<Spot>
+    ensures { (s : FlatStore) → Gives spot_seen (indexed spots (part_seen part) (spot_seen spot) index s) (narrowed result) s }
 {
     if index < 0 || i64::from(spot.form.length) <= index {
-        return Err(Trap::Bounds);
+        return Err(number_of(Trap::Bounds));
     }
     Ok(part_at(part, spot, index as usize * part.slots as usize))
 }
 
 /// A member of the struct at a spot.
+#[inline(always)]
 pub fn member(part: FlatPart, spot: Spot) -> Spot
     ensures { spot_seen result ≡ spots.member (part_seen part) (spot_seen spot) }
 {
