@@ -8,7 +8,7 @@ from typing import Dict, List, NamedTuple, Optional, Tuple
 
 from .compare import RUN, Compared, Parts, compared, parts_of
 from .errors import ToolError
-from .files import read_file
+from .files import check_folder, read_file
 from .formats import History, history_text, read_history
 from .histories import NoHistory, joined, keep, limited, read_kept
 from .listing import Coverage, check_points, coverage_of

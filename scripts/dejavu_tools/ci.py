@@ -139,14 +139,20 @@ def tried(clones: Clones, text: str) -> Iterator[str]:
     """Runs all lines of the document `text`, and tells of each that doesn't answer what it has to."""
     workflow, matrix = blocks(text, "yaml")
     script, *recipe = blocks(text, "sh")
-    (line,) = run_lines(workflow)
-    yield from told("workflow", tried_workflow(clones, line))
+    (line,), (line_of_suite,) = run_lines(workflow), run_lines(matrix)
+    yield from told("workflow", tried_workflow(clones, line), SUMMARIES)
     yield from missing("workflow", [clones.scratch / f"checkout-{branch}" for branch in SUMMARIES])
-    yield from told("script", tried_script(clones, script))
+    if values_of(matrix, "suite") != list(OF_SUITES) or SUITE not in line_of_suite:
+        yield "matrix: it has other suites, or its line names none"
+    for suite, wanted in OF_SUITES.items():
+        yield from told(suite, tried_workflow(clones, line_of_suite.replace(SUITE, suite), f"{suite}-"), wanted)
+    yield from told("script", tried_script(clones, script), SUMMARIES)
     yield from missing("script", [clones.scratch / f"reports-{branch}" for branch in SUMMARIES])
-    answer, wanted = tried_recipe(clones, recipe), Answer("".join(f"{name} fails\n" for name in FAILING), 0)
-    if answer != wanted:
-        yield f"recipe: {answer}, and not {wanted}"
+    failing = Answer("".join(f"{name} fails\n" for name in FAILING), 0)
+    for runner in ("", "valgrind --quiet"):
+        answer = failing if runner and not shutil.which("valgrind") else tried_recipe(clones, recipe, runner)
+        if answer != failing:
+            yield f"recipe {runner}: {answer}, and not {failing}"
 
 
 def told(what: str, answers: Dict[str, Answer], wanted: Dict[str, Answer]) -> Iterator[str]:
@@ -168,9 +174,12 @@ def missing(what: str, folders: Sequence[Path]) -> Iterator[str]:
                 yield f"{what}: there is no {name} in {folder.name}"
 
 
-def tried_workflow(clones: Clones, line: str) -> Dict[str, Answer]:
-    """What a line of a workflow answers on `main` and for the change; a folder stands for the cache."""
-    cache, answers = clones.scratch / "cache", {}
+def tried_workflow(clones: Clones, line: str, name: str = "") -> Dict[str, Answer]:
+    """What a line of a workflow answers on `main` and for the change; a folder stands for the cache.
+
+    The names of its folders begin with `name`.
+    """
+    cache, answers = clones.scratch / f"{name}cache", {}
     for branch in ("main", "merge"):
         folder = clones.fresh(f"{name}checkout-{branch}", branch)
         moved(cache, folder / ".dejavu")

@@ -2,7 +2,7 @@
 from __future__ import annotations
 
 import os
-import subprocess
+import re
 from concurrent.futures import ThreadPoolExecutor
 from functools import partial
 from pathlib import Path
@@ -13,7 +13,7 @@ from .files import write_whole
 from .formats import History, Test, read_history, suite_text
 from .histories import NoHistory
 from .points import Graph, read_points
-from .programs import Answer
+from .programs import Answer, output_of
 from .refusals import Message, Place, files_of, message_of
 from .sides import Side
 from .walks import Explanation, Walk, read_choice, read_explanation, read_walk
@@ -84,17 +84,14 @@ class Runs:
 
     def output(self, program: Path, words: Sequence[str]) -> bytes:
         """What a program writes for these words, with the same errors."""
-        try:
-            done = subprocess.run([program, *words], stdin=subprocess.DEVNULL, stdout=subprocess.PIPE, check=False)
-        except OSError as error:
-            raise ToolError(f"{program}: {error.strerror}") from error
-        refusal = Answer(done.returncode, done.stdout).refusal
+        status, output = output_of(program, words)
+        refusal = Answer(status, output).refusal
         if refusal:
-            raise self.refused(message_of(refusal, files_of(words), self.origin), done.returncode)
-        if done.returncode:
-            ended = f"ended with status {done.returncode}" if done.returncode > 0 else "was ended by a signal"
+            raise self.refused(message_of(refusal, files_of(words), self.origin), status)
+        if status:
+            ended = f"ended with status {status}" if status > 0 else "was ended by a signal"
             raise ToolError(f"{program} {words[0]} {ended}")
-        return done.stdout
+        return output
 
     def refused(self, message: Message, status: int) -> ToolError:
         """What is told of a refusal; a unit that was made stands in it by the name of its version."""

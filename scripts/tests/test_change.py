@@ -11,6 +11,7 @@ import tempfile
 import time
 import traceback
 import unittest
+from types import SimpleNamespace
 from unittest import mock
 from xml.etree import ElementTree
 

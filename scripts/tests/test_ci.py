@@ -3,7 +3,7 @@ import unittest
 
 from support import TOP, InFolder
 
-from dejavu_tools.ci import blocks, missing, run_lines
+from dejavu_tools.ci import blocks, missing, run_lines, values_of
 
 TEXT = """Words.
 
