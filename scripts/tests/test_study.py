@@ -345,5 +345,26 @@ class Plots(InFolder):
         self.assertEqual(list(made[0]), sorted(plots.NAMES))
 
 
+class Document(unittest.TestCase):
+    """docs/study.md shows the figures of docs/study/figures.json."""
+
+    FOLDER = TOP / "docs" / "study"
+
+    def setUp(self):
+        self.text = (TOP / "docs" / "study.md").read_text(encoding="utf-8")
+        self.figures = figures.read_figures(self.FOLDER / "figures.json")
+
+    def test_tables(self):
+        part = self.text.split("\n### The choices\n")[1].split("\n## ")[0]
+        self.assertEqual(table.tables(self.figures), f"### The choices\n{part}".splitlines())
+
+    def test_plots_are_of_the_same_figures(self):
+        for name in plots.NAMES:
+            self.assertRegex(self.text, rf"!\[[^\]]{{40,}}\]\(study/{re.escape(name)}\)")  # with a text for the blind
+            svg = (self.FOLDER / name).read_text(encoding="utf-8")
+            self.assertIn(f"<dc:source>{figures.sum_of(self.figures)}</dc:source>", svg)
+            self.assertLess(len(svg), 60_000)
+
+
 if __name__ == "__main__":
     unittest.main()
