@@ -45,6 +45,7 @@ pub fn unary_kind(op: UnaryOp, kind: IntKind) -> IntKind
 }
 
 /// What an operator gives on one operand of a promoted kind (C11 6.5.3.3). The only trap is `Overflow`.
+#[inline(always)]
 pub fn unary(op: UnaryOp, kind: IntKind, a: i64) -> Result<i64, Trap>
     requires promoted { IsPromoted kind }
     requires operand { IsOf kind a }
@@ -62,6 +63,7 @@ pub fn unary(op: UnaryOp, kind: IntKind, a: i64) -> Result<i64, Trap>
 
 /// What an operator gives on two operands of a promoted kind (C11 6.5.5 to 6.5.12); the right operand of a shift
 /// is any number. The traps are `Overflow`, `Divide` and `Shift`.
+#[inline(always)]
 pub fn binary(op: BinOp, kind: IntKind, a: i64, b: i64) -> Result<i64, Trap>
     requires promoted { IsPromoted kind }
     requires left { IsOf kind a }
@@ -91,6 +93,7 @@ pub fn binary(op: BinOp, kind: IntKind, a: i64, b: i64) -> Result<i64, Trap>
 }
 
 /// 1 or 0, as comparisons, `!`, `&&` and `||` give.
+#[inline(always)]
 pub fn truth(holds: bool) -> i64
     ensures { result ≡ truth holds }
 {
@@ -98,6 +101,7 @@ pub fn truth(holds: bool) -> i64
 }
 
 /// A product.
+#[inline(always)]
 fn multiply(kind: IntKind, a: i64, b: i64) -> Result<i64, Trap>
     requires promoted { IsPromoted kind }
     requires left { IsOf kind a }
@@ -115,6 +119,7 @@ fn multiply(kind: IntKind, a: i64, b: i64) -> Result<i64, Trap>
 }
 
 /// The low 32 bits.
+#[inline(always)]
 fn low_bits(a: i64) -> u32
     ensures { result ≡ low_bits Int a }
 {

@@ -14,6 +14,7 @@ pub enum IntKind {
 }
 
 /// The kind that an operand alone gets: the integer promotions (C11 6.3.1.1p2).
+#[inline(always)]
 pub fn promote(kind: IntKind) -> IntKind
     ensures value { result ≡ promote kind }
     ensures promoted { IsPromoted result }
@@ -37,6 +38,7 @@ pub fn common(a: IntKind, b: IntKind) -> IntKind
 }
 
 /// The number of the kind that has the same low bits as `a`, which is any number (C11 6.3.1.3).
+#[inline(always)]
 pub fn convert(kind: IntKind, a: i64) -> i64
     ensures value { result ≡ convert kind a }
     ensures of_kind { IsOf kind result }
@@ -45,18 +47,8 @@ pub fn convert(kind: IntKind, a: i64) -> i64
     ensures same { IsOf kind a → result ≡ a }
 {
     match kind {
-        IntKind::Char => {
-            let low = a.rem_euclid(256);
-            if low < 128 { low } else { low - 256 }
-        }
-        IntKind::Int => {
-            let low = a.rem_euclid(4_294_967_296);
-            if low < 2_147_483_648 {
-                low
-            } else {
-                low - 4_294_967_296
-            }
-        }
+        IntKind::Char => i64::from((a.rem_euclid(256) as u8).cast_signed()),
+        IntKind::Int => i64::from((a.rem_euclid(4_294_967_296) as u32).cast_signed()),
         IntKind::Unsigned => a.rem_euclid(4_294_967_296),
     }
 }

@@ -6,6 +6,7 @@ use crate::kind::{IntKind, convert};
 use crate::trap::Trap;
 
 /// An exact result: it wraps where the kind is `Unsigned`, and else it is a number of `int` or an overflow.
+#[inline(always)]
 pub(crate) fn settle(kind: IntKind, exact: i64) -> Result<i64, Trap>
     ensures { result ≡ settled kind exact }
 {
