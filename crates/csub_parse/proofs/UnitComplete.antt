@@ -14,39 +14,36 @@ use Rattle.csub_tree.specs.Units.{Constant, Item, Struct, Enum, Object, Prototyp
 use Rattle.csub_tree.specs.Depth.{most, declarator_depth, declare_depth, param_depth, head_depth, stmts_depth, constant_depth, item_depth, unit_depth}
 use Rattle.csub_tree.specs.Tokens.{mark, key, id, last}
 use Rattle.csub_tree.specs.Lists.{Each, one_more, Separated, Optional, missing, present, Trailing, no_comma, comma}
-use Rattle.csub_tree.specs.SpellsExpressions.{SpellsNumber}
+use Rattle.csub_tree.specs.SpellsExpressions.{SpellsNumber, conditional}
 use Rattle.csub_tree.specs.SpellsDeclarations.{numeric, structure, SpellsVar, SpellsField, SpellsDecl, decl, SpellsName, identifier, SpellsParams, nothing, value, SpellsHead, head}
 use Rattle.csub_tree.specs.SpellsStatements.{SpellsLines}
 use Rattle.csub_tree.specs.Spells as spells
 use Rattle.csub_tree.specs.Spells.{SpellsConstant, counted, valued, SpellsItem, Spells, unit}
-use Rattle.csub_expr.specs.Looks.{begins, begins_key, rest, head_span}
+use Rattle.csub_expr.specs.Looks.{begins, begins_key, op_at, tail_at, rest, head_span}
 use Rattle.csub_expr.specs.Answers.{done, expect, expect_name}
 use Rattle.csub_expr.specs.ListDescent.{separated, repeated}
-use Rattle.csub_expr.proofs.LawsExpressions.{depth_pos}
+use Rattle.csub_expr.specs.Laws.{Ends}
+use Rattle.csub_expr.proofs.LawsExpressions.{complete_conditional, depth_pos}
 use Rattle.csub_expr.proofs.LawsTokens.{last_token, last_behind, nonempty_append}
-use Rattle.csub_parse.specs.Openings.{begins_name, at_end}
-use Rattle.csub_parse.specs.DeclarationDescent.{from_to, decl_after, field_at}
-use Rattle.csub_parse.specs.StatementDescent.{read_line}
-use Rattle.csub_parse.specs.UnitDescent.{constant_after, constant_at, enum_behind, enum_at, fields_after, members_at, object_behind, object_after, tagged_at, struct_at, body_at, head_after, function_at, void_at, numbered_after, numbered_at, item_from, item_at, read_item, read_unit}
-use Rattle.csub_parse.proofs.Given.{Laws, EndsConditional, stops_comma, stops_brace}
-use Rattle.csub_parse.proofs.Sequences.{each_reads, some_reads, trailing_reads}
-use Rattle.csub_parse.proofs.BaseSound.{field_some, decl_some}
-use Rattle.csub_parse.proofs.DeclarationOpens.{span_again, numeric_reads, number_opens, field_opens}
-use Rattle.csub_parse.proofs.DeclarationComplete.{row_behind, decl_behind_reads, field_reads, params_reads}
-use Rattle.csub_parse.proofs.StatementComplete.{list_again, lines_read}
+use Rattle.csub_stmt.specs.Openings.{begins_name}
+use Rattle.csub_stmt.specs.DeclarationDescent.{from_to, decl_after, field_at}
+use Rattle.csub_parse.specs.UnitDescent.{at_end, constant_after, constant_at, enum_behind, enum_at, fields_after, members_at, object_behind, object_after, tagged_at, struct_at, body_at, head_after, function_at, void_at, numbered_after, numbered_at, item_from, item_at, read_item, read_unit}
+use Rattle.csub_stmt.proofs.LawsSequences.{each_reads, some_reads, trailing_reads}
+use Rattle.csub_stmt.proofs.LawsDeclarations.{field_some, decl_some, span_again, numeric_reads, number_opens, field_opens, row_behind, decl_behind_reads, field_reads, params_reads}
+use Rattle.csub_stmt.proofs.LawsStatements.{list_again, lines_complete}
 use Rattle.csub_parse.proofs.UnitSound.{item_some}
 
 -- what may follow a constant
 abbrev OkayConstant : List Token → Type 0
-OkayConstant r = (begins marks.Equal r ≡ false) × EndsConditional r
+OkayConstant r = (begins marks.Equal r ≡ false) × Ends conditional r
 
 constant_comma : (a : Span) (r : List Token) → OkayConstant (mark marks.Comma a ∷ r)
-unfolding begins
-constant_comma a r = (refl, stops_comma a r)
+unfolding begins op_at tail_at
+constant_comma a r = (refl, ((refl, refl), (λ j lt. refl), refl))
 
 constant_brace : (a : Span) (r : List Token) → OkayConstant (mark marks.CloseBrace a ∷ r)
-unfolding begins
-constant_brace a r = (refl, stops_brace a r)
+unfolding begins op_at tail_at
+constant_brace a r = (refl, ((refl, refl), (λ j lt. refl), refl))
 
 constant_opens : (c : Constant) (s : List Token) → SpellsConstant c s → (r : List Token) → begins marks.CloseBrace (s ++ r) ≡ false
 unfolding begins
@@ -68,11 +65,11 @@ name_here : (n : Name) (u : List Token) → expect_name (id n ∷ u) ≡ Ok (n, 
 unfolding expect_name rest head_span
 name_here n u = refl
 
-module _ (laws : Laws) (d : ℕ) where
+module _ (d : ℕ) where
   constant_reads : (c : Constant) (s : List Token) → SpellsConstant c s → constant_depth c ≤ d → (r : List Token) → OkayConstant r → constant_at d (s ++ r) ≡ Ok (c, r)
   unfolding constant_at constant_after expect_name begins rest head_span
   constant_reads _ _ (counted n) fits r okay = rw (begins, okay.0) refl
-  constant_reads _ _ (valued {e = e} n a h) fits r okay = rw (le-leb 1 d (omega (arith, fits, depth_pos e)), laws.conditional_reads h d fits r okay.1) refl
+  constant_reads _ _ (valued {e = e} n a h) fits r okay = rw (le-leb 1 d (omega (arith, fits, depth_pos e)), complete_conditional _ _ h d fits r okay.1) refl
 
   -- constants, and a comma more
   constants_read : {cs : List Constant} {t u : List Token} → Separated Constant SpellsConstant cs t → most (map constant_depth cs) ≤ d → Trailing u → (a : Span) (r : List Token) → (f : ℕ) → length t < f
@@ -104,8 +101,8 @@ module _ (laws : Laws) (d : ℕ) where
       let q = mark marks.CloseBrace c ∷ mark marks.Semicolon e ∷ r in
       rw (
         append_assoc s t q,
-        field_reads laws d x s h (omega (arith, fits)) (t ++ q) tt,
-        each_reads Declare SpellsField declare_depth d (field_at d) Any (field_reads laws d) (begins marks.CloseBrace) field_okay (λ y w k. field_some k) hs (omega (arith, fits)) (suc (length (t ++ q))) (omega (arith, length-append t q)) q tt refl,
+        field_reads d x s h (omega (arith, fits)) (t ++ q) tt,
+        each_reads Declare SpellsField declare_depth d (field_at d) Any (field_reads d) (begins marks.CloseBrace) field_okay (λ y w k. field_some k) hs (omega (arith, fits)) (suc (length (t ++ q))) (omega (arith, length-append t q)) q tt refl,
       ) refl
 
   -- objects: what was read first decides that no other item can stand here
@@ -117,7 +114,7 @@ module _ (laws : Laws) (d : ℕ) where
       → item_from d start (s ++ (t ++ (mark marks.Semicolon a ∷ r))) ≡ Ok (Object (record { base = b; vars = vs; span = from_to start a.end }), r)
   unfolding item_from numbered_at
   object_numeric {b = b} {s = s} start hb {vs = vs} {t = t} h fits a r =
-      let w = row_behind laws d h fits in
+      let w = row_behind d h fits in
       let q = mark marks.Semicolon a ∷ r in
       let o = number_opens hb (t ++ q) in
       let named : t ++ q ≡ id w.n ∷ (w.t ++ q) = ap (λ (u : List Token). u ++ q) w.parts in
@@ -128,10 +125,10 @@ module _ (laws : Laws) (d : ℕ) where
       → item_from d start (key keys.Struct k ∷ id m ∷ (t ++ (mark marks.Semicolon a ∷ r))) ≡ Ok (Object (record { base = types.Struct m; vars = vs; span = from_to start a.end }), r)
   unfolding item_from struct_at tagged_at object_behind expect_name begins_key rest head_span
   object_struct k m {t = t} h fits start a r =
-      let w = row_behind laws d h fits in
+      let w = row_behind d h fits in
       let q = mark marks.Semicolon a ∷ r in
       let no_brace : begins marks.OpenBrace (t ++ q) ≡ false = ap (λ (u : List Token). begins marks.OpenBrace (u ++ q)) w.parts ∙ name_no_brace w.n (w.t ++ q) in
-      rw (no_brace, decl_behind_reads laws d (types.Struct m) start h fits a r) refl
+      rw (no_brace, decl_behind_reads d (types.Struct m) start h fits a r) refl
 
   object_reads : (x : Declare) (s : List Token) → SpellsDecl x s → declare_depth x ≤ d → (r : List Token) → item_at d (s ++ r) ≡ Ok (Object x, r)
   unfolding item_at
@@ -157,7 +154,7 @@ module _ (laws : Laws) (d : ℕ) where
   function_reads : (b : TypeName) (start : ℕ) (n : Name) {ps : List Param} {t : List Token} → SpellsParams ps t → most (map param_depth ps) ≤ d → (c : Span) (r : List Token)
       → function_at d b start n (t ++ (mark marks.CloseParen c ∷ r)) ≡ head_after d (record { result = b; name = n; params = ps }) start r
   unfolding function_at expect begins rest head_span
-  function_reads b start n h fits c r = rw (params_reads laws d h fits c r) refl
+  function_reads b start n h fits c r = rw (params_reads d h fits c r) refl
 
   numbered_function : (b : TypeName) (start : ℕ) (n : Name) (o : Span) (ts : List Token) → numbered_after d b start n (mark marks.OpenParen o ∷ ts) ≡ function_at d b start n ts
   unfolding numbered_after begins rest
@@ -190,10 +187,10 @@ module _ (laws : Laws) (d : ℕ) where
   prototype_end h start a r = refl
 
   body_reads : (h : Head) (start : ℕ) {xs : Stmts} {t : List Token} → SpellsLines xs t → stmts_depth xs ≤ d → (a b : Span) (r : List Token) → head_after d h start (mark marks.OpenBrace a ∷ (t ++ (mark marks.CloseBrace b ∷ r))) ≡ Ok (Function h xs (from_to start b.end), r)
-  unfolding head_after body_at read_line expect begins rest head_span
+  unfolding head_after body_at expect begins rest head_span
   body_reads h start {xs = xs} {t = t} ls fits a b r =
       let c = mark marks.CloseBrace b in
-      rw (lines_read laws ls d fits (suc (length (t ++ (c ∷ r)))) (omega (arith, length-append t (c ∷ r))) (c ∷ r) refl, list_again xs) refl
+      rw (lines_complete ls d fits (c ∷ r) refl, list_again xs) refl
 
   item_at_reads : {x : Item} {s : List Token} → SpellsItem x s → item_depth x ≤ suc d → (r : List Token) → item_at d (s ++ r) ≡ Ok (x, r)
   unfolding item_at item_from struct_at tagged_at expect_name begins_key begins rest head_span
@@ -228,10 +225,10 @@ item_deep (Object x) = omega arith
 item_deep (Prototype h) = omega arith
 item_deep (Function h xs sp) = omega arith
 
-pub item_reads : (laws : Laws) (d : ℕ) (x : Item) (s : List Token) → SpellsItem x s → item_depth x ≤ d → (r : List Token) → Any r → read_item d (s ++ r) ≡ Ok (x, r)
+pub item_reads : (d : ℕ) (x : Item) (s : List Token) → SpellsItem x s → item_depth x ≤ d → (r : List Token) → Any r → read_item d (s ++ r) ≡ Ok (x, r)
 unfolding read_item
-item_reads laws zero x s h fits r any = absurd (omega (arith, fits, item_deep x))
-item_reads laws (suc d) x s h fits r any = item_at_reads laws d h fits r
+item_reads zero x s h fits r any = absurd (omega (arith, fits, item_deep x))
+item_reads (suc d) x s h fits r any = item_at_reads d h fits r
 
 some_at_end : (s r : List Token) → 0 < length s → at_end (s ++ r) ≡ false
 unfolding at_end
@@ -246,10 +243,10 @@ append_nothing : (s : List Token) → s ++ [] ≡ s
 append_nothing [] = refl
 append_nothing (t ∷ s) = ap (λ (u : List Token). t ∷ u) (append_nothing s)
 
-pub unit_reads : (laws : Laws) (d : ℕ) {x : Source} {s : List Token} → Spells x s → unit_depth x ≤ d → read_unit d s ≡ Ok (x, [])
+pub unit_reads : (d : ℕ) {x : Source} {s : List Token} → Spells x s → unit_depth x ≤ d → read_unit d s ≡ Ok (x, [])
 unfolding read_unit
-unit_reads laws zero (unit h) fits = absurd (omega (arith, fits))
-unit_reads laws (suc d) {s = s} (unit {is = is} h) fits =
+unit_reads zero (unit h) fits = absurd (omega (arith, fits))
+unit_reads (suc d) {s = s} (unit {is = is} h) fits =
     let whole : repeated (read_item d) at_end (suc (length s)) s ≡ Ok (is, []) = subst (λ (u : List Token). repeated (read_item d) at_end (suc (length s)) u ≡ Ok (is, [])) (append_nothing s)
-    (each_reads Item SpellsItem item_depth d (read_item d) Any (item_reads laws d) at_end (λ x t k fits_x r. (some_at_end t r (item_some k), tt)) (λ x t k. item_some k) h (omega (arith, fits)) (suc (length s)) (omega arith) [] tt nothing_at_end) in
+    (each_reads Item SpellsItem item_depth d (read_item d) Any (item_reads d) at_end (λ x t k fits_x r. (some_at_end t r (item_some k), tt)) (λ x t k. item_some k) h (omega (arith, fits)) (suc (length s)) (omega arith) [] tt nothing_at_end) in
     rw whole refl

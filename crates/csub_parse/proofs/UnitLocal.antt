@@ -19,16 +19,13 @@ use Rattle.csub_expr.specs.ExprDescent.{read}
 use Rattle.csub_expr.proofs.LawsLocal.{Local, SameAtHead, local_bind, local_done, local_refuse, local_rest, local_if, local_expect, local_name, same_begins, same_begins_key}
 use Rattle.csub_expr.proofs.LawsLists.{local_separated}
 use Rattle.csub_expr.proofs.LawsExpressions.{local_read}
-use Rattle.csub_parse.specs.Openings.{begins_name, at_end}
-use Rattle.csub_parse.specs.DeclarationDescent.{from_to, numeric_at, decl_after, decl_behind, field_at, params_at}
-use Rattle.csub_parse.specs.StatementDescent.{read_line}
-use Rattle.csub_parse.specs.UnitDescent.{constant_after, constant_at, enum_behind, enum_at, fields_after, members_at, object_behind, object_after, tagged_at, struct_at, body_at, head_after, function_at, void_at, numbered_after, numbered_at, item_from, item_at, read_item, read_unit}
-use Rattle.csub_parse.proofs.Given.{Laws}
-use Rattle.csub_parse.proofs.Sequences.{local_repeated}
-use Rattle.csub_parse.proofs.DeclarationSound.{field_shorter}
-use Rattle.csub_parse.proofs.DeclarationLocal.{same_begins_name, local_start, local_numeric, local_decl_after, local_decl_behind, local_field, local_params}
-use Rattle.csub_parse.proofs.StatementSound.{read_line_shorter}
-use Rattle.csub_parse.proofs.StatementLocal.{local_read_line}
+use Rattle.csub_stmt.specs.Openings.{begins_name}
+use Rattle.csub_stmt.specs.DeclarationDescent.{from_to, numeric_at, decl_after, decl_behind, field_at, params_at}
+use Rattle.csub_stmt.specs.StatementDescent.{read_lines}
+use Rattle.csub_parse.specs.UnitDescent.{at_end, constant_after, constant_at, enum_behind, enum_at, fields_after, members_at, object_behind, object_after, tagged_at, struct_at, body_at, head_after, function_at, void_at, numbered_after, numbered_at, item_from, item_at, read_item, read_unit}
+use Rattle.csub_stmt.proofs.LawsSequences.{local_repeated}
+use Rattle.csub_stmt.proofs.LawsDeclarations.{field_shorter, same_begins_name, local_start, local_numeric, local_decl_after, local_decl_behind, local_field, local_params}
+use Rattle.csub_stmt.proofs.LawsStatements.{lines_local}
 use Rattle.csub_parse.proofs.UnitSound.{constant_shorter, item_shorter}
 
 pub same_at_end : SameAtHead Bool at_end
@@ -38,7 +35,7 @@ same_at_end [] (u ∷ us) e = absurd cc
 same_at_end (t ∷ ts) [] e = absurd cc
 same_at_end (t ∷ ts) (u ∷ us) e = refl
 
-module _ (laws : Laws) (d : ℕ) where
+module _ (d : ℕ) where
   local_constant_after : (n : Name) → Local Constant (constant_after d n)
   unfolding constant_after
   local_constant_after n = local_if Constant (λ ts. begins marks.Equal ts && nat_le 1 d) (λ ts us e. ap (λ (b : Bool). b && nat_le 1 d) (same_begins marks.Equal ts us e)) (λ ts. read d conditional (rest ts) >>= λ e. done (record { name = n; value = Some e.0 }) e.1) (done (record { name = n; value = None }))
@@ -53,7 +50,7 @@ module _ (laws : Laws) (d : ℕ) where
   unfolding enum_behind
   local_enum_behind n = local_bind Span Item (expect marks.OpenBrace) (λ o us. separated (constant_at d) (begins marks.CloseBrace) (suc (length us)) us >>= λ cs. expect marks.CloseBrace cs.1 >>= λ c. expect marks.Semicolon c.1 >>= λ e. done (Enum n cs.0) e.1) (local_expect marks.OpenBrace)
       (λ o. local_bind (List Constant) Item (λ us. separated (constant_at d) (begins marks.CloseBrace) (suc (length us)) us) (λ cs us. expect marks.CloseBrace us >>= λ c. expect marks.Semicolon c.1 >>= λ e. done (Enum n cs) e.1)
-      (local_separated (constant_at d) (begins marks.CloseBrace) (constant_shorter laws d) local_constant (same_begins marks.CloseBrace))
+      (local_separated (constant_at d) (begins marks.CloseBrace) (constant_shorter d) local_constant (same_begins marks.CloseBrace))
       (λ cs. local_bind Span Item (expect marks.CloseBrace) (λ c us. expect marks.Semicolon us >>= λ e. done (Enum n cs) e.1) (local_expect marks.CloseBrace)
       (λ c. local_bind Span Item (expect marks.Semicolon) (λ e. done (Enum n cs)) (local_expect marks.Semicolon) (λ e. local_done Item (Enum n cs)))))
 
@@ -64,22 +61,22 @@ module _ (laws : Laws) (d : ℕ) where
   local_fields : (x : Declare) → Local (List Declare) (fields_after d x)
   unfolding fields_after
   local_fields x = local_bind (List Declare) (List Declare) (λ us. repeated (field_at d) (begins marks.CloseBrace) (suc (length us)) us) (λ xs. done (x ∷ xs))
-      (local_repeated Declare (field_at d) (begins marks.CloseBrace) (field_shorter d) (local_field laws d) (same_begins marks.CloseBrace)) (λ xs. local_done (List Declare) (x ∷ xs))
+      (local_repeated Declare (field_at d) (begins marks.CloseBrace) (field_shorter d) (local_field d) (same_begins marks.CloseBrace)) (λ xs. local_done (List Declare) (x ∷ xs))
 
   local_members : (n : Name) → Local Item (members_at d n)
   unfolding members_at
-  local_members n = local_bind Declare Item (field_at d) (λ x us. fields_after d x us >>= λ xs. expect marks.CloseBrace xs.1 >>= λ c. expect marks.Semicolon c.1 >>= λ e. done (Struct n xs.0) e.1) (local_field laws d)
+  local_members n = local_bind Declare Item (field_at d) (λ x us. fields_after d x us >>= λ xs. expect marks.CloseBrace xs.1 >>= λ c. expect marks.Semicolon c.1 >>= λ e. done (Struct n xs.0) e.1) (local_field d)
       (λ x. local_bind (List Declare) Item (fields_after d x) (λ xs us. expect marks.CloseBrace us >>= λ c. expect marks.Semicolon c.1 >>= λ e. done (Struct n xs) e.1) (local_fields x)
       (λ xs. local_bind Span Item (expect marks.CloseBrace) (λ c us. expect marks.Semicolon us >>= λ e. done (Struct n xs) e.1) (local_expect marks.CloseBrace)
       (λ c. local_bind Span Item (expect marks.Semicolon) (λ e. done (Struct n xs)) (local_expect marks.Semicolon) (λ e. local_done Item (Struct n xs)))))
 
   local_object_behind : (b : TypeName) (start : ℕ) → Local Item (object_behind d b start)
   unfolding object_behind
-  local_object_behind b start = local_bind Declare Item (decl_behind d b start) (λ x. done (Object x)) (local_decl_behind laws d b start) (λ x. local_done Item (Object x))
+  local_object_behind b start = local_bind Declare Item (decl_behind d b start) (λ x. done (Object x)) (local_decl_behind d b start) (λ x. local_done Item (Object x))
 
   local_object_after : (b : TypeName) (start : ℕ) (n : Name) → Local Item (object_after d b start n)
   unfolding object_after
-  local_object_after b start n = local_bind Declare Item (decl_after d b start n) (λ x. done (Object x)) (local_decl_after laws d b start n) (λ x. local_done Item (Object x))
+  local_object_after b start n = local_bind Declare Item (decl_after d b start n) (λ x. done (Object x)) (local_decl_after d b start n) (λ x. local_done Item (Object x))
 
   local_tagged : (start : ℕ) (n : Name) → Local Item (tagged_at d start n)
   unfolding tagged_at
@@ -91,8 +88,8 @@ module _ (laws : Laws) (d : ℕ) where
 
   local_body : (h : Head) (start : ℕ) → Local Item (body_at d h start)
   unfolding body_at
-  local_body h start = local_bind (List Stmt) Item (λ us. repeated (read_line d) (begins marks.CloseBrace) (suc (length us)) us) (λ xs us. expect marks.CloseBrace us >>= λ c. done (Function h (stmts_of xs) (from_to start c.0.end)) c.1)
-      (local_repeated Stmt (read_line d) (begins marks.CloseBrace) (read_line_shorter laws d) (local_read_line laws d) (same_begins marks.CloseBrace))
+  local_body h start = local_bind (List Stmt) Item (read_lines d) (λ xs us. expect marks.CloseBrace us >>= λ c. done (Function h (stmts_of xs) (from_to start c.0.end)) c.1)
+      (lines_local d)
       (λ xs. local_bind Span Item (expect marks.CloseBrace) (λ c. done (Function h (stmts_of xs) (from_to start c.end))) (local_expect marks.CloseBrace) (λ c. local_done Item (Function h (stmts_of xs) (from_to start c.end))))
 
   local_head_after : (h : Head) (start : ℕ) → Local Item (head_after d h start)
@@ -102,7 +99,7 @@ module _ (laws : Laws) (d : ℕ) where
 
   local_function : (b : TypeName) (start : ℕ) (n : Name) → Local Item (function_at d b start n)
   unfolding function_at
-  local_function b start n = local_bind (List Param) Item (params_at d) (λ ps us. expect marks.CloseParen us >>= λ c. head_after d (record { result = b; name = n; params = ps }) start c.1) (local_params laws d)
+  local_function b start n = local_bind (List Param) Item (params_at d) (λ ps us. expect marks.CloseParen us >>= λ c. head_after d (record { result = b; name = n; params = ps }) start c.1) (local_params d)
       (λ ps. local_bind Span Item (expect marks.CloseParen) (λ c. head_after d (record { result = b; name = n; params = ps }) start) (local_expect marks.CloseParen) (λ c. local_head_after (record { result = b; name = n; params = ps }) start))
 
   local_void : (start : ℕ) → Local Item (void_at d start)
@@ -129,12 +126,12 @@ module _ (laws : Laws) (d : ℕ) where
   unfolding item_at
   local_item_at = local_start Item (item_from d) local_item_from
 
-pub local_item : (laws : Laws) (d : ℕ) → Local Item (read_item d)
+pub local_item : (d : ℕ) → Local Item (read_item d)
 unfolding read_item
-local_item laws zero = local_refuse Item
-local_item laws (suc d) = local_item_at laws d
+local_item zero = local_refuse Item
+local_item (suc d) = local_item_at d
 
-pub local_unit : (laws : Laws) (d : ℕ) → Local Source (read_unit d)
+pub local_unit : (d : ℕ) → Local Source (read_unit d)
 unfolding read_unit
-local_unit laws zero = local_refuse Source
-local_unit laws (suc d) = local_bind (List Item) Source (λ ts. repeated (read_item d) at_end (suc (length ts)) ts) (λ is. done (record { items = is })) (local_repeated Item (read_item d) at_end (item_shorter laws d) (local_item laws d) same_at_end) (λ is. local_done Source (record { items = is }))
+local_unit zero = local_refuse Source
+local_unit (suc d) = local_bind (List Item) Source (λ ts. repeated (read_item d) at_end (suc (length ts)) ts) (λ is. done (record { items = is })) (local_repeated Item (read_item d) at_end (item_shorter d) (local_item d) same_at_end) (λ is. local_done Source (record { items = is }))

@@ -9,14 +9,13 @@ use Rattle.csub_tree.specs.declared.name.Name.{Name}
 use Rattle.csub_tree.specs.declared.name.TypeName.{TypeName}
 use Rattle.csub_tree.specs.declared.name.TypeName.TheVariants as types
 use Rattle.csub_tree.specs.Declarations.{Declare, Head}
-use Rattle.csub_tree.specs.Statements.{Stmt, stmts_of}
+use Rattle.csub_tree.specs.Statements.{stmts_of}
 use Rattle.csub_tree.specs.Units.{Constant, Item, Struct, Enum, Object, Prototype, Function, Source}
-use Rattle.csub_tree.specs.Depth.{most, declare_depth, head_depth, stmt_depth, constant_depth, item_depth, unit_depth}
+use Rattle.csub_tree.specs.Depth.{most, declare_depth, head_depth, constant_depth, item_depth, unit_depth}
 use Rattle.csub_tree.specs.Tokens.{mark, key, id, first, last, runs}
 use Rattle.csub_tree.specs.Lists.{Each, one_more, Optional, missing, present}
 use Rattle.csub_tree.specs.SpellsExpressions.{SpellsNumber, conditional}
 use Rattle.csub_tree.specs.SpellsDeclarations.{numeric, structure, SpellsField, SpellsDecl, SpellsName, identifier, SpellsResult, nothing, value, SpellsHead, head}
-use Rattle.csub_tree.specs.SpellsStatements.{SpellsLine}
 use Rattle.csub_tree.specs.Spells as spells
 use Rattle.csub_tree.specs.Spells.{SpellsConstant, counted, valued, SpellsItem, Spells, unit}
 use Rattle.csub_expr.specs.Looks.{begins, begins_key, rest, head_span}
@@ -26,17 +25,14 @@ use Rattle.csub_expr.specs.ExprDescent.{read}
 use Rattle.csub_expr.proofs.LawsAnswers.{bind_ok, ok_value, ok_rest, chosen, and_true}
 use Rattle.csub_expr.proofs.LawsTokens.{begins_is, begins_key_is, expect_is, expect_name_is, first_append, last_token, nonempty_append}
 use Rattle.csub_expr.proofs.LawsExpressions as expressions
-use Rattle.csub_parse.specs.Openings.{begins_name, at_end}
-use Rattle.csub_parse.specs.DeclarationDescent.{from_to, numeric_at, decl_after, decl_behind, field_at, params_at}
-use Rattle.csub_parse.specs.StatementDescent.{read_line}
-use Rattle.csub_parse.specs.UnitDescent.{constant_after, constant_at, enum_behind, enum_at, fields_after, members_at, object_behind, object_after, tagged_at, struct_at, body_at, head_after, function_at, void_at, numbered_after, numbered_at, item_from, item_at, read_item, read_unit}
-use Rattle.csub_parse.proofs.Given.{Laws}
-use Rattle.csub_parse.proofs.Takes.{Took, Sound, Shorter, took_done, took_at, took_as, took_shorter, cut_two, cut_at}
-use Rattle.csub_parse.proofs.Sequences.{repeated_sound, some_sound}
-use Rattle.csub_parse.proofs.BaseSound.{numeric_sound, starts_at, base_some, decl_some, span_from}
-use Rattle.csub_parse.proofs.DeclarationSound.{decl_after_sound, decl_behind_sound, field_sound, params_sound}
-use Rattle.csub_parse.proofs.StatementShapes.{lines_of, stmts_most}
-use Rattle.csub_parse.proofs.StatementSound.{read_line_sound}
+use Rattle.csub_stmt.specs.Openings.{begins_name}
+use Rattle.csub_stmt.specs.DeclarationDescent.{from_to, numeric_at, decl_after, decl_behind, field_at, params_at}
+use Rattle.csub_stmt.specs.StatementDescent.{read_lines}
+use Rattle.csub_parse.specs.UnitDescent.{at_end, constant_after, constant_at, enum_behind, enum_at, fields_after, members_at, object_behind, object_after, tagged_at, struct_at, body_at, head_after, function_at, void_at, numbered_after, numbered_at, item_from, item_at, read_item, read_unit}
+use Rattle.csub_stmt.proofs.LawsTakes.{Took, Sound, Shorter, took_done, took_at, took_as, took_shorter, cut_two, cut_at}
+use Rattle.csub_stmt.proofs.LawsSequences.{repeated_sound, some_sound}
+use Rattle.csub_stmt.proofs.LawsDeclarations.{numeric_sound, starts_at, base_some, decl_some, span_from, decl_after_sound, decl_behind_sound, field_sound, params_sound}
+use Rattle.csub_stmt.proofs.LawsStatements.{lines_sound}
 
 pub constant_some : {c : Constant} {s : List Token} → SpellsConstant c s → 0 < length s
 constant_some (counted n) = omega arith
@@ -68,7 +64,7 @@ record TookHead (d : ℕ) (h : Head) (start : ℕ) (ts us : List Token) : Type 0
   fits : head_depth h ≤ d
   starts : start ≡ first s
 
-module _ (laws : Laws) (d : ℕ) where
+module _ (d : ℕ) where
   constant_after_sound : (n : Name) (ts : List Token) (c : Constant) (r : List Token) → constant_after d n ts ≡ Ok (c, r) → Took Constant SpellsConstant constant_depth d (id n ∷ ts) c r
   unfolding constant_after
   constant_after_sound n ts c r h = elim (chosen (begins marks.Equal ts && nat_le 1 d) (read d conditional (rest ts) >>= λ e. done (record { name = n; value = Some e.0 }) e.1) (done (record { name = n; value = None }) ts) (Ok (c, r)) h) [
@@ -179,7 +175,7 @@ module _ (laws : Laws) (d : ℕ) where
   unfolding tagged_at object_behind
   tagged_sound a n us x r h = elim (chosen (begins marks.OpenBrace us) (members_at d n (rest us)) (decl_behind d (types.Struct n) a.start us >>= λ y. done (Object y.0) y.1) (Ok (x, r)) h) [
     | inl p ↦ took_at Item SpellsItem item_depth (suc d) (key keys.Struct a ∷ id n ∷ us) (key keys.Struct a ∷ id n ∷ mark marks.OpenBrace (head_span us) ∷ rest us) x r (ap (λ (u : List Token). key keys.Struct a ∷ id n ∷ u) (begins_is marks.OpenBrace us p.0)) (members_sound a (head_span us) n (rest us) x r p.1)
-    | inr p ↦ object_took (key keys.Struct a ∷ id n ∷ us) (decl_behind d (types.Struct n) a.start us) (λ y q e. decl_behind_sound laws d (types.Struct n) (key keys.Struct a ∷ id n ∷ []) a.start (key keys.Struct a ∷ id n ∷ us) us (structure a n) refl refl y q e) x r p.1
+    | inr p ↦ object_took (key keys.Struct a ∷ id n ∷ us) (decl_behind d (types.Struct n) a.start us) (λ y q e. decl_behind_sound d (types.Struct n) (key keys.Struct a ∷ id n ∷ []) a.start (key keys.Struct a ∷ id n ∷ us) us (structure a n) refl refl y q e) x r p.1
   ]
 
   struct_sound : (a : Span) (ts : List Token) (x : Item) (r : List Token) → struct_at d a.start ts ≡ Ok (x, r) → TookItem d (key keys.Struct a ∷ ts) x r
@@ -191,9 +187,9 @@ module _ (laws : Laws) (d : ℕ) where
   body_sound : (h : Head) (start : ℕ) (a : Span) (ts us : List Token) → TookHead d h start ts (mark marks.OpenBrace a ∷ us) → (x : Item) (r : List Token) → body_at d h start us ≡ Ok (x, r) → TookItem d ts x r
   unfolding body_at
   body_sound h start a ts us f x r e =
-      let i = bind_ok (repeated (read_line d) (begins marks.CloseBrace) (suc (length us)) us) (λ all. expect marks.CloseBrace all.1 >>= λ c. done (Function h (stmts_of all.0) (from_to start c.0.end)) c.1) (x, r) e in
+      let i = bind_ok (read_lines d us) (λ all. expect marks.CloseBrace all.1 >>= λ c. done (Function h (stmts_of all.0) (from_to start c.0.end)) c.1) (x, r) e in
       let c = bind_ok (expect marks.CloseBrace i.0.1) (λ c. done (Function h (stmts_of i.0.0) (from_to start c.0.end)) c.1) (x, r) i.2 in
-      let t = repeated_sound Stmt SpellsLine stmt_depth d (read_line d) (begins marks.CloseBrace) (read_line_sound laws d) (suc (length us)) us i.0.0 i.0.1 i.1 in
+      let t = lines_sound d us i.0.0 i.0.1 i.1 in
       let o = mark marks.OpenBrace a in
       let m = mark marks.CloseBrace c.0.0 in
       let whole : List Token = f.s ++ o ∷ (t.s ++ m ∷ []) in
@@ -204,8 +200,8 @@ module _ (laws : Laws) (d : ℕ) where
       (record {
         s = whole;
         parts = cut_at f.s (t.s ++ m ∷ []) o ts us c.0.1 f.parts (cut_at t.s [] m us c.0.1 c.0.1 (t.parts ∙ ap (λ (u : List Token). t.s ++ u) (expect_is marks.CloseBrace i.0.1 c.0.0 c.0.1 c.1)) refl);
-        spelled = spells.function a c.0.0 f.spelled (lines_of t.spelled);
-        fits = omega (arith, f.fits, t.fits, stmts_most i.0.0);
+        spelled = spells.function a c.0.0 f.spelled t.spelled;
+        fits = omega (arith, f.fits, t.fits);
       })) c.2
 
   head_after_sound : (h : Head) (start : ℕ) (ts us : List Token) → TookHead d h start ts us → (x : Item) (r : List Token) → head_after d h start us ≡ Ok (x, r) → TookItem d ts x r
@@ -253,7 +249,7 @@ module _ (laws : Laws) (d : ℕ) where
   unfolding numbered_after object_after
   numbered_after_sound b bs start n ts us hb at parts x r h = elim (chosen (begins marks.OpenParen us) (function_at d b start n (rest us)) (decl_after d b start n us >>= λ y. done (Object y.0) y.1) (Ok (x, r)) h) [
     | inl p ↦ function_sound b bs start n (head_span us) ts (rest us) (value hb) at (parts ∙ ap (λ (u : List Token). bs ++ id n ∷ u) (begins_is marks.OpenParen us p.0)) x r p.1
-    | inr p ↦ object_took ts (decl_after d b start n us) (λ y q e. decl_after_sound laws d b bs start n ts us (numeric hb) at parts y q e) x r p.1
+    | inr p ↦ object_took ts (decl_after d b start n us) (λ y q e. decl_after_sound d b bs start n ts us (numeric hb) at parts y q e) x r p.1
   ]
 
   numbered_sound : (ts : List Token) (x : Item) (r : List Token) → numbered_at d (head_span ts).start ts ≡ Ok (x, r) → TookItem d ts x r
@@ -278,13 +274,13 @@ module _ (laws : Laws) (d : ℕ) where
     ]
   ]
 
-pub item_sound : (laws : Laws) (d : ℕ) → Sound Item SpellsItem item_depth d (read_item d)
+pub item_sound : (d : ℕ) → Sound Item SpellsItem item_depth d (read_item d)
 unfolding read_item
-item_sound laws zero ts x r h = absurd cc
-item_sound laws (suc d) ts x r h = item_at_sound laws d ts x r h
+item_sound zero ts x r h = absurd cc
+item_sound (suc d) ts x r h = item_at_sound d ts x r h
 
-pub item_shorter : (laws : Laws) (d : ℕ) → Shorter Item (read_item d)
-item_shorter laws d = took_shorter Item SpellsItem item_depth d (read_item d) (item_sound laws d) (λ x s h. item_some h)
+pub item_shorter : (d : ℕ) → Shorter Item (read_item d)
+item_shorter d = took_shorter Item SpellsItem item_depth d (read_item d) (item_sound d) (λ x s h. item_some h)
 
 -- a whole unit
 pub record TookUnit (d : ℕ) (ts : List Token) (x : Source) (r : List Token) : Type 0 where
@@ -301,12 +297,12 @@ append_nothing : (s : List Token) → s ++ [] ≡ s
 append_nothing [] = refl
 append_nothing (t ∷ s) = ap (λ (u : List Token). t ∷ u) (append_nothing s)
 
-pub unit_sound : (laws : Laws) (d : ℕ) (ts : List Token) (x : Source) (r : List Token) → read_unit d ts ≡ Ok (x, r) → TookUnit d ts x r
+pub unit_sound : (d : ℕ) (ts : List Token) (x : Source) (r : List Token) → read_unit d ts ≡ Ok (x, r) → TookUnit d ts x r
 unfolding read_unit
-unit_sound laws zero ts x r h = absurd cc
-unit_sound laws (suc d) ts x r h =
+unit_sound zero ts x r h = absurd cc
+unit_sound (suc d) ts x r h =
     let i = bind_ok (repeated (read_item d) at_end (suc (length ts)) ts) (λ is. done (record { items = is.0 }) is.1) (x, r) h in
-    let t = repeated_sound Item SpellsItem item_depth d (read_item d) at_end (item_sound laws d) (suc (length ts)) ts i.0.0 i.0.1 i.1 in
+    let t = repeated_sound Item SpellsItem item_depth d (read_item d) at_end (item_sound d) (suc (length ts)) ts i.0.0 i.0.1 i.1 in
     let same : record { items = i.0.0 } ≡ x = ok_value (record { items = i.0.0 }) x i.0.1 r i.2 in
     let none : i.0.1 ≡ [] = end_is i.0.1 t.ends in
     let whole : t.s ≡ ts = sym (t.parts ∙ ap (λ (u : List Token). t.s ++ u) none ∙ append_nothing t.s) in

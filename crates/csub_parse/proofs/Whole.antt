@@ -7,17 +7,16 @@ use Rattle.csub_expr.proofs.LawsAnswers.{ok_value}
 use Rattle.csub_expr.specs.Laws.{head}
 use Rattle.csub_parse.specs.Syntax.{Within, NoneBegins, NoneSpells}
 use Rattle.csub_parse.specs.UnitDescent.{read_unit}
-use Rattle.csub_parse.proofs.Given.{Laws}
 use Rattle.csub_parse.proofs.UnitSound.{unit_sound}
 use Rattle.csub_parse.proofs.UnitLocal.{local_unit}
 use Rattle.csub_parse.proofs.UnitComplete.{unit_reads}
 
-module _ (laws : Laws) (d : ℕ) where
+module _ (d : ℕ) where
   pub whole_spelled : (ts : List Token) (u : Source) (r : List Token) → read_unit d ts ≡ Ok (u, r) → Within d u ts
-  whole_spelled ts u r h = let t = unit_sound laws d ts u r h in (t.fits, t.spelled)
+  whole_spelled ts u r h = let t = unit_sound d ts u r h in (t.fits, t.spelled)
 
   pub whole_again : (ts : List Token) (u : Source) → Within d u ts → read_unit d ts ≡ Ok (u, [])
-  whole_again ts u w = unit_reads laws d w.1 w.0
+  whole_again ts u w = unit_reads d w.1 w.0
 
   pub whole_only : (ts : List Token) (u other : Source) (r : List Token) → read_unit d ts ≡ Ok (u, r) → Within d other ts → other ≡ u
   whole_only ts u other r h w = ok_value other u [] r (sym (whole_again ts other w) ∙ h)
@@ -36,7 +35,7 @@ module _ (laws : Laws) (d : ℕ) where
 
   pub refused : (ts : List Token) (n : ℕ) → read_unit d ts ≡ Err n → (n ≤ length ts) × (length ts - n < length ts → NoneBegins d (length ts - n) ts) × NoneSpells d ts
   refused ts n h =
-      let a = (local_unit laws d).refuses ts n h in
+      let a = (local_unit d).refuses ts n h in
       go a.0 a.1 a.2 a.3 a.4
     where
       go : (s r : List Token) → ts ≡ s ++ r → n ≡ length r → ((q : List Token) → head q ≡ head r → read_unit d (s ++ q) ≡ Err (length q)) → (n ≤ length ts) × (length ts - n < length ts → NoneBegins d (length ts - n) ts) × NoneSpells d ts

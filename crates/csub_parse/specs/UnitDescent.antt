@@ -1,5 +1,5 @@
 -- The descent of units as a function on lists of tokens; d is the depth that is left for what stands inside.
-use Rattle.std.specs.Prelude.{ℕ, zero, suc, List, ◌∷◌, length, Option, Some, None, Ok, Err, nat_le, ◌&&◌, if◌then◌else◌}
+use Rattle.std.specs.Prelude.{ℕ, zero, suc, List, [], ◌∷◌, length, Option, Some, None, Ok, Err, Bool, true, false, nat_le, ◌&&◌, if◌then◌else◌}
 use Rattle.csub_lex.specs.declared.token.Key.TheVariants as keys
 use Rattle.csub_lex.specs.declared.token.Mark.TheVariants as marks
 use Rattle.csub_lex.specs.declared.token.Token.{Token}
@@ -14,9 +14,14 @@ use Rattle.csub_expr.specs.Looks.{begins, begins_key, rest, head_span}
 use Rattle.csub_expr.specs.Answers.{Answer, ◌>>=◌, expect, expect_name}
 use Rattle.csub_expr.specs.ListDescent.{separated, repeated}
 use Rattle.csub_expr.specs.ExprDescent.{read}
-use Rattle.csub_parse.specs.Openings.{begins_name, at_end}
-use Rattle.csub_parse.specs.DeclarationDescent.{from_to, numeric_at, decl_after, decl_behind, field_at, params_at}
-use Rattle.csub_parse.specs.StatementDescent.{read_line}
+use Rattle.csub_stmt.specs.Openings.{begins_name}
+use Rattle.csub_stmt.specs.DeclarationDescent.{from_to, numeric_at, decl_after, decl_behind, field_at, params_at}
+use Rattle.csub_stmt.specs.StatementDescent.{read_lines}
+
+-- nothing comes any more
+unfoldable pub at_end : List Token → Bool
+at_end [] = true
+at_end (t ∷ ts) = false
 
 module _ (d : ℕ) where
   -- const, behind its name
@@ -86,7 +91,7 @@ module _ (d : ℕ) where
   -- a head was read, and "{"
   unfoldable pub body_at : Head → ℕ → List Token → Answer Item
   body_at h start ts = do
-    all ← repeated (read_line d) (begins marks.CloseBrace) (suc (length ts)) ts
+    all ← read_lines d ts
     close ← expect marks.CloseBrace all.1
     Ok (Function h (stmts_of all.0) (from_to start close.0.end), close.1)
 

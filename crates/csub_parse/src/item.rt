@@ -9,14 +9,14 @@ ghost use Rattle.csub_expr.specs.ListDescent.{separated};
 ghost use Rattle.csub_expr.specs.declared.stop.Stop.TheVariants.{Memory};
 ghost use Rattle.csub_parse.specs.UnitDescent.{constant_after, constant_at, enum_behind, enum_at, fields_after, members_at, object_behind, object_after, tagged_at, struct_at, body_at, head_after, function_at, void_at, numbered_after, numbered_at, item_from, item_at, read_item};
 
-use crate::base::{begins_name, numeric};
-use crate::block::lines;
-use crate::declaration::{decl_after, decl_behind, field};
-use crate::parameter::params;
 use csub_expr::expression::conditional;
 use csub_expr::look::{begins, begins_key, expect, expect_name, head_span, skip};
 use csub_expr::stop::Stop;
 use csub_lex::{Key, Mark, Token};
+use csub_stmt::base::{begins_name, numeric};
+use csub_stmt::block::lines;
+use csub_stmt::declaration::{decl_after, decl_behind, field};
+use csub_stmt::parameter::params;
 use csub_text::Span;
 use csub_tree::{Constant, Declare, Head, Item, Name, TypeName};
 use std::alloc::Global;

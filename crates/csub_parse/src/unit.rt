@@ -5,8 +5,7 @@ ghost use Rattle.csub_tree.specs.Depth.{unit_depth};
 ghost use Rattle.csub_tree.specs.Spells.{Spells};
 ghost use Rattle.csub_expr.specs.Answers.{Gives};
 ghost use Rattle.csub_expr.specs.ListDescent.{repeated};
-ghost use Rattle.csub_parse.specs.Openings.{at_end};
-ghost use Rattle.csub_parse.specs.UnitDescent.{read_item, read_unit};
+ghost use Rattle.csub_parse.specs.UnitDescent.{at_end, read_item, read_unit};
 ghost use Rattle.csub_parse.specs.Syntax.{Within, HasCause};
 ghost use Rattle.csub_parse.specs.declared.error.ParseError.TheVariants.{Memory};
 
@@ -33,7 +32,7 @@ fn items(alloc: Global, tokens: &[Token], budget: u32) -> Result<(Vec<Item>, &[T
 }
 
 // Whether no token is left.
-#[tactic(auto, unfolding(crate::specs::Openings::at_end))]
+#[tactic(auto, unfolding(crate::specs::UnitDescent::at_end))]
 fn at_end(tokens: &[Token]) -> bool
     ensures { result ≡ at_end tokens.now }
 {

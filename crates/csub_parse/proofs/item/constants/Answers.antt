@@ -6,7 +6,6 @@ use Rattle.csub_expr.proofs.LawsTokens.{rest_shorter}
 use Rattle.csub_expr.proofs.LawsLists.{front_fails, front_goes, front_ends, front_trailing}
 use Rattle.csub_parse.specs.UnitDescent.{constant_at}
 use Rattle.csub_tree.specs.Units.{constant_tree}
-use Rattle.csub_parse.proofs.Given.{laws}
 use Rattle.csub_parse.proofs.UnitSound.{constant_shorter}
 use Rattle.csub_lex.specs.declared.token.Mark.TheVariants.{CloseBrace}
 use Rattle.csub_parse.proofs.item.constants.Goals as goal
@@ -32,7 +31,7 @@ returns-then-begins c =
 
 pub each-smaller : goal.each-smaller
 each-smaller c =
-    let less = constant_shorter laws c.args.budget c.each.rest.now (constant_tree c.in_ok-one.one) c.in_ok-one.after.now c.in_ok-one.ensures in
+    let less = constant_shorter c.args.budget c.each.rest.now (constant_tree c.in_ok-one.one) c.in_ok-one.after.now c.in_ok-one.ensures in
     let cut = rest_shorter c.in_ok-one.after.now in
     let same : length c.skip-rest.result.now ≡ length (rest c.in_ok-one.after.now) = ap length c.skip-rest.ensures in
     let falls : length c.skip-rest.result.now < length c.each.rest.now = omega (arith, less, cut, same) in
@@ -41,7 +40,7 @@ each-smaller c =
 pub each-preserved : goal.each-preserved
 each-preserved c =
     let i = c.each.invariant in
-    let less = constant_shorter laws c.args.budget c.each.rest.now (constant_tree c.in_ok-one.one) c.in_ok-one.after.now c.in_ok-one.ensures in
+    let less = constant_shorter c.args.budget c.each.rest.now (constant_tree c.in_ok-one.one) c.in_ok-one.after.now c.in_ok-one.ensures in
     let cut = rest_shorter c.in_ok-one.after.now in
     let same : length c.skip-rest.result.now ≡ length (rest c.in_ok-one.after.now) = ap length c.skip-rest.ensures in
     let goes = front_goes (constant_at c.args.budget) (begins CloseBrace) i.0 c.each.rest.now c.in_ok-one.after.now (map constant_tree c.each.all.items) (constant_tree c.in_ok-one.one) i.1 c.in_ok-one.ensures (sym c.if-not-begins.ensures) (ap ((begins CloseBrace)) (sym c.skip-rest.ensures) ∙ sym c.if-begins.ensures) in

@@ -1,16 +1,18 @@
-use Rattle.std.proofs.Common.{arith, sym, ◌∙◌, ◌-◌, suc, length, map}
+use Rattle.std.proofs.Common.{arith, refl, sym, ◌∙◌, ◌-◌, suc, length, map}
 use Rattle.std.proofs.lemmas.Result.{err_from_is_err_and}
 use Rattle.std.proofs.lemmas.List.{map_push}
 use Rattle.csub_lex.specs.declared.token.Mark.TheVariants.{CloseBrace}
 use Rattle.csub_expr.specs.Looks.{begins}
-use Rattle.csub_parse.specs.DeclarationDescent.{field_at}
+use Rattle.csub_stmt.specs.DeclarationDescent.{field_at}
+use Rattle.csub_parse.specs.UnitDescent.{fields_after}
 use Rattle.csub_tree.specs.Declarations.{declare_tree}
-use Rattle.csub_parse.proofs.DeclarationSound.{field_shorter}
-use Rattle.csub_parse.proofs.Loops.{fields_begin, each_fails, each_goes, each_ends}
+use Rattle.csub_stmt.proofs.LawsDeclarations.{field_shorter}
+use Rattle.csub_stmt.proofs.LawsLoops.{each_fails, each_goes, each_ends}
 use Rattle.csub_parse.proofs.item.fields.Goals as goal
 
 pub each-init : goal.each-init
-each-init c = (suc (length c.args.tokens.now), omega arith, rw c.in_ok-all.ensures.ok (fields_begin c.args.budget (declare_tree c.args.first) c.args.tokens.now))
+unfolding fields_after
+each-init c = (suc (length c.args.tokens.now), omega arith, rw c.in_ok-all.ensures.ok refl)
 
 pub returns-in_err-one : goal.returns-in_err-one
 returns-in_err-one c =

@@ -3,7 +3,7 @@ use Rattle.csub_expr.specs.ListDescent.{repeated}
 use Rattle.csub_expr.proofs.LawsLists.{with_front}
 use Rattle.csub_lex.specs.declared.token.Mark.TheVariants.{CloseBrace}
 use Rattle.csub_expr.specs.Looks.{begins}
-use Rattle.csub_parse.specs.DeclarationDescent.{field_at}
+use Rattle.csub_stmt.specs.DeclarationDescent.{field_at}
 use Rattle.csub_parse.specs.UnitDescent.{fields_after}
 use Rattle.csub_tree.specs.Declarations.{declare_tree}
 use Rattle.csub_parse.proofs.item.fields.Given as goal

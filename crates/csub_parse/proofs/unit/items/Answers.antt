@@ -1,12 +1,10 @@
 use Rattle.std.proofs.Common.{arith, sym, ◌∙◌, ◌-◌, map}
 use Rattle.std.proofs.lemmas.Result.{err_from_is_err_and}
 use Rattle.std.proofs.lemmas.List.{map_push}
-use Rattle.csub_parse.specs.Openings.{at_end}
-use Rattle.csub_parse.specs.UnitDescent.{read_item}
+use Rattle.csub_parse.specs.UnitDescent.{at_end, read_item}
 use Rattle.csub_tree.specs.Units.{item_tree}
 use Rattle.csub_parse.proofs.UnitSound.{item_shorter}
-use Rattle.csub_parse.proofs.Given.{laws}
-use Rattle.csub_parse.proofs.Loops.{each_fails, each_goes, each_ends}
+use Rattle.csub_stmt.proofs.LawsLoops.{each_fails, each_goes, each_ends}
 use Rattle.csub_parse.proofs.unit.items.Goals as goal
 
 pub returns-in_err-one : goal.returns-in_err-one
@@ -16,12 +14,12 @@ returns-in_err-one c =
     rw (p.1, p.2, i.2) (each_fails (read_item c.args.budget) at_end c.in_err-one.field-0.0 i.0 c.each.rest.now (map item_tree c.each.all.items) i.1 (sym c.each-test.ensures) c.in_err-one.ensures)
 
 pub each-smaller : goal.each-smaller
-each-smaller c = item_shorter laws c.args.budget c.each.rest.now (item_tree c.in_ok-one.one) c.in_ok-one.after.now c.in_ok-one.ensures
+each-smaller c = item_shorter c.args.budget c.each.rest.now (item_tree c.in_ok-one.one) c.in_ok-one.after.now c.in_ok-one.ensures
 
 pub each-preserved : goal.each-preserved
 each-preserved c =
     let i = c.each.invariant in
-    let less = item_shorter laws c.args.budget c.each.rest.now (item_tree c.in_ok-one.one) c.in_ok-one.after.now c.in_ok-one.ensures in
+    let less = item_shorter c.args.budget c.each.rest.now (item_tree c.in_ok-one.one) c.in_ok-one.after.now c.in_ok-one.ensures in
     let goes = each_goes (read_item c.args.budget) at_end i.0 c.each.rest.now c.in_ok-one.after.now (map item_tree c.each.all.items) (item_tree c.in_ok-one.one) i.1 (sym c.each-test.ensures) c.in_ok-one.ensures in
     (i.0 - 1, omega (arith, i.1, less), rw (c.in_ok-push.ensures.items, map_push item_tree c.each.all.items c.in_ok-one.one) (i.2 ∙ goes))
 

@@ -1,8 +1,7 @@
 use Rattle.std.proofs.Common.{◌≡◌, ℕ, ◌<◌, suc, length, map}
 use Rattle.csub_expr.specs.ListDescent.{repeated}
 use Rattle.csub_expr.proofs.LawsLists.{with_front}
-use Rattle.csub_parse.specs.Openings.{at_end}
-use Rattle.csub_parse.specs.UnitDescent.{read_item}
+use Rattle.csub_parse.specs.UnitDescent.{at_end, read_item}
 use Rattle.csub_tree.specs.Units.{item_tree}
 use Rattle.csub_parse.proofs.unit.items.Given as goal
 

@@ -1,0 +1,12 @@
+use Rattle.std.proofs.Common.{◌≡◌, ℕ, ◌<◌, suc, length, map}
+use Rattle.csub_expr.specs.ListDescent.{separated, never}
+use Rattle.csub_expr.proofs.LawsLists.{with_front}
+use Rattle.csub_stmt.specs.DeclarationDescent.{slot_at}
+use Rattle.csub_tree.specs.Declarations.{declarator_tree}
+use Rattle.csub_stmt.proofs.declaration.slots.Given as goal
+
+abbrev pub invariant-each : goal.invariant-each
+invariant-each l = (f : ℕ) × (length l.rest < f) × (separated (slot_at l.budget) never (suc (length l.tokens)) l.tokens ≡ with_front (map declarator_tree l.all.items) (separated (slot_at l.budget) never f l.rest))
+
+abbrev pub decreases-each : goal.decreases-each
+decreases-each l = length l.rest
