@@ -15,4 +15,6 @@ mod Lookups
 mod Indexes
 mod Callees
 mod Programs
+mod Pushed
+mod WayLemmas
 mod Writes

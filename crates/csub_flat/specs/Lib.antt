@@ -1,4 +1,5 @@
 pub mod Sites
+pub mod Ways
 pub mod Frames
 pub mod Trees
 pub mod Flatten

@@ -6,10 +6,11 @@
 //! slots, and an array parameter the slot that says where its array is.
 //!
 //! What is promised of the code: [`flatten_program`] gives for each point of a valid program a copy of its label, in
-//! which every object has its place in the frame of its function or among the globals, and the counts of slots of the
-//! globals and of the greatest frame (`IsFlatOf` of `specs/Copies`). Proofs above cite `proofs/LawsSites`, points and
-//! functions by their numbers and names; `proofs/LawsOrder`, numbers in order; `proofs/LawsSized`, the types of places;
-//! `proofs/LawsRows`, rows of expressions as lists; and `proofs/LawsThreads`, that workers may share a flat program.
+//! which every object has its place in the frame of its function or among the globals, where its ways out lead
+//! (`specs/Ways`), and the counts of slots of the globals and of the greatest frame (`IsFlatOf` of `specs/Copies`). Proofs
+//! above cite `proofs/LawsSites`, points and functions by their numbers and names; `proofs/LawsOrder`, numbers in order;
+//! `proofs/LawsSized`, the types of places; `proofs/LawsRows`, rows of expressions as lists; and `proofs/LawsThreads`,
+//! that workers may share a flat program.
 #![tactic(auto)]
 
 pub mod flat;
@@ -20,9 +21,11 @@ mod inits;
 mod places;
 pub mod program;
 mod scope;
+pub mod ways;
 
 pub use flat::{
     FlatArg, FlatCall, FlatExpr, FlatGiven, FlatLabel, FlatPart, FlatPlace, FlatVariable,
     FlatWrite, Form,
 };
 pub use program::{FlatProgram, Sizes, first_slots, flatten_program};
+pub use ways::{PlainWays, way_along};

@@ -20,6 +20,7 @@ use crate::frame::{Frame, frame_slots, list_frames};
 use crate::globals::{globals_size, number_globals};
 use crate::inits::flatten_begin;
 use crate::scope::Scope;
+use crate::ways::{PlainWays, list_ways};
 use csub_core::Program;
 use csub_semantics::{Answer, CallLabel, IntKind, Label, Text};
 use flow_graph::Graph;
@@ -35,11 +36,13 @@ pub struct Sizes {
     pub most: u32,
 }
 
-/// The flat copy of a program: a label for each point, and how many slots a run takes.
+/// The flat copy of a program: a label and the ways out for each point, and how many slots a run takes.
 #[derive(Drop)]
 pub struct FlatProgram {
     /// The labels, by the numbers of their points.
     pub labels: Vec<FlatLabel>,
+    /// The ways out of the points, by their numbers.
+    pub ways: Vec<PlainWays>,
     /// How many slots a run takes.
     pub sizes: Sizes,
 }
@@ -171,6 +174,7 @@ pub fn flatten_program(
     let globals = program.globals();
     let slots = number_globals(alloc, globals)?;
     let frames = list_frames(alloc, program)?;
+    let ways = list_ways(alloc, program, graph)?;
     let mut labels = Vec::new(alloc);
     for point in 0..graph.points() {
         labels.push(flatten_point(alloc, program, graph, &slots, &frames, point)?)?;
@@ -179,7 +183,11 @@ pub fn flatten_program(
         globals: globals_size(globals),
         most: greatest_frame(program),
     };
-    Ok(FlatProgram { labels, sizes })
+    Ok(FlatProgram {
+        labels,
+        ways,
+        sizes,
+    })
 }
 
 /// How many slots a frame of the first function has.
