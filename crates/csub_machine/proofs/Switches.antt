@@ -15,7 +15,8 @@ use Rattle.flow_graph.specs.Graph.{source_at}
 use Rattle.flow_graph.specs.declared.graph.WayOut.{WayOut}
 use Rattle.csub_flat.specs.Sites.{site_or, place_of}
 use Rattle.csub_flat.proofs.LawsSites.{place_is}
-use Rattle.csub_machine.specs.Ways.{edge_along, LeadsTo, LeadsNowhere, cases_of}
+use Rattle.csub_flat.specs.Ways.{edge_along, LeadsTo, LeadsNowhere}
+use Rattle.csub_machine.specs.Ways.{cases_of}
 
 -- ---- the Default is looked for among the edges of a point
 

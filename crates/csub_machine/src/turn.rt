@@ -1,7 +1,6 @@
 //! One turn of a run. Nothing here takes memory.
 ghost use Rattle.std.specs.Prelude.{◌≡◌, ◌<◌, ◌+◌, [], ◌∷◌, ◌++◌, length, map, List};
 ghost use Rattle.csub_semantics.specs.Flows.{flow_of, point_list};
-ghost use Rattle.csub_semantics.specs.Points.{exit_tree};
 ghost use Rattle.csub_semantics.specs.Runs.{Frame as StandingFrame, turn, exit_at, cross, pop};
 ghost use Rattle.csub_semantics.specs.Acts.{Store as Held};
 ghost use Rattle.flow_graph.specs.Graph.{IsGraphOf};
@@ -9,19 +8,19 @@ ghost use Rattle.csub_semantics.specs.Syntax.{program_tree, FunctionTree};
 ghost use Rattle.csub_flat.specs.Sites.{place_of};
 ghost use Rattle.csub_slots.specs.Layout.{live_size};
 ghost use Rattle.csub_flat.specs.Frames.{globals_of};
-ghost use Rattle.csub_slots.specs.Seen.{slot_seen};
+ghost use Rattle.csub_slots.specs.Seen.{slot_seen, exit_seen};
 ghost use Rattle.csub_slots.specs.States.{state_of};
 ghost use Rattle.csub_slots.specs.Like.{Like};
 ghost use Rattle.csub_flat.specs.Copies.{IsFlatOf};
 ghost use Rattle.csub_machine.specs.Standings.{frame_of, live_function, live_of, standing_of, AreFrames, Moves, Resumes, Crosses, CrossesOfProgram};
 
 use crate::frames::{Frame, Frames};
-use crate::ways::{way_along, way_at};
+use crate::ways::{way_at, way_by};
 use csub_core::Program;
 use csub_flat::{FlatLabel, FlatProgram};
-use csub_semantics::{ExitLabel, Status};
+use csub_semantics::Status;
 use csub_slots::Store;
-use csub_slots::act::{Outcome, act, put_result};
+use csub_slots::act::{Outcome, PlainExit, act, put_result};
 use flow_graph::Graph;
 use std::mem;
 
@@ -39,20 +38,20 @@ pub enum Turn {
 /// The top frame goes on along a way out, with this result.
 fn leave_by(
     program: &Program,
-    graph: &Graph,
+    flat: &FlatProgram,
     top: &mut Frame,
-    exit: &ExitLabel,
+    exit: PlainExit,
     given: Option<i64>,
 ) -> Turn
-    requires graph { IsGraphOf graph.now (program_tree program.now) }
+    requires copies { IsFlatOf (program_tree program.now) flat.now }
     requires point { top.old.point < length (point_list (program_tree program.now)) }
-    ensures moves { (below : List StandingFrame) (s : Held) → let P = program_tree program.now in let here = place_of P top.old.point in Crosses P (cross (frame_of P top.old) below (exit_tree exit.now) given s ((flow_of P).succ here.function here.point (exit_tree exit.now))) result (record { frames = frame_of P top.new ∷ below; store = s }) }
+    ensures moves { (below : List StandingFrame) (s : Held) → let P = program_tree program.now in let here = place_of P top.old.point in Crosses P (cross (frame_of P top.old) below (exit_seen exit) given s ((flow_of P).succ here.function here.point (exit_seen exit))) result (record { frames = frame_of P top.new ∷ below; store = s }) }
     ensures point { top.new.point < length (point_list (program_tree program.now)) }
     ensures edge { CrossesOfProgram (program_tree program.now) result }
     ensures function { (place_of (program_tree program.now) top.new.point).function ≡ (place_of (program_tree program.now) top.old.point).function }
     ensures base { top.new.base ≡ top.old.base }
 {
-    match way_along(program, graph, top.point, exit) {
+    match way_by(program, flat, top.point, exit) {
         None => Turn::Lost,
         Some(way) => {
             top.point = way.to;
@@ -101,13 +100,11 @@ fn push_frame(frames: &mut Frames, point: u32, base: u32)
 /// The frame of a call, now on top, goes on with the result of the callee.
 fn resume(
     program: &Program,
-    graph: &Graph,
     flat: &FlatProgram,
     top: &mut Frame,
     store: &mut Store,
     given: Option<i64>,
 ) -> Turn
-    requires graph { IsGraphOf graph.now (program_tree program.now) }
     requires copies { IsFlatOf (program_tree program.now) flat.now }
     requires point { top.old.point < length (point_list (program_tree program.now)) }
     ensures moves { (below : List StandingFrame) (fs : List FunctionTree) (s : Held) → let P = program_tree program.now in length below ≡ length fs → top.old.base ≡ live_size (globals_of P) fs → Like (globals_of P) (live_function P top.old ∷ fs) s (state_of store.old) → Resumes P (pop (flow_of P) (frame_of P top.old ∷ below) given s) result top.new below fs (state_of store.new) }
@@ -123,7 +120,7 @@ fn resume(
     };
     put_result(store, top.base, call.temp, given);
     let kept = top.result;
-    leave_by(program, graph, top, &ExitLabel::Next, kept)
+    leave_by(program, flat, top, PlainExit::Next, kept)
 }
 
 /// One turn: the act of the top frame's label, and where control goes by it.
@@ -149,7 +146,7 @@ pub fn take_turn(
     match act(store, label, count, base, frames.top.result) {
         Err(trap) => Turn::Stops(Status::Trap(trap)),
         Ok(Outcome::Ends(status)) => Turn::Stops(status),
-        Ok(Outcome::Leaves(exit, given)) => leave_by(program, graph, &mut frames.top, &exit, given),
+        Ok(Outcome::Leaves(exit, given)) => leave_by(program, flat, &mut frames.top, exit, given),
         Ok(Outcome::Gives(value)) => choose_by(program, graph, &mut frames.top, value),
         Ok(Outcome::Pushes(entry, begin)) => {
             push_frame(frames, entry, begin);
@@ -159,7 +156,7 @@ pub fn take_turn(
             None => Turn::Lost,
             Some(frame) => {
                 frames.top = frame;
-                resume(program, graph, flat, &mut frames.top, store, given)
+                resume(program, flat, &mut frames.top, store, given)
             }
         },
     }

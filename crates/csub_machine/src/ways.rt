@@ -1,24 +1,39 @@
 //! Where the ways out of a point lead, in the words of runs.
 ghost use Rattle.std.specs.Prelude.{◌<◌, length, IfSome, IfNone};
-ghost use Rattle.csub_semantics.specs.Points.{exit_tree, on_default};
+ghost use Rattle.csub_semantics.specs.Points.{on_default};
 ghost use Rattle.csub_semantics.specs.Flows.{point_list};
 ghost use Rattle.csub_semantics.specs.Runs.{exit_at};
 ghost use Rattle.csub_semantics.specs.Syntax.{program_tree};
 ghost use Rattle.flow_graph.specs.Graph.{IsGraphOf};
-ghost use Rattle.csub_machine.specs.Ways.{LeadsNowhere, LeadsTo, cases_of};
+ghost use Rattle.csub_flat.specs.Copies.{IsFlatOf};
+ghost use Rattle.csub_flat.specs.Ways.{LeadsNowhere, LeadsTo};
+ghost use Rattle.csub_slots.specs.Seen.{exit_seen};
+ghost use Rattle.csub_machine.specs.Ways.{cases_of};
 
 use csub_core::Program;
+use csub_flat::{FlatProgram, way_along};
 use csub_semantics::ExitLabel;
+use csub_slots::act::PlainExit;
 use flow_graph::{Graph, WayOut};
 
-/// The way out of a point by an exit label; `None` where the point has none.
-pub fn way_along(program: &Program, graph: &Graph, point: u32, exit: &ExitLabel) -> Option<WayOut>
-    requires graph { IsGraphOf graph.now (program_tree program.now) }
+/// The way out of a point but for those of a `switch`; `None` where the point has none. It looks at one row of a table.
+pub fn way_by(
+    program: &Program,
+    flat: &FlatProgram,
+    point: u32,
+    exit: PlainExit,
+) -> Option<WayOut>
+    requires copies { IsFlatOf (program_tree program.now) flat.now }
     requires point { point < length (point_list (program_tree program.now)) }
-    ensures some { IfSome result (LeadsTo (program_tree program.now) point (exit_tree exit.now)) }
-    ensures none { IfNone result (LeadsNowhere (program_tree program.now) point (exit_tree exit.now)) }
+    ensures some { IfSome result (LeadsTo (program_tree program.now) point (exit_seen exit)) }
+    ensures none { IfNone result (LeadsNowhere (program_tree program.now) point (exit_seen exit)) }
 {
-    graph.way_out(point, exit)
+    let ways = &flat.ways[point as usize];
+    match exit {
+        PlainExit::Next => ways.next,
+        PlainExit::True => ways.on_true,
+        PlainExit::False => ways.on_false,
+    }
 }
 
 /// The way out of a switch by its Default, which is the last of its ways out and so the first that is looked at; `None`

@@ -5,7 +5,6 @@ use Rattle.csub_semantics.specs.Trees.{variable, element_place, member_place, co
 use Rattle.csub_semantics.specs.Trees.{conjunction, disjunction, choice, assignment, update, input_byte, output_byte, formatted}
 use Rattle.csub_semantics.specs.Trees.{no_expr, more_exprs, expr_count}
 use Rattle.csub_semantics.specs.Memory.{Answer, value, trapped}
-use Rattle.csub_semantics.specs.Points.{exit_tree}
 use Rattle.csub_semantics.specs.declared.status.Status.TheVariants.{Trap as TrapStatus}
 use Rattle.csub_validity.specs.Valid.{most_values}
 use Rattle.csub_flat.specs.Trees.{FlatPlace, FlatExpr, FlatExprs, FlatGiven, number_of, array_at, FlatWrite, writes, clears}
@@ -15,7 +14,7 @@ use Rattle.csub_slots.specs.Acts.{FlatStore}
 use Rattle.csub_slots.specs.declared.store.Store.{Store}
 use Rattle.csub_slots.specs.declared.act.Outcome.{Outcome}
 use Rattle.csub_slots.specs.declared.act.Outcome.TheVariants.{Leaves, Gives as GivesValue, Pushes, Pops, Ends}
-use Rattle.csub_slots.specs.Seen.{slot_seen}
+use Rattle.csub_slots.specs.Seen.{slot_seen, exit_seen}
 
 -- what a store stands for: the input from the place on, what was written, and the slots
 abbrev pub state_of : Store → FlatStore
@@ -41,7 +40,7 @@ pub record Keeps (old new : Store) : Type 0 where
 
 -- the same outcome, with the store that is left
 abbrev pub Acts : the.FlatOutcome → Result Outcome Trap → FlatStore → Type 0
-Acts outcome (Ok (Leaves x r)) s = outcome ≡ the.leaves (exit_tree x) r s
+Acts outcome (Ok (Leaves x r)) s = outcome ≡ the.leaves (exit_seen x) r s
 Acts outcome (Ok (GivesValue v)) s = outcome ≡ the.gives v s
 Acts outcome (Ok (Pushes e b)) s = outcome ≡ the.pushes e b s
 Acts outcome (Ok (Pops r)) s = outcome ≡ the.pops r s

@@ -15,17 +15,28 @@ use crate::slot::Slot;
 use crate::spot::refer_to;
 use crate::store::Store;
 use csub_flat::{FlatArg, FlatCall, FlatGiven, FlatLabel, FlatVariable};
-use csub_semantics::{EndRule, ExitLabel, Status, Trap};
+use csub_semantics::{EndRule, Status, Trap};
 use csub_types::kind::convert;
 
 /// How many frames a run may have.
 const MOST_FRAMES: u32 = 256;
 
+/// A way out of a point at which there is no `switch`.
+#[derive(Clone, Copy, Debug, PartialEq, Eq)]
+pub enum PlainExit {
+    /// The only way on.
+    Next,
+    /// The test gave another number than 0.
+    True,
+    /// The test gave 0.
+    False,
+}
+
 /// What an act leads to, but for a trap.
-#[derive(Drop)]
+#[derive(Clone, Copy)]
 pub enum Outcome {
     /// Control leaves along a way out; the frame has this result from now on.
-    Leaves(ExitLabel, Option<i64>),
+    Leaves(PlainExit, Option<i64>),
     /// The value of a `switch`, which decides its way out.
     Gives(i64),
     /// A frame comes on top, at this entry, with its slots from a base on.
@@ -52,22 +63,22 @@ pub fn act(
     ensures sizes { store.new.sizes ≡ store.old.sizes }
 {
     match label {
-        FlatLabel::Next => Ok(Outcome::Leaves(ExitLabel::Next, answer)),
+        FlatLabel::Next => Ok(Outcome::Leaves(PlainExit::Next, answer)),
         FlatLabel::Exit(rule, variable) => act_exit(store, *rule, *variable, base, answer),
         FlatLabel::Eval(expr) => {
             eval(store, base, expr)?;
-            Ok(Outcome::Leaves(ExitLabel::Next, answer))
+            Ok(Outcome::Leaves(PlainExit::Next, answer))
         }
         FlatLabel::Init(steps) => {
             initialise(store, base, steps)?;
-            Ok(Outcome::Leaves(ExitLabel::Next, answer))
+            Ok(Outcome::Leaves(PlainExit::Next, answer))
         }
         FlatLabel::Branch(expr) => {
             let value = eval(store, base, expr)?;
             let exit = if value == 0 {
-                ExitLabel::False
+                PlainExit::False
             } else {
-                ExitLabel::True
+                PlainExit::True
             };
             Ok(Outcome::Leaves(exit, answer))
         }
@@ -77,7 +88,7 @@ pub fn act(
         }
         FlatLabel::Return(kind, expr) => {
             let given = eval(store, base, expr)?;
-            Ok(Outcome::Leaves(ExitLabel::Next, Some(convert(*kind, given))))
+            Ok(Outcome::Leaves(PlainExit::Next, Some(convert(*kind, given))))
         }
         FlatLabel::Halt(expr) => {
             let value = eval(store, base, expr)?;

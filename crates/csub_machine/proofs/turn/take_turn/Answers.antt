@@ -2,7 +2,6 @@ use Rattle.std.proofs.Common.{ℤ, List, ◌∷◌, w64, ◌≡◌, ◌<◌, ◌
 use Rattle.std.proofs.lemmas.List.{length-map}
 use Rattle.std.proofs.lemmas.Int.{to_z-of_z}
 use mir.Val.{SFits}
-use Rattle.csub_semantics.specs.Points.{exit_tree}
 use Rattle.csub_semantics.specs.Flows.{flow_of}
 use Rattle.csub_semantics.specs.Acts.{Store as Held}
 use Rattle.csub_semantics.specs.Runs.{Frame as Standing, exit_at, cross}
@@ -12,7 +11,7 @@ use Rattle.csub_machine.specs.Standings.{frame_of, Crosses}
 use Rattle.csub_semantics.specs.declared.status.Status.TheVariants.{Trap}
 use Rattle.csub_semantics.specs.Syntax.{program_tree}
 use Rattle.csub_flat.specs.declared.program.Sizes.{Sizes}
-use Rattle.csub_slots.specs.Seen.{slot_seen}
+use Rattle.csub_slots.specs.Seen.{slot_seen, exit_seen}
 use Rattle.csub_flat.specs.Seen.{label_seen}
 use Rattle.csub_slots.specs.States.{state_of, FitsMost}
 use Rattle.csub_flat.specs.Copies.{IsCopyAt}
@@ -75,7 +74,7 @@ returns-in-Ok-Leaves-clause-moves c s like =
     let k : IsCopyAt P n (label_seen c.index-label.result.now) = copies.copies n c.index-label.result.now inside c.index-label.ensures in
     let counted : c.len.result ≡ length c.args.frames.now.below.items = search rules in
     let acts = rw c.in-Ok-Leaves.field-0-is at c.in-Ok-Leaves.ensures.value in
-    leaves_on P c.args.frames.now _ (c.len.result + 1) c.requires.frames (can_act P c.requires.graph.valid c.args.flat.now copies c.args.frames.now _ c.requires.frames) (label_seen c.index-label.result.now) k s (state_of c.args.store.now) (ap (λ j. j + 1) counted) like (exit_tree c.in-Ok-Leaves.exit) c.in-Ok-Leaves.given (state_of c.act.new.store) acts
+    leaves_on P c.args.frames.now _ (c.len.result + 1) c.requires.frames (can_act P c.requires.graph.valid c.args.flat.now copies c.args.frames.now _ c.requires.frames) (label_seen c.index-label.result.now) k s (state_of c.args.store.now) (ap (λ j. j + 1) counted) like (exit_seen c.in-Ok-Leaves.exit) c.in-Ok-Leaves.given (state_of c.act.new.store) acts
     _ c.leave_by.result c.leave_by.ensures.moves refl c.leave_by.ensures.point c.leave_by.ensures.function c.leave_by.ensures.base
 
 pub returns-in-Ok-Gives-clause-moves : goal.returns-in-Ok-Gives-clause-moves

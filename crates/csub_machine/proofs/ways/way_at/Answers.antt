@@ -3,7 +3,7 @@ use Rattle.std.specs.Option.{IfSome, IfNone}
 use Rattle.std.proofs.lemmas.Int.{to_z-of_z}
 use Rattle.csub_semantics.specs.Points.{on_case}
 use Rattle.csub_semantics.specs.Syntax.{program_tree}
-use Rattle.csub_machine.specs.Ways.{LeadsTo, LeadsNowhere}
+use Rattle.csub_flat.specs.Ways.{LeadsTo, LeadsNowhere}
 use Rattle.csub_machine.proofs.Switches.{leaves_by_case, leaves_by_default}
 use Rattle.csub_machine.proofs.ways.way_at.Goals as goal
 
