@@ -398,3 +398,29 @@ pub fn assign(alloc: Global, tokens: &[Token], budget: u32) -> Result<(Expr, u32
     let node = assign_node(alloc, op, left, right)?;
     Ok((node, depth.max(right_depth) + 1, rest))
 }
+
+/// What [`conditional`] reads, in a box, in which it may wait for the tokens behind it, and these tokens.
+pub fn conditional_boxed(
+    alloc: Global,
+    tokens: &[Token],
+    budget: u32,
+) -> Result<(Box<Expr>, &[Token]), Stop>
+    requires { budget ≤ 256 }
+    ensures { Gives (λ x. (expr_tree x.0.value, x.1.now)) result (read budget conditional tokens.now) }
+{
+    let (e, _, rest) = conditional(alloc, tokens, budget)?;
+    Ok((boxed(alloc, e)?, rest))
+}
+
+/// What [`assign`] reads, in a box, in which it may wait for the tokens behind it, and these tokens.
+pub fn assign_boxed(
+    alloc: Global,
+    tokens: &[Token],
+    budget: u32,
+) -> Result<(Box<Expr>, &[Token]), Stop>
+    requires { budget ≤ 256 }
+    ensures { Gives (λ x. (expr_tree x.0.value, x.1.now)) result (read budget assignment tokens.now) }
+{
+    let (e, _, rest) = assign(alloc, tokens, budget)?;
+    Ok((boxed(alloc, e)?, rest))
+}

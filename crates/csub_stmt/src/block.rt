@@ -12,14 +12,15 @@ ghost use Rattle.csub_stmt.specs.StatementDescent.{bare_name, read_stmt, read_li
 
 use crate::base::begins_base;
 use crate::node::{
-    block_node, boxed, do_node, else_node, for_node, if_node, label_node, switch_node, while_node,
+    block_node, boxed, do_node, else_node, for_node, if_node, label_node, switch_node, unboxed,
+    while_node,
 };
 use crate::opening::{Opening, opening_at};
 use crate::statement::{
     case, declared, default, evaluated, evaluated_end, expect_key, give, go_on, jump, leave, maybe,
     test,
 };
-use csub_expr::expression::assign;
+use csub_expr::expression::assign_boxed;
 use csub_expr::look::{begins, begins_key, expect, head_span, skip};
 use csub_expr::stop::Stop;
 use csub_lex::{Key, Mark, Token};
@@ -36,17 +37,17 @@ fn empty(span: Span) -> Stmt
     }
 }
 
-fn start_of(e: &Expr) -> u32
-    ensures { result ≡ (span_of (expr_tree e.now)).start }
+fn start_of(e: &Box<Expr>) -> u32
+    ensures { result ≡ (span_of (expr_tree e.now.value)).start }
 {
     e.span.start
 }
 
 // The name that an expression is.
-fn bare_name(e: Expr) -> Option<Name>
-    ensures { result ≡ bare_name (expr_tree e) }
+fn bare_name(e: Box<Expr>) -> Option<Name>
+    ensures { result ≡ bare_name (expr_tree e.value) }
 {
-    match e.kind {
+    match unboxed(e).kind {
         ExprKind::Name(name) => Some(name),
         _ => None,
     }
@@ -54,9 +55,13 @@ fn bare_name(e: Expr) -> Option<Name>
 
 // The first part of a `for` (C11 6.8.5.3), and its semicolon.
 #[tactic(auto, unfolding(crate::specs::StatementDescent::first_at))]
-fn first(alloc: Global, tokens: &[Token], budget: u32) -> Result<(Option<Stmt>, &[Token]), Stop>
+fn first(
+    alloc: Global,
+    tokens: &[Token],
+    budget: u32,
+) -> Result<(Option<Box<Stmt>>, &[Token]), Stop>
     requires { budget ≤ 256 }
-    ensures { Gives (λ x. (perhaps_of (option_map stmt_tree x.0), x.1.now)) result (first_at budget tokens.now) }
+    ensures { Gives (λ x. (perhaps_of (option_map (λ p. stmt_tree p.value) x.0), x.1.now)) result (first_at budget tokens.now) }
 {
     if begins(tokens, Mark::Semicolon) {
         return Ok((None, skip(tokens)));
@@ -66,10 +71,10 @@ fn first(alloc: Global, tokens: &[Token], budget: u32) -> Result<(Option<Stmt>, 
     }
     if begins_base(tokens) {
         let (x, rest) = declared(alloc, tokens, budget - 1)?;
-        return Ok((Some(x), rest));
+        return Ok((Some(boxed(alloc, x)?), rest));
     }
     let (x, rest) = evaluated(alloc, tokens, budget - 1)?;
-    Ok((Some(x), rest))
+    Ok((Some(boxed(alloc, x)?), rest))
 }
 
 // A statement inside another.
@@ -241,7 +246,7 @@ fn for_loop(alloc: Global, tokens: &[Token], budget: u32) -> Result<(Stmt, &[Tok
     let (f, rest) = maybe(alloc, rest, Mark::CloseParen, budget)?;
     let (_, rest) = expect(rest, Mark::CloseParen)?;
     let (x, rest) = inside(alloc, rest, budget)?;
-    Ok((for_node(alloc, start, p, e, f, x)?, rest))
+    Ok((for_node(start, p, e, f, x), rest))
 }
 
 // `switch` (C11 6.8.4.2).
@@ -269,7 +274,7 @@ fn plain(alloc: Global, tokens: &[Token], budget: u32) -> Result<(Stmt, &[Token]
     requires { budget ≤ 256 }
     ensures { Gives (λ x. (stmt_tree x.0, x.1.now)) result (plain_at (read_stmt budget) budget tokens.now) }
 {
-    let (e, _, rest) = assign(alloc, tokens, budget)?;
+    let (e, rest) = assign_boxed(alloc, tokens, budget)?;
     if !begins(rest, Mark::Colon) {
         return evaluated_end(e, rest);
     }

@@ -10,7 +10,8 @@ ghost use Rattle.csub_expr.specs.ListDescent.{separated, repeated, never};
 ghost use Rattle.csub_stmt.specs.DeclarationDescent.{following, length_at, no_length, slot_after, value_after, var_after, slot_at, var_at, declare_end, decl_after, decl_behind, decl_at, field_at};
 
 use crate::base::base;
-use csub_expr::expression::conditional;
+use crate::node::unboxed;
+use csub_expr::expression::conditional_boxed;
 use csub_expr::initialiser::init;
 use csub_expr::look::{begins, expect, expect_name, head_span, skip};
 use csub_expr::stop::Stop;
@@ -20,12 +21,12 @@ use csub_tree::{Declarator, Declare, Expr, Name, TypeName};
 use std::alloc::Global;
 
 #[tactic(auto, unfolding(crate::specs::DeclarationDescent::length_at))]
-fn length(alloc: Global, tokens: &[Token], budget: u32) -> Result<(Expr, &[Token]), Stop>
+fn length(alloc: Global, tokens: &[Token], budget: u32) -> Result<(Box<Expr>, &[Token]), Stop>
     requires { budget ≤ 256 }
-    ensures { Gives (λ x. (expr_tree x.0, x.1.now)) result (length_at budget tokens.now) }
+    ensures { Gives (λ x. (expr_tree x.0.value, x.1.now)) result (length_at budget tokens.now) }
 {
     let (_, rest) = expect(tokens, Mark::OpenBracket)?;
-    let (e, _, rest) = conditional(alloc, rest, budget)?;
+    let (e, rest) = conditional_boxed(alloc, rest, budget)?;
     let (_, rest) = expect(rest, Mark::CloseBracket)?;
     Ok((e, rest))
 }
@@ -45,7 +46,7 @@ fn lengths(alloc: Global, tokens: &[Token], budget: u32) -> Result<(Vec<Expr>, &
     let mut rest = tokens;
     'each: while !no_length(rest, budget) {
         let (one, after) = length(alloc, rest, budget)?;
-        all.push(one)?;
+        all.push(unboxed(one))?;
         rest = after;
     }
     Ok((all, rest))

@@ -11,6 +11,23 @@ use csub_text::Span;
 use csub_tree::{Expr, Name, Stmt, StmtKind};
 use std::alloc::Global;
 
+/// The expression of a box. All are taken out here, since a call of a generic function at a type of many forms takes long to prove.
+pub fn unboxed(e: Box<Expr>) -> Expr
+    ensures { result ≡ e.value }
+{
+    Box::into_inner(e)
+}
+
+/// The expression of a box, where there is one.
+pub fn perhaps_unboxed(e: Option<Box<Expr>>) -> Option<Expr>
+    ensures { option_map expr_tree result ≡ option_map (λ e. expr_tree e.value) e }
+{
+    match e {
+        None => None,
+        Some(e) => Some(unboxed(e)),
+    }
+}
+
 pub fn block_node(start: u32, all: Vec<Stmt>, end: u32) -> Stmt
     ensures { stmt_tree result ≡ line (Block (stmts_of (map stmt_tree all.items))) start end }
 {
@@ -19,11 +36,11 @@ pub fn block_node(start: u32, all: Vec<Stmt>, end: u32) -> Stmt
     Stmt { kind, span }
 }
 
-pub fn switch_node(start: u32, e: Expr, all: Vec<Stmt>, end: u32) -> Stmt
-    ensures { stmt_tree result ≡ line (Switch (expr_tree e) (stmts_of (map stmt_tree all.items))) start end }
+pub fn switch_node(start: u32, e: Box<Expr>, all: Vec<Stmt>, end: u32) -> Stmt
+    ensures { stmt_tree result ≡ line (Switch (expr_tree e.value) (stmts_of (map stmt_tree all.items))) start end }
 {
     let span = Span { start, end };
-    let kind = StmtKind::Switch(e, all);
+    let kind = StmtKind::Switch(unboxed(e), all);
     Stmt { kind, span }
 }
 
@@ -35,44 +52,44 @@ pub fn boxed(alloc: Global, x: Stmt) -> Result<Box<Stmt>, Stop>
     Ok(Box::new(alloc, x)?)
 }
 
-pub fn if_node(start: u32, e: Expr, x: Box<Stmt>) -> Stmt
-    ensures { stmt_tree result ≡ line (If (expr_tree e) (stmt_tree x.value) NoStmt) start (stmt_span (stmt_tree x.value)).end }
+pub fn if_node(start: u32, e: Box<Expr>, x: Box<Stmt>) -> Stmt
+    ensures { stmt_tree result ≡ line (If (expr_tree e.value) (stmt_tree x.value) NoStmt) start (stmt_span (stmt_tree x.value)).end }
 {
     let span = Span {
         start,
         end: x.span.end,
     };
-    let kind = StmtKind::If(e, x, None);
+    let kind = StmtKind::If(unboxed(e), x, None);
     Stmt { kind, span }
 }
 
-pub fn else_node(start: u32, e: Expr, x: Box<Stmt>, y: Box<Stmt>) -> Stmt
-    ensures { stmt_tree result ≡ line (If (expr_tree e) (stmt_tree x.value) (OneStmt (stmt_tree y.value))) start (stmt_span (stmt_tree y.value)).end }
+pub fn else_node(start: u32, e: Box<Expr>, x: Box<Stmt>, y: Box<Stmt>) -> Stmt
+    ensures { stmt_tree result ≡ line (If (expr_tree e.value) (stmt_tree x.value) (OneStmt (stmt_tree y.value))) start (stmt_span (stmt_tree y.value)).end }
 {
     let span = Span {
         start,
         end: y.span.end,
     };
-    let kind = StmtKind::If(e, x, Some(y));
+    let kind = StmtKind::If(unboxed(e), x, Some(y));
     Stmt { kind, span }
 }
 
-pub fn while_node(start: u32, e: Expr, x: Box<Stmt>) -> Stmt
-    ensures { stmt_tree result ≡ line (While (expr_tree e) (stmt_tree x.value)) start (stmt_span (stmt_tree x.value)).end }
+pub fn while_node(start: u32, e: Box<Expr>, x: Box<Stmt>) -> Stmt
+    ensures { stmt_tree result ≡ line (While (expr_tree e.value) (stmt_tree x.value)) start (stmt_span (stmt_tree x.value)).end }
 {
     let span = Span {
         start,
         end: x.span.end,
     };
-    let kind = StmtKind::While(e, x);
+    let kind = StmtKind::While(unboxed(e), x);
     Stmt { kind, span }
 }
 
-pub fn do_node(start: u32, x: Box<Stmt>, e: Expr, end: u32) -> Stmt
-    ensures { stmt_tree result ≡ line (Do (stmt_tree x.value) (expr_tree e)) start end }
+pub fn do_node(start: u32, x: Box<Stmt>, e: Box<Expr>, end: u32) -> Stmt
+    ensures { stmt_tree result ≡ line (Do (stmt_tree x.value) (expr_tree e.value)) start end }
 {
     let span = Span { start, end };
-    let kind = StmtKind::Do(x, e);
+    let kind = StmtKind::Do(x, unboxed(e));
     Stmt { kind, span }
 }
 
@@ -87,32 +104,19 @@ pub fn label_node(name: Name, start: u32, x: Box<Stmt>) -> Stmt
     Stmt { kind, span }
 }
 
-fn perhaps_boxed(alloc: Global, p: Option<Stmt>) -> Result<Option<Box<Stmt>>, Stop>
-    ensures ok { IfOk result (λ b. option_map (λ x. stmt_tree x.value) b ≡ option_map stmt_tree p) }
-    ensures err { IfErr result (λ e. e ≡ Memory) }
-{
-    match p {
-        None => Ok(None),
-        Some(p) => Ok(Some(boxed(alloc, p)?)),
-    }
-}
-
 pub fn for_node(
-    alloc: Global,
     start: u32,
-    p: Option<Stmt>,
-    e: Option<Expr>,
-    f: Option<Expr>,
+    p: Option<Box<Stmt>>,
+    e: Option<Box<Expr>>,
+    f: Option<Box<Expr>>,
     x: Box<Stmt>,
-) -> Result<Stmt, Stop>
-    ensures ok { IfOk result (λ s. stmt_tree s ≡ line (For (perhaps_of (option_map stmt_tree p)) (option_map expr_tree e) (option_map expr_tree f) (stmt_tree x.value)) start (stmt_span (stmt_tree x.value)).end) }
-    ensures err { IfErr result (λ e. e ≡ Memory) }
+) -> Stmt
+    ensures { stmt_tree result ≡ line (For (perhaps_of (option_map (λ p. stmt_tree p.value) p)) (option_map (λ e. expr_tree e.value) e) (option_map (λ f. expr_tree f.value) f) (stmt_tree x.value)) start (stmt_span (stmt_tree x.value)).end }
 {
     let span = Span {
         start,
         end: x.span.end,
     };
-    let p = perhaps_boxed(alloc, p)?;
-    let kind = StmtKind::For(p, e, f, x);
-    Ok(Stmt { kind, span })
+    let kind = StmtKind::For(p, perhaps_unboxed(e), perhaps_unboxed(f), x);
+    Stmt { kind, span }
 }

@@ -8,7 +8,8 @@ ghost use Rattle.csub_stmt.specs.DeclarationDescent.{length_or_none, array_after
 ghost use Rattle.std.specs.Option.{option_map};
 
 use crate::base::{base, begins_name};
-use csub_expr::expression::conditional;
+use crate::node::perhaps_unboxed;
+use csub_expr::expression::conditional_boxed;
 use csub_expr::look::{begins, begins_key, expect, expect_name, head_span, skip};
 use csub_expr::stop::Stop;
 use csub_lex::{Key, Mark, Token};
@@ -21,14 +22,14 @@ fn length_or_none(
     alloc: Global,
     tokens: &[Token],
     budget: u32,
-) -> Result<(Option<Expr>, &[Token]), Stop>
+) -> Result<(Option<Box<Expr>>, &[Token]), Stop>
     requires { budget ≤ 256 }
-    ensures { Gives (λ x. (option_map expr_tree x.0, x.1.now)) result (length_or_none budget tokens.now) }
+    ensures { Gives (λ x. (option_map (λ e. expr_tree e.value) x.0, x.1.now)) result (length_or_none budget tokens.now) }
 {
     if begins(tokens, Mark::CloseBracket) {
         return Ok((None, tokens));
     }
-    let (e, _, rest) = conditional(alloc, tokens, budget)?;
+    let (e, rest) = conditional_boxed(alloc, tokens, budget)?;
     Ok((Some(e), rest))
 }
 
@@ -54,6 +55,7 @@ fn array_after(
             end: close.end,
         };
         let array = true;
+        let length = perhaps_unboxed(length);
         return Ok((
             Param {
                 base,

@@ -7,7 +7,8 @@ ghost use Rattle.csub_expr.specs.Answers.{Gives};
 ghost use Rattle.csub_stmt.specs.StatementDescent.{line, expect_key, maybe_at, declared_at, evaluated_end, evaluated_at, case_at, default_at, ended_by, test_at, goto_at, return_at, read_stmt};
 
 use crate::declaration::decl;
-use csub_expr::expression::{assign, conditional};
+use crate::node::{perhaps_unboxed, unboxed};
+use csub_expr::expression::{assign_boxed, conditional_boxed};
 use csub_expr::look::{begins, begins_key, expect, expect_name, head_span, skip};
 use csub_expr::stop::Stop;
 use csub_lex::{Key, Mark, Token};
@@ -42,14 +43,14 @@ pub fn maybe(
     tokens: &[Token],
     mark: Mark,
     budget: u32,
-) -> Result<(Option<Expr>, &[Token]), Stop>
+) -> Result<(Option<Box<Expr>>, &[Token]), Stop>
     requires { budget ≤ 256 }
-    ensures { Gives (λ x. (option_map expr_tree x.0, x.1.now)) result (maybe_at budget mark tokens.now) }
+    ensures { Gives (λ x. (option_map (λ e. expr_tree e.value) x.0, x.1.now)) result (maybe_at budget mark tokens.now) }
 {
     if begins(tokens, mark) {
         return Ok((None, tokens));
     }
-    let (e, _, rest) = assign(alloc, tokens, budget)?;
+    let (e, rest) = assign_boxed(alloc, tokens, budget)?;
     Ok((Some(e), rest))
 }
 
@@ -67,12 +68,12 @@ pub fn declared(alloc: Global, tokens: &[Token], budget: u32) -> Result<(Stmt, &
 
 /// An expression statement whose expression was read (C11 6.8.3).
 #[tactic(auto, unfolding(crate::specs::StatementDescent::evaluated_end))]
-pub fn evaluated_end(e: Expr, tokens: &[Token]) -> Result<(Stmt, &[Token]), Stop>
-    ensures { Gives (λ x. (stmt_tree x.0, x.1.now)) result (evaluated_end (expr_tree e) tokens.now) }
+pub fn evaluated_end(e: Box<Expr>, tokens: &[Token]) -> Result<(Stmt, &[Token]), Stop>
+    ensures { Gives (λ x. (stmt_tree x.0, x.1.now)) result (evaluated_end (expr_tree e.value) tokens.now) }
 {
     let (semicolon, rest) = expect(tokens, Mark::Semicolon)?;
     let start = e.span.start;
-    Ok((line(StmtKind::Eval(e), start, semicolon.end), rest))
+    Ok((line(StmtKind::Eval(unboxed(e)), start, semicolon.end), rest))
 }
 
 /// An expression statement (C11 6.8.3).
@@ -81,7 +82,7 @@ pub fn evaluated(alloc: Global, tokens: &[Token], budget: u32) -> Result<(Stmt, 
     requires { budget ≤ 256 }
     ensures { Gives (λ x. (stmt_tree x.0, x.1.now)) result (evaluated_at budget tokens.now) }
 {
-    let (e, _, rest) = assign(alloc, tokens, budget)?;
+    let (e, rest) = assign_boxed(alloc, tokens, budget)?;
     evaluated_end(e, rest)
 }
 
@@ -96,9 +97,9 @@ pub fn case(
     requires { budget ≤ 256 }
     ensures { Gives (λ x. (stmt_tree x.0, x.1.now)) result (case_at budget start tokens.now) }
 {
-    let (e, _, rest) = conditional(alloc, tokens, budget)?;
+    let (e, rest) = conditional_boxed(alloc, tokens, budget)?;
     let (colon, rest) = expect(rest, Mark::Colon)?;
-    Ok((line(StmtKind::Case(e), start, colon.end), rest))
+    Ok((line(StmtKind::Case(unboxed(e)), start, colon.end), rest))
 }
 
 /// `default` whose keyword, which began at `start`, was read (C11 6.8.1).
@@ -130,12 +131,12 @@ pub fn go_on(start: u32, tokens: &[Token]) -> Result<(Stmt, &[Token]), Stop>
 
 /// The expression in parentheses that a statement begins with (C11 6.8.4 and 6.8.5).
 #[tactic(auto, unfolding(crate::specs::StatementDescent::test_at))]
-pub fn test(alloc: Global, tokens: &[Token], budget: u32) -> Result<(Expr, &[Token]), Stop>
+pub fn test(alloc: Global, tokens: &[Token], budget: u32) -> Result<(Box<Expr>, &[Token]), Stop>
     requires { budget ≤ 256 }
-    ensures { Gives (λ x. (expr_tree x.0, x.1.now)) result (test_at (read_stmt budget) budget tokens.now) }
+    ensures { Gives (λ x. (expr_tree x.0.value, x.1.now)) result (test_at (read_stmt budget) budget tokens.now) }
 {
     let (_, rest) = expect(tokens, Mark::OpenParen)?;
-    let (e, _, rest) = assign(alloc, rest, budget)?;
+    let (e, rest) = assign_boxed(alloc, rest, budget)?;
     let (_, rest) = expect(rest, Mark::CloseParen)?;
     Ok((e, rest))
 }
@@ -163,5 +164,12 @@ pub fn give(
 {
     let (value, rest) = maybe(alloc, tokens, Mark::Semicolon, budget)?;
     let (semicolon, rest) = expect(rest, Mark::Semicolon)?;
-    Ok((line(StmtKind::Return(value), start, semicolon.end), rest))
+    Ok((
+        line(
+            StmtKind::Return(perhaps_unboxed(value)),
+            start,
+            semicolon.end,
+        ),
+        rest,
+    ))
 }

@@ -53,22 +53,22 @@ switch_lines-returns t c = let i = c.each.invariant in i.2 ∙ each_ends (switch
 pub plain-returns-then-not-begins : goal.plain-returns-then-not-begins
 plain-returns-then-not-begins t c =
     let b = c.args.budget in
-    rw (plain_evaluated (read_stmt b) b c.args.tokens.now c.in_ok-e.rest.now (expr_tree c.in_ok-e.e) c.in_ok-e.ensures.gives (sym c.if-not-begins.ensures)) c.evaluated_end.ensures
+    rw (plain_evaluated (read_stmt b) b c.args.tokens.now c.in_ok-e.rest.now (expr_tree c.in_ok-e.e.value) c.in_ok-e.ensures (sym c.if-not-begins.ensures)) c.evaluated_end.ensures
 
 pub plain-returns-in_default : goal.plain-returns-in_default
 plain-returns-in_default t c =
     let b = c.args.budget in
-    plain_refused (read_stmt b) b c.args.tokens.now c.in_ok-e.rest.now (expr_tree c.in_ok-e.e) c.in_ok-e.ensures.gives (sym c.if-not-begins.ensures) (sym c.in_default.is ∙ c.bare_name.ensures)
+    plain_refused (read_stmt b) b c.args.tokens.now c.in_ok-e.rest.now (expr_tree c.in_ok-e.e.value) c.in_ok-e.ensures (sym c.if-not-begins.ensures) (sym c.in_default.is ∙ c.bare_name.ensures)
 
 pub plain-returns-in_err-x : goal.plain-returns-in_err-x
 plain-returns-in_err-x t c =
     let p = err_from_is_err_and c.from_residual-in_err-x.result c.from_residual-in_err-x.ensures.1 in
     let b = c.args.budget in
     let failed : Fails c.in_err-x.field-0.0 (read_stmt b (rest c.in_ok-e.rest.now)) = rw (← c.skip.ensures) c.in_err-x.ensures in
-    rw (p.1, p.2) (plain_fails (read_stmt b) b c.in_err-x.field-0.0 c.args.tokens.now c.in_ok-e.rest.now (expr_tree c.in_ok-e.e) c.in-Some.name c.in_ok-e.ensures.gives (sym c.if-not-begins.ensures) c.in-Some.ensures failed)
+    rw (p.1, p.2) (plain_fails (read_stmt b) b c.in_err-x.field-0.0 c.args.tokens.now c.in_ok-e.rest.now (expr_tree c.in_ok-e.e.value) c.in-Some.name c.in_ok-e.ensures (sym c.if-not-begins.ensures) c.in-Some.ensures failed)
 
 pub plain-returns : goal.plain-returns
 plain-returns t c =
     let b = c.args.budget in
     let one : read_stmt b (rest c.in_ok-e.rest.now) ≡ Ok (stmt_tree c.in_ok-x.x.value, c.in_ok-x.rest.now) = rw (← c.skip.ensures) c.in_ok-x.ensures in
-    rw (c.label_node.ensures, c.start_of-start.ensures) (plain_labelled (read_stmt b) b c.args.tokens.now c.in_ok-e.rest.now c.in_ok-x.rest.now (expr_tree c.in_ok-e.e) c.in-Some.name (stmt_tree c.in_ok-x.x.value) c.in_ok-e.ensures.gives (sym c.if-not-begins.ensures) c.in-Some.ensures one)
+    rw (c.label_node.ensures, c.start_of-start.ensures) (plain_labelled (read_stmt b) b c.args.tokens.now c.in_ok-e.rest.now c.in_ok-x.rest.now (expr_tree c.in_ok-e.e.value) c.in-Some.name (stmt_tree c.in_ok-x.x.value) c.in_ok-e.ensures (sym c.if-not-begins.ensures) c.in-Some.ensures one)
