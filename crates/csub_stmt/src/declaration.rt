@@ -7,7 +7,7 @@ ghost use Rattle.csub_expr.specs.Looks.{begins};
 ghost use Rattle.csub_expr.specs.Answers.{Gives};
 ghost use Rattle.csub_expr.specs.declared.stop.Stop.TheVariants.{Memory};
 ghost use Rattle.csub_expr.specs.ListDescent.{separated, repeated, never};
-ghost use Rattle.csub_stmt.specs.DeclarationDescent.{following, length_at, no_length, slot_after, value_after, var_after, slot_at, var_at, declare_end, decl_after, decl_behind, decl_at, field_at};
+ghost use Rattle.csub_stmt.specs.DeclarationDescent.{following, length_at, no_length, slot_after, var_after, slot_at, var_at, declare_end, decl_after, decl_behind, decl_at, field_at};
 
 use crate::base::base;
 use crate::node::unboxed;
@@ -74,26 +74,7 @@ fn has_value(tokens: &[Token], budget: u32) -> bool
     begins(tokens, Mark::Equal) && 2 <= budget
 }
 
-#[tactic(auto, unfolding(crate::specs::DeclarationDescent::value_after))]
-fn value_after(
-    alloc: Global,
-    slot: Declarator,
-    tokens: &[Token],
-    budget: u32,
-) -> Result<(Declarator, &[Token]), Stop>
-    requires { budget ≤ 256 }
-    ensures { Gives (λ x. (declarator_tree x.0, x.1.now)) result (value_after budget (declarator_tree slot) tokens.now) }
-{
-    if has_value(tokens, budget) {
-        let (value, rest) = init(alloc, skip(tokens), budget)?;
-        let Declarator { name, dims, .. } = slot;
-        let init = Some(value);
-        return Ok((Declarator { name, dims, init }, rest));
-    }
-    Ok((slot, tokens))
-}
-
-#[tactic(auto, unfolding(crate::specs::DeclarationDescent::var_after))]
+#[tactic(auto, unfolding(crate::specs::DeclarationDescent::var_after, crate::specs::DeclarationDescent::slot_after, crate::specs::DeclarationDescent::value_after))]
 fn var_after(
     alloc: Global,
     name: Name,
@@ -103,8 +84,14 @@ fn var_after(
     requires { budget ≤ 256 }
     ensures { Gives (λ x. (declarator_tree x.0, x.1.now)) result (var_after budget name tokens.now) }
 {
-    let (slot, rest) = slot_after(alloc, name, tokens, budget)?;
-    value_after(alloc, slot, rest, budget)
+    let (dims, rest) = lengths(alloc, tokens, budget)?;
+    if has_value(rest, budget) {
+        let (value, rest) = init(alloc, skip(rest), budget)?;
+        let init = Some(value);
+        return Ok((Declarator { name, dims, init }, rest));
+    }
+    let init = None;
+    Ok((Declarator { name, dims, init }, rest))
 }
 
 #[tactic(auto, unfolding(crate::specs::DeclarationDescent::slot_at))]
