@@ -31,22 +31,25 @@ entry_node f enter = record { point = entry; label = enters; span = f.span; ways
 abbrev pub exit_node : FunctionTree → Numbered
 exit_node f = record { point = exit; label = exits (end_rule f.name f.result); span = f.span; ways = [] }
 
--- the points of a function whose body begins behind its entry
-pub function_made : (f : FunctionTree) (body : StmtTrees) (start first enter : ℕ) (path : List ℕ) (jump : Name → ℕ) (a : Around ℕ) (nodes : List GraphNode) (old middle : List Numbered) → body ≡ f.body → first ≡ start + 1 → path ≡ [] → jump ≡ jump_of f start → a ≡ by_exit f start → old ≡ exit_node f ∷ [] → enter ≡ enter_list body first a → middle ≡ old ++ reverse (list_numbered body 0 first path jump a) → map numbered_node nodes ≡ middle ++ entry_node f enter ∷ [] → map numbered_node (reverse nodes) ≡ function_numbered f start
-function_made f body start first enter path jump a nodes old middle is_body is_first is_path is_jump is_around ended begins emitted pushed =
-    let lines = λ (b : StmtTrees) (n : ℕ) (p : List ℕ) (j : Name → ℕ) (x : Around ℕ). (exit_node f ∷ []) ++ reverse (list_numbered b 0 n p j x) in
-    let beginning =
-    begins ∙ ap (λ b. enter_list b first a) is_body ∙ ap (λ n. enter_list f.body n a) is_first ∙ ap (enter_list f.body (start + 1)) is_around in
-    let inner =
+-- the points of a function's body, which begins behind its entry
+pub body_begins : (f : FunctionTree) (body : StmtTrees) (start first enter : ℕ) (a : Around ℕ) → body ≡ f.body → first ≡ start + 1 → a ≡ by_exit f start → enter ≡ enter_list body first a → enter ≡ enter_list f.body (start + 1) (by_exit f start)
+body_begins f body start first enter a is_body is_first is_around begins =
+    begins ∙ ap (λ b. enter_list b first a) is_body ∙ ap (λ n. enter_list f.body n a) is_first ∙ ap (enter_list f.body (start + 1)) is_around
+
+pub body_made : (f : FunctionTree) (body : StmtTrees) (start first : ℕ) (jump : Name → ℕ) (a : Around ℕ) (old new : List Numbered) → body ≡ f.body → first ≡ start + 1 → jump ≡ jump_of f start → a ≡ by_exit f start → new ≡ old ++ reverse (list_numbered body 0 first [] jump a) → new ≡ old ++ reverse (list_numbered f.body 0 (start + 1) [] (jump_of f start) (by_exit f start))
+body_made f body start first jump a old new is_body is_first is_jump is_around emitted =
     emitted
-    ∙ ap (λ l. l ++ reverse (list_numbered body 0 first path jump a)) ended
-    ∙ ap (λ b. lines b first path jump a) is_body
-    ∙ ap (λ n. lines f.body n path jump a) is_first
-    ∙ ap (λ p. lines f.body (start + 1) p jump a) is_path
-    ∙ ap (λ j. lines f.body (start + 1) [] j a) is_jump
-    ∙ ap (lines f.body (start + 1) [] (jump_of f start)) is_around in
-    turned_round (entry_node f (enter_list f.body (start + 1) (by_exit f start))) (exit_node f) (list_numbered f.body 0 (start + 1) [] (jump_of f start) (by_exit f start)) nodes
-    (pushed ∙ ap (λ l. l ++ entry_node f enter ∷ []) inner ∙ ap (λ n. lines f.body (start + 1) [] (jump_of f start) (by_exit f start) ++ entry_node f n ∷ []) beginning)
+    ∙ ap (λ b. old ++ reverse (list_numbered b 0 first [] jump a)) is_body
+    ∙ ap (λ n. old ++ reverse (list_numbered f.body 0 n [] jump a)) is_first
+    ∙ ap (λ j. old ++ reverse (list_numbered f.body 0 (start + 1) [] j a)) is_jump
+    ∙ ap (λ x. old ++ reverse (list_numbered f.body 0 (start + 1) [] (jump_of f start) x)) is_around
+
+-- the points of a function
+pub function_made : (f : FunctionTree) (start enter : ℕ) (nodes : List GraphNode) (old middle : List Numbered) → old ≡ exit_node f ∷ [] → enter ≡ enter_list f.body (start + 1) (by_exit f start) → middle ≡ old ++ reverse (list_numbered f.body 0 (start + 1) [] (jump_of f start) (by_exit f start)) → map numbered_node nodes ≡ middle ++ entry_node f enter ∷ [] → map numbered_node (reverse nodes) ≡ function_numbered f start
+function_made f start enter nodes old middle ended begins emitted pushed =
+    let lines = list_numbered f.body 0 (start + 1) [] (jump_of f start) (by_exit f start) in
+    turned_round (entry_node f (enter_list f.body (start + 1) (by_exit f start))) (exit_node f) lines nodes
+    (pushed ∙ ap (λ l. l ++ entry_node f enter ∷ []) (emitted ∙ ap (λ l. l ++ reverse lines) ended) ∙ ap (λ n. ((exit_node f ∷ []) ++ reverse lines) ++ entry_node f n ∷ []) begins)
 
 -- how many points the nodes of a function are
 pub nodes_made : (nodes : List GraphNode) (f : _) (start : ℕ) → map numbered_node nodes ≡ function_numbered f start → length nodes ≡ count_function f

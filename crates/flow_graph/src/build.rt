@@ -1,17 +1,17 @@
 //! The points of a program, and its objects of file scope.
-ghost use Rattle.std.specs.Prelude.{◌≡◌, ◌<◌, ◌+◌, ◌^◌, ◌++◌, IfOk, [], ◌∷◌, length, map};
+ghost use Rattle.std.specs.Prelude.{◌≡◌, ◌<◌, ◌+◌, ◌^◌, ◌++◌, IfOk, [], ◌∷◌, length, map, reverse};
 ghost use Rattle.csub_semantics.specs.Types.{global_tree};
 ghost use Rattle.csub_semantics.specs.Labels.{enters, exits};
 ghost use Rattle.csub_semantics.specs.Points.{entry, exit, next};
 ghost use Rattle.csub_semantics.specs.Successors.{way};
 ghost use Rattle.csub_semantics.specs.Flows.{end_rule as end_rule'};
 ghost use Rattle.csub_semantics.specs.Syntax.{function_tree};
-ghost use Rattle.flow_graph.specs.Numbers.{numbered_node, numbered_point, numbered_function, of_function, count_function, count_program, function_numbered, program_numbered, functions_numbered};
+ghost use Rattle.flow_graph.specs.Numbers.{numbered_node, numbered_point, numbered_function, of_function, count_function, count_program, exit_number, by_exit, jump_of, enter_list, list_numbered, function_numbered, program_numbered, functions_numbered};
 
 use crate::count::count_all;
 use crate::emit::{Around, emit_list};
 use crate::jumps::jumps_of;
-use crate::node::{GraphFunction, GraphNode, GraphPoint, one_way};
+use crate::node::{GraphFunction, GraphNode, GraphPoint, one_way, push_node};
 use crate::onward::all_to;
 use csub_semantics::{
     EndRule, Function, GlobalVar, IntKind, Label, Point, Span, Text, copy_global,
@@ -48,12 +48,14 @@ fn exit_alone(alloc: Global, function: &Function) -> Result<Vec<GraphNode>, Allo
     ensures { IfOk result (λ made. map numbered_node made.items ≡ record { point = exit; label = exits (end_rule' function.now.name function.now.result); span = function.now.span; ways = [] } ∷ []) }
 {
     let mut nodes = Vec::new(alloc);
-    nodes.push(GraphNode {
-        point: Point::Exit,
-        label: Label::Exit(end_rule(&function.name, function.result)),
-        span: function.span,
-        ways: Vec::new(alloc),
-    })?;
+    let label = Label::Exit(end_rule(&function.name, function.result));
+    push_node(
+        &mut nodes,
+        Point::Exit,
+        label,
+        function.span,
+        Vec::new(alloc),
+    )?;
     Ok(nodes)
 }
 
@@ -67,13 +69,31 @@ fn push_entry(
     ensures { IfOk result (λ _. map numbered_node nodes.new.items ≡ map numbered_node nodes.old.items ++ record { point = entry; label = enters; span = span; ways = way next enter ∷ [] } ∷ []) }
 {
     let ways = one_way(alloc, enter)?;
-    nodes.push(GraphNode {
-        point: Point::Entry,
-        label: Label::Entry,
-        span,
-        ways,
-    })?;
-    Ok(())
+    push_node(nodes, Point::Entry, Label::Entry, span, ways)
+}
+
+/// Appends the points of the body of a function, last first, its entry having the number `start` and its exit `exit`;
+/// the point at which the body begins.
+fn push_body(
+    alloc: Global,
+    function: &Function,
+    start: u32,
+    exit: u32,
+    nodes: &mut Vec<GraphNode>,
+) -> Result<u32, AllocError>
+    requires { exit ≡ exit_number (function_tree function.now) start }
+    ensures enter { IfOk result (λ enter. enter ≡ enter_list (function_tree function.now).body (start + 1) (by_exit (function_tree function.now) start)) }
+    ensures nodes { IfOk result (λ _. map numbered_node nodes.new.items ≡ map numbered_node nodes.old.items ++ reverse (list_numbered (function_tree function.now).body 0 (start + 1) [] (jump_of (function_tree function.now) start) (by_exit (function_tree function.now) start))) }
+{
+    let body = function.body.as_slice();
+    let jumps = jumps_of(alloc, body, exit)?;
+    let around = Around {
+        jumps: &jumps,
+        onward: all_to(exit),
+    };
+    let path: &[u32] = &[];
+    let begin = emit_list(alloc, body, path, exit, around, nodes)?;
+    Ok(begin.enter)
 }
 
 /// The points of a function, its entry having the number `start`.
@@ -85,17 +105,10 @@ fn list_function(
     requires { start + count_function (function_tree function.now) < 2 ^ 30 }
     ensures { IfOk result (λ made. map numbered_node made.items ≡ function_numbered (function_tree function.now) start) }
 {
-    let body = function.body.as_slice();
-    let exit = start + 1 + count_all(body);
-    let jumps = jumps_of(alloc, body, exit)?;
+    let exit = start + 1 + count_all(function.body.as_slice());
     let mut nodes = exit_alone(alloc, function)?;
-    let around = Around {
-        jumps: &jumps,
-        onward: all_to(exit),
-    };
-    let path = Vec::new(alloc);
-    let begin = emit_list(alloc, body, path.as_slice(), exit, around, &mut nodes)?;
-    push_entry(alloc, function.span, begin.enter, &mut nodes)?;
+    let enter = push_body(alloc, function, start, exit, &mut nodes)?;
+    push_entry(alloc, function.span, enter, &mut nodes)?;
     nodes.reverse();
     Ok(nodes)
 }

@@ -1,7 +1,9 @@
 //! The points of statements, by their numbers, last first: where a statement leads to is known from what follows it.
 ghost use Rattle.std.specs.Prelude.{◌≡◌, ◌≤◌, ◌+◌, ◌++◌, IfOk, [], ◌∷◌, map, reverse, length};
 ghost use Rattle.std.specs.Option.{option_map};
-ghost use Rattle.csub_semantics.specs.Labels.{label_tree};
+ghost use Rattle.csub_semantics.specs.Labels.{calls, call_tree, label_tree};
+ghost use Rattle.csub_semantics.specs.Points.{at, next};
+ghost use Rattle.csub_semantics.specs.Successors.{way, test_ways as test_ways'};
 ghost use Rattle.csub_semantics.specs.Syntax.{call_stage, part_tree, do_loop, for_loop, switch_on, stmt_tree, stmts_of};
 ghost use Rattle.flow_graph.specs.Jumps.{jump_by};
 ghost use Rattle.flow_graph.specs.Numbers.{numbered_way, numbered_node, around as the_around, count, count_parts, count_head, count_list, enter, enter_part, enter_parts, enter_head, enter_list, case_ways, default_to, main_ways as main_ways', part_numbered, parts_numbered, head_numbered, numbered, list_numbered};
@@ -10,7 +12,7 @@ use crate::begin::{Begin, begin_again, ends, part_begin};
 use crate::cases::{Cases, gather, switch_ways};
 use crate::count::count_of;
 use crate::jumps::{Jumps, jump};
-use crate::node::{GraphNode, GraphWay, inner_path, one_way, point_at, step, test_ways};
+use crate::node::{GraphNode, GraphWay, inner_path, one_way, point_at, push_node, step, test_ways};
 use crate::onward::{Onward, looping, switching};
 use csub_semantics::{Label, RCall, RPart, RStmt, copy_call, copy_label};
 use csub_text::Span;
@@ -47,6 +49,39 @@ struct Lines {
     cases: Cases,
 }
 
+/// Appends the point of a call, which is the stage of its part with the number `stage`.
+fn push_call(
+    alloc: Global,
+    call: &RCall,
+    spot: Spot<'_>,
+    stage: usize,
+    ways: Vec<GraphWay>,
+    out: &mut Vec<GraphNode>,
+) -> Result<(), AllocError>
+    ensures { IfOk result (λ _. map numbered_node out.new.items ≡ map numbered_node out.old.items ++ record { point = at spot.entry.path.now spot.entry.part stage; label = calls (call_tree call.now.label); span = call.now.span; ways = map numbered_way ways.items } ∷ []) }
+{
+    let point = point_at(alloc, spot.path, spot.part, stage)?;
+    let label = Label::Call(copy_call(alloc, &call.label)?);
+    push_node(out, point, label, call.span, ways)
+}
+
+/// Appends a part's own point, which is its stage with the number `stage`.
+fn push_own(
+    alloc: Global,
+    label: &Label,
+    span: Span,
+    spot: Spot<'_>,
+    stage: usize,
+    ways: Vec<GraphWay>,
+    out: &mut Vec<GraphNode>,
+) -> Result<(), AllocError>
+    ensures { IfOk result (λ _. map numbered_node out.new.items ≡ map numbered_node out.old.items ++ record { point = at spot.entry.path.now spot.entry.part stage; label = label_tree label.now; span = span; ways = map numbered_way ways.items } ∷ []) }
+{
+    let point = point_at(alloc, spot.path, spot.part, stage)?;
+    let label = copy_label(alloc, label)?;
+    push_node(out, point, label, span, ways)
+}
+
 /// Appends the calls of a part at a place, last first; the number behind the last is `end`, and its ways out are `ways`.
 fn emit_calls(
     alloc: Global,
@@ -64,14 +99,8 @@ fn emit_calls(
     let mut first = end;
     let mut ways = ways;
     for k in (0..calls.len()).rev() {
-        let call = &calls[k];
         first -= 1;
-        out.push(GraphNode {
-            point: point_at(alloc, spot.path, spot.part, step(k)?)?,
-            label: Label::Call(copy_call(alloc, &call.label)?),
-            span: call.span,
-            ways,
-        })?;
+        push_call(alloc, &calls[k], spot, k, ways, out)?;
         ways = one_way(alloc, first)?;
     }
     Ok(first)
@@ -95,12 +124,7 @@ fn emit_stages(
         None => emit_calls(alloc, calls, part.span, spot, end, ways, out),
         Some(label) => {
             let own = end - 1;
-            out.push(GraphNode {
-                point: point_at(alloc, spot.path, spot.part, step(calls.len())?)?,
-                label: copy_label(alloc, label)?,
-                span: part.span,
-                ways,
-            })?;
+            push_own(alloc, label, part.span, spot, calls.len(), ways, out)?;
             let onward = one_way(alloc, own)?;
             let first = emit_calls(alloc, calls, part.span, spot, own, onward, out)?;
             Ok(first)
@@ -126,6 +150,46 @@ fn emit_part(
     let first = emit_stages(alloc, part, spot, end, ways, out)?;
     let enter = if first < end { first } else { past };
     Ok(Begin { first, enter })
+}
+
+/// Appends the points of a test as [`emit_part`] does; it leads to `when_true` or `when_false`.
+fn emit_test(
+    alloc: Global,
+    test: &RPart,
+    spot: Spot<'_>,
+    end: u32,
+    when_true: u32,
+    when_false: u32,
+    past: u32,
+    out: &mut Vec<GraphNode>,
+) -> Result<Begin, AllocError>
+    requires { length (part_tree test.now) ≤ end }
+    ensures first { IfOk result (λ begin. begin.first + length (part_tree test.now) ≡ end) }
+    ensures enter { IfOk result (λ begin. begin.enter ≡ enter_part (part_tree test.now) begin.first past) }
+    ensures nodes { IfOk result (λ begin. map numbered_node out.new.items ≡ map numbered_node out.old.items ++ reverse (part_numbered (part_tree test.now) 0 begin.first spot.entry.path.now spot.entry.part (test_ways' when_true when_false))) }
+{
+    let ways = test_ways(alloc, when_true, when_false)?;
+    emit_part(alloc, test, spot, end, ways, past, out)
+}
+
+/// Appends the points of a `goto` that leads to the point `to`, as [`emit_part`] does.
+fn emit_goto(
+    alloc: Global,
+    part: &RPart,
+    path: &[u32],
+    end: u32,
+    to: u32,
+    past: u32,
+    out: &mut Vec<GraphNode>,
+) -> Result<Begin, AllocError>
+    requires { length (part_tree part.now) ≤ end }
+    ensures first { IfOk result (λ begin. begin.first + length (part_tree part.now) ≡ end) }
+    ensures enter { IfOk result (λ begin. begin.enter ≡ enter_part (part_tree part.now) begin.first past) }
+    ensures nodes { IfOk result (λ begin. map numbered_node out.new.items ≡ map numbered_node out.old.items ++ reverse (part_numbered (part_tree part.now) 0 begin.first path.now 0 (way next to ∷ []))) }
+{
+    let ways = one_way(alloc, to)?;
+    let spot = Spot { path, part: 0 };
+    emit_part(alloc, part, spot, end, ways, past, out)
 }
 
 /// The ways out of the last stage of a part that is no test: a return leads to the function's exit, an end of the run
@@ -196,10 +260,10 @@ fn emit_head(
     };
     let behind = step(first.len() + 1)?;
     let end = emit_parts(alloc, third, path, behind, body.first, back, out)?.first;
-    let ways = test_ways(alloc, body.enter, onward.leave)?;
     let index = step(first.len())?;
     let spot = Spot { path, part: index };
-    let end = emit_part(alloc, test, spot, end, ways, onward.leave, out)?.first;
+    let leave = onward.leave;
+    let end = emit_test(alloc, test, spot, end, body.enter, leave, leave, out)?.first;
     emit_parts(alloc, first, path, 0, end, back, out)
 }
 
@@ -227,10 +291,7 @@ fn emit(
                 None => ends(end, onward.leave),
                 Some(stmt) => emit_inner(alloc, stmt, path, 1, end, around, out)?,
             };
-            let on_true = emit_inner(alloc, then, path, 0, on_false.first, around, out)?;
-            let ways = test_ways(alloc, on_true.enter, on_false.enter)?;
-            let spot = Spot { path, part: 0 };
-            emit_part(alloc, test, spot, on_true.first, ways, onward.leave, out)
+            emit_then(alloc, test, then, path, on_false, around, out)
         }
         RStmt::While(test, body) => {
             let (first, third): (&[RPart], &[RPart]) = (&[], &[]);
@@ -250,9 +311,8 @@ fn emit(
         RStmt::Break => Ok(ends(end, onward.broken)),
         RStmt::Continue => Ok(ends(end, onward.continued)),
         RStmt::Goto(name, part) => {
-            let ways = one_way(alloc, jump(around.jumps, name))?;
-            let spot = Spot { path, part: 0 };
-            emit_part(alloc, part, spot, end, ways, onward.leave, out)
+            let to = jump(around.jumps, name);
+            emit_goto(alloc, part, path, end, to, onward.leave, out)
         }
         RStmt::Mark(_, stmt) => emit_inner(alloc, stmt, path, 0, end, around, out),
     }
@@ -276,6 +336,37 @@ fn emit_inner(
 {
     let inner = inner_path(alloc, path, step)?;
     emit(alloc, stmt, inner.as_slice(), end, around, out)
+}
+
+/// Appends the points of the test and of the first branch of an `if`, whose other branch begins as `on_false` says.
+#[cycle(emit)]
+fn emit_then(
+    alloc: Global,
+    test: &RPart,
+    then: &RStmt,
+    path: &[u32],
+    on_false: Begin,
+    around: Around<'_>,
+    out: &mut Vec<GraphNode>,
+) -> Result<Begin, AllocError>
+    requires { length (part_tree test.now) + count (stmt_tree then.now) ≤ on_false.first }
+    ensures first { IfOk result (λ begin. begin.first + length (part_tree test.now) + count (stmt_tree then.now) ≡ on_false.first) }
+    ensures enter { IfOk result (λ begin. begin.enter ≡ enter_part (part_tree test.now) begin.first around.entry.onward.leave) }
+    ensures nodes { IfOk result (λ begin. map numbered_node out.new.items ≡ map numbered_node out.old.items ++ reverse (part_numbered (part_tree test.now) 0 begin.first path.now 0 (test_ways' (enter (stmt_tree then.now) (begin.first + length (part_tree test.now)) (the_around around.entry.onward)) on_false.enter) ++ numbered (stmt_tree then.now) (begin.first + length (part_tree test.now)) (path.now ++ 0 ∷ []) (jump_by around.entry.jumps.now) (the_around around.entry.onward))) }
+{
+    let on_true = emit_inner(alloc, then, path, 0, on_false.first, around, out)?;
+    let spot = Spot { path, part: 0 };
+    let leave = around.onward.leave;
+    emit_test(
+        alloc,
+        test,
+        spot,
+        on_true.first,
+        on_true.enter,
+        on_false.enter,
+        leave,
+        out,
+    )
 }
 
 /// Appends the points of a `for`, or of a `while`, which is a `for` of a test alone.
@@ -333,9 +424,9 @@ fn emit_do(
     };
     let mut nodes = Vec::new(alloc);
     let begun = emit_inner(alloc, body, path, 0, tested.first, within, &mut nodes)?;
-    let ways = test_ways(alloc, begun.enter, onward.leave)?;
     let spot = Spot { path, part: 0 };
-    emit_part(alloc, test, spot, end, ways, onward.leave, out)?;
+    let leave = onward.leave;
+    emit_test(alloc, test, spot, end, begun.enter, leave, leave, out)?;
     out.append(&mut nodes)?;
     Ok(begun)
 }

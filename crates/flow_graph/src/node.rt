@@ -1,8 +1,9 @@
 //! Points with the numbers of the points to which they lead.
 ghost use Rattle.std.specs.Prelude.{◌≡◌, ◌++◌, IfOk, [], ◌∷◌, map};
+ghost use Rattle.csub_semantics.specs.Labels.{label_tree};
 ghost use Rattle.csub_semantics.specs.Points.{point_tree, at, next};
 ghost use Rattle.csub_semantics.specs.Successors.{way, test_ways as test_ways'};
-ghost use Rattle.flow_graph.specs.Numbers.{numbered_way};
+ghost use Rattle.flow_graph.specs.Numbers.{numbered_way, numbered_node};
 
 use csub_semantics::{ExitLabel, Label, Point, PointPath, Span, Text};
 use std::alloc::{AllocError, Global};
@@ -101,9 +102,30 @@ pub fn inner_path(alloc: Global, path: &[u32], step: u32) -> Result<Vec<u32>, Al
 }
 
 /// A stage of a part of the statement at `path`.
-pub fn point_at(alloc: Global, path: &[u32], part: u32, stage: u32) -> Result<Point, AllocError>
+pub fn point_at(alloc: Global, path: &[u32], part: u32, stage: usize) -> Result<Point, AllocError>
     ensures { IfOk result (λ made. point_tree made ≡ at path.now part stage) }
 {
+    let stage = step(stage)?;
     let path = path.to_vec(alloc)?;
     Ok(Point::At(PointPath { path, part, stage }))
+}
+
+/// Appends a point with its ways out. All points are appended here: each place that did it by itself would be proved with
+/// the drop of a point.
+pub fn push_node(
+    out: &mut Vec<GraphNode>,
+    point: Point,
+    label: Label,
+    span: Span,
+    ways: Vec<GraphWay>,
+) -> Result<(), AllocError>
+    ensures { IfOk result (λ _. map numbered_node out.new.items ≡ map numbered_node out.old.items ++ record { point = point_tree point; label = label_tree label; span = span; ways = map numbered_way ways.items } ∷ []) }
+{
+    out.push(GraphNode {
+        point,
+        label,
+        span,
+        ways,
+    })?;
+    Ok(())
 }

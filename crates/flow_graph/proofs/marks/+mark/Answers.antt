@@ -16,12 +16,6 @@ mark_list-mark-requires t c =
 pub mark-mark_list-requires : goal.mark-mark_list-requires
 mark-mark_list-requires t c = search (rules, row_trees-list, the_lemmas)
 
-pub mark-mark_list-requires-in-Switch : goal.mark-mark_list-requires-in-Switch
-mark-mark_list-requires-in-Switch t c = search (rules, row_trees-list, the_lemmas)
-
-pub mark-part_begin-requires-in-Switch : goal.mark-part_begin-requires-in-Switch
-mark-part_begin-requires-in-Switch t c = search (rules, row_trees-list, the_lemmas)
-
 pub mark-returns-in-Block-clause-first : goal.mark-returns-in-Block-clause-first
 mark-returns-in-Block-clause-first t c = search (rules, row_trees-list, the_lemmas)
 
@@ -31,8 +25,11 @@ mark-returns-in-Block-clause-enter t c = search (rules, row_trees-list, the_lemm
 pub mark-returns-in-Block-clause-marks : goal.mark-returns-in-Block-clause-marks
 mark-returns-in-Block-clause-marks t c = search (rules, row_trees-list, the_lemmas)
 
-pub mark-returns-in_ok-lines-in-Switch-clause-first : goal.mark-returns-in_ok-lines-in-Switch-clause-first
-mark-returns-in_ok-lines-in-Switch-clause-first t c = search (rules, row_trees-list, the_lemmas)
+pub mark-mark_switch-requires : goal.mark-mark_switch-requires
+mark-mark_switch-requires t c = search (rules, row_trees-list, the_lemmas)
 
-pub mark-returns-in_ok-lines-in-Switch-clause-marks : goal.mark-returns-in_ok-lines-in-Switch-clause-marks
-mark-returns-in_ok-lines-in-Switch-clause-marks t c = search (rules, row_trees-list, the_lemmas)
+pub mark-returns-in-Switch-clause-first : goal.mark-returns-in-Switch-clause-first
+mark-returns-in-Switch-clause-first t c = search (rules, row_trees-list, the_lemmas)
+
+pub mark-returns-in-Switch-clause-marks : goal.mark-returns-in-Switch-clause-marks
+mark-returns-in-Switch-clause-marks t c = search (rules, row_trees-list, the_lemmas)
