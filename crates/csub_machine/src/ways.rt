@@ -17,12 +17,7 @@ use csub_slots::act::PlainExit;
 use flow_graph::{Graph, WayOut};
 
 /// The way out of a point but for those of a `switch`; `None` where the point has none. It looks at one row of a table.
-pub fn way_by(
-    program: &Program,
-    flat: &FlatProgram,
-    point: u32,
-    exit: PlainExit,
-) -> Option<WayOut>
+pub fn way_by(program: &Program, flat: &FlatProgram, point: u32, exit: PlainExit) -> Option<WayOut>
     requires copies { IsFlatOf (program_tree program.now) flat.now }
     requires point { point < length (point_list (program_tree program.now)) }
     ensures some { IfSome result (LeadsTo (program_tree program.now) point (exit_seen exit)) }
