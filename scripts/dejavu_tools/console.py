@@ -53,9 +53,14 @@ def write_all(descriptor: int, data: bytes) -> None:
 
 def say(*lines: str) -> None:
     """Writes lines to standard error, where there is one that can be written."""
+    say_bytes("".join(f"{readable(line)}\n" for line in lines).encode("utf-8"))
+
+
+def say_bytes(text: bytes) -> None:
+    """Writes what another program said to standard error, as it is, where there is one that can be written."""
     if sys.stderr:
         with suppress(OSError):
-            write_all(ERROR, "".join(f"{readable(line)}\n" for line in lines).encode("utf-8"))
+            write_all(ERROR, text)
 
 
 def put(text: bytes) -> None:

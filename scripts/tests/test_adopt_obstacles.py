@@ -34,9 +34,9 @@ class Told(unittest.TestCase):
         for line in told:
             self.assertIn(line.rsplit(": ", 1)[1], remedies)
 
-    def test_every_kind_is_expected(self):
+    def test_every_kind_is_expected(self):  # but headers that aren't there, which are told alone (test_adopt_script.py)
         expected = [line.split(": ", 1)[1] for line in (FOLDER / "expected.txt").read_text("utf-8").splitlines()]
-        for kind, words in OBSTACLES.items():
+        for kind, words in OBSTACLES.items() - {("header", OBSTACLES["header"])}:
             told = re.compile(re.escape(words.what).replace(re.escape("{name}"), ".+"))
             with self.subTest(kind=kind):
                 self.assertTrue(any(map(told.fullmatch, expected)))

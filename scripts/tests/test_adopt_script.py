@@ -90,6 +90,23 @@ class Script(InFolder):
         self.assertEqual(done.stderr.splitlines(), [f"a.c:4:15: {told}", f"b.c:1:15: {told}", "2 obstacles"])
         self.assertEqual(self.names(), ["a.c", "b.c"])
 
+    def test_headers_that_are_not_there(self):
+        self.write("a.c", '#include <nowhere.h>\n  #include "sub/b.h"\n#include "../c.h"\nint main(void) { return none; }\n')
+        self.write("sub/b.h", "#include <sys/none.h>\n")
+        self.write("b.c", "#include <nowhere.h>\nint f(void) { float x; return 0; }\n")
+        done = self.adopt("a.c", "b.c")
+        todo = "isn't there: take it out, or name the folder that has it by -I"
+        self.assertEqual(done.stderr.splitlines(), [
+            f"a.c:1:10: the header `nowhere.h` {todo}", f"a.c:3:10: the header `../c.h` {todo}",
+            f"b.c:1:10: the header `nowhere.h` {todo}", f"sub/b.h:1:10: the header `sys/none.h` {todo}", "4 obstacles"])
+        self.assertEqual((done.returncode, done.stdout), (1, ""))
+
+    def test_what_the_preprocessor_says(self):
+        self.write("a.c", "#warning mind this\nint main(void) { return 0; }\n")
+        done = self.adopt("a.c")
+        self.assertIn("mind this", done.stderr)
+        self.assertEqual(done.returncode, 0)
+
     def check_error(self, last, *words):
         """The script ends with 2, writes no unit, and its last line on standard error is this one."""
         done = self.adopt(*words)
@@ -102,8 +119,6 @@ class Script(InFolder):
         self.write("a.c", "int main(void) { return nothing; }\n")
         self.assertIn("'nothing' undeclared", self.check_error("a.c: gcc refuses it", "a.c").replace("\u2018", "'")
                       .replace("\u2019", "'"))
-        self.write("b.c", "#include <nowhere.h>\n")
-        self.assertIn("nowhere.h", self.check_error("b.c: gcc refuses it", "b.c"))
         self.write("c.c", "int f(void) { return 0; }\n")
         self.check_error("c.c: there is no `main`", "c.c")
 

@@ -30,13 +30,13 @@ struct outer { struct inner first; };
 int main(void) { struct outer o; o.first.a = 1; double d; return o.first.a + missing(); }
 """, [(2, 35, SYNTAX), (4, 49, FLOATING), (4, 78, "the function `missing` isn't defined")]),
     "a function without a head that can be read": ("""
-static __inline__ int twice(int n) { return 2 * n; }
+static __signed__ int twice(int n) { return 2 * n; }
 int main(void) { return twice(2) + missing(1) + missing(twice(1)); }
 """, [(2, 36, SYNTAX), (3, 36, "the function `missing` isn't defined"), (3, 49, "the function `missing` isn't")]),
     "functions with the names of helpers of the translator": ("""
 void pad(int count, int byte);
 int back(int n);
-static __inline__ int print_int(int n) { return n; }
+static __signed__ int print_int(int n) { return n; }
 int main(void) { pad(1, 2); print_int(1); return back(3) + print_int(2) + (back(1) > 0); }
 """, [(4, 40, SYNTAX), (5, 18, "the function `pad` isn't defined"), (5, 50, "the function `back` isn't defined"),
       (5, 76, "the function `back` isn't defined")]),
@@ -45,9 +45,9 @@ static int of(int n) { switch (n) { case 1 ... 3: return 1; } return 0; }
 int main(void) { return of(1.5); }
 """, [(2, 44, SYNTAX), (3, 28, FLOATING)]),
     "a type of structs and one of an enum, with what begins as one or is assigned to one": ("""
-typedef enum { LOW, HIGH } __attribute__((unused)) level;
+typedef enum { LOW, HIGH } __attribute__((packed)) level;
 struct point { int x, y; };
-typedef struct { level l; struct point origin, corners[2]; } __attribute__((unused)) pair;
+typedef struct { level l; struct point origin, corners[2]; } __attribute__((packed)) pair;
 static pair first = { .l = LOW }, all[2] = { { HIGH, { 1, 2 } } };
 static pair made(level l) { pair p = { l }; return p; }
 int main(void) {
@@ -60,8 +60,8 @@ int main(void) { return __builtin_types_compatible_p(int, long); }
 double d;
 """, [(2, 54, SYNTAX), (3, 1, FLOATING)]),
     "an object and the constants of an enum": ("""
-enum { FIRST = 1, SECOND } __attribute__((unused)) chosen = FIRST;
-static int (*handlers[2])(int) __attribute__((unused));
+enum { FIRST = 1, SECOND } __attribute__((packed)) chosen = FIRST;
+static int (*handlers[2])(int) __attribute__((packed));
 static int sizes[SECOND];
 int main(void) { sizes[FIRST] = SECOND; handlers[0](1.5); switch (chosen) { case FIRST: return sizes[1]; } return 1; }
 """, [(2, 42, SYNTAX), (3, 32, SYNTAX), (5, 53, FLOATING)]),
@@ -105,7 +105,8 @@ class Items(unittest.TestCase):
     def test_split(self):
         items = ["int a = 1, b[2] = {1, 2};", "struct s { int a; } __attribute__((packed));",
                  "int f(void) { return 1; }", "typedef struct __attribute__((packed)) { int a; } t;", ";", "enum { A, B };",
-                 'asm("} ; {");', "char c = '{';", "int g(a) int a;", "{ return a; }", "int (*h(void))(int) { return 0; }"]
+                 'asm("} ; {");', "char c = '{';", "int g(a, b) int a; char\n*b;\n{ return a; }", "int m() { return 0; }",
+                 "main() { return g(1); }", "int (*h(void))(int) { return 0; }"]
         text = "\n".join(items)
         self.assertEqual([text[item.start:item.end] for item in split(text)], items)
 
@@ -115,7 +116,7 @@ class Items(unittest.TestCase):
             ("typedef struct s { int a; } __attribute__((packed)) t, *u;", "t u", "s", "", True),
             ("typedef enum { A, B } t;", "t", "", "A B", True),
             ("enum e { A, B = 2, } x;", "x", "e", "A B", False),
-            ("static __inline__ int f(int n) { int a; }", "f", "", "", False),
+            ("static __signed__ int f(int n) { int a; }", "f", "", "", False),
             ("struct s __attribute__((aligned(4))) o = { .n = 1 };", "o", "", "", False),
         ):
             with self.subTest(text):

@@ -1,7 +1,8 @@
 """What `scripts/adopt` stands on: several files of everyday C become one source of the language (docs/language.md).
 
 - `options`, `places`, `obstacles`, `words`: what is asked for, where things stand, what the language has nothing for
-- `preprocess` (over the headers in `include`), `parse`: a file as a tree whose nodes know their places
+- `preprocess` (over the headers in `include`), `extensions`, `parse`, `old_style`: a file as a tree whose nodes know their
+  places; `items`, `unread`: what can't be read of it
 - `types`, `literals`, `constants`, `declarations`, `symbols`, `initialisers`: what declarations and constants mean
 - `program`: all files together; `names`: names that nothing else has
 - `effects`, `offsets`, `endings`: what functions read and write, which array parameters have an offset, and whether

@@ -6,7 +6,7 @@ from typing import Any, Optional
 from pycparser import c_ast
 
 from . import types
-from .literals import char_value, number_value, string_bytes
+from .literals import char_value, is_character, number_value, string_bytes
 from .types import Array, Function, Member, Number, Pointer, Struct, Type
 
 COMPARED = {"<", ">", "<=", ">=", "==", "!=", "&&", "||"}
@@ -42,7 +42,7 @@ def value_of(program: Any, node: Any) -> Optional[int]:
 
 def constant_value(node: Any) -> Optional[int]:
     """The value of a number or a character; None of a string or a fraction."""
-    if node.type == "char":
+    if is_character(node):
         return char_value(node.value)
     value, kind = number_value(node.value) if "int" in node.type else (0, None)
     return None if kind is None else value
@@ -110,7 +110,7 @@ def type_of(program: Any, node: Any) -> Type:
     if isinstance(node, c_ast.Constant):
         if node.type == "string":
             return Array(types.CHAR, len(string_bytes(node.value)) + 1)
-        kind = types.INT if node.type == "char" else number_value(node.value)[1] if "int" in node.type else None
+        kind = types.INT if is_character(node) else number_value(node.value)[1] if "int" in node.type else None
         return kind or types.FLOATING
     if isinstance(node, c_ast.ID):
         return getattr(program.symbols.get(id(node)), "type", types.INT)

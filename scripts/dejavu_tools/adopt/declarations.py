@@ -7,6 +7,7 @@ from pycparser import c_ast
 
 from . import types
 from .constants import value_of
+from .old_style import OldParameters
 from .symbols import Scope, Symbol
 from .types import Array, Function, Member, Number, Pointer, Struct, Type
 
@@ -124,9 +125,12 @@ class Declarer:
             kind = self.type(parameter.type, inner, parameter.name or "")
             if isinstance(kind, Array):
                 kind = Pointer(kind.element)
+            if isinstance(kind, Function):  # which is a pointer to it (6.7.6.3p8)
+                self.obstacles.tell("function pointer", parameter)
+                kind = types.INT
             if not isinstance(kind, types.Void):
                 parameters.append((parameter.name or "", kind))
-        return Function(result, tuple(parameters), is_variadic, node.args is None)
+        return Function(result, tuple(parameters), is_variadic, node.args is None, isinstance(node.args, OldParameters))
 
     def struct(self, node: Any, scope: Scope, hint: str) -> Struct:
         """The struct of a tag, or a new one."""

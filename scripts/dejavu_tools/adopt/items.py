@@ -11,6 +11,7 @@ from typing import Dict, Iterator, List, Optional, Set, Tuple
 TOKEN = re.compile(r'"(?:[^"\\]|\\.)*"|\'(?:[^\'\\]|\\.)*\'|[A-Za-z_$][\w$]*|\.?\d[\w.]*|\S')
 PAIRS = {"(": ")", "[": "]", "{": "}"}
 NAME = re.compile(r"[A-Za-z_$][\w$]*")
+OLD_HEAD = re.compile(r"\(\s*[A-Za-z_$][\w$,\s]*\)\s*[A-Za-z_$][\w$]*[\s*]")  # `(a, b) int a`, as in an old definition
 ATTRIBUTES = {"__attribute__", "__attribute", "__asm__", "__asm", "asm", "__declspec", "_Alignas"}
 TYPE_WORDS = {
     "void", "char", "short", "int", "long", "float", "double", "signed", "unsigned", "_Bool", "_Complex", "const",
@@ -77,11 +78,26 @@ def split(text: str) -> List[Item]:
         before = tokens.words[close]
         if word == ";" or is_body:
             body = (tokens.found[k].end(), tokens.found[close].start()) if is_body else None
-            items.append(Item(tokens.found[first].start(), tokens.found[close].end(), body))
+            start = tokens.found[first].start()
+            if is_body and first == k:
+                start = old_head(text, items, start)
+            items.append(Item(start, tokens.found[close].end(), body))
             first, before = close + 1, ""
     if first < len(tokens.words):
         items.append(Item(tokens.found[first].start(), len(text)))
     return items
+
+
+def old_head(text: str, items: List[Item], start: int) -> int:
+    """Where the head begins of a body that begins at `start`, in the old style; the items that it is are taken out."""
+    for k in range(len(items) - 1, -1, -1):
+        if items[k].body is not None:
+            break
+        if OLD_HEAD.search(text, items[k].start, items[k].end):
+            start = items[k].start
+            del items[k:]
+            break
+    return start
 
 
 def declared(text: str) -> Declared:

@@ -34,7 +34,7 @@ OFFSETS = re.compile(r", (?:unsigned )?\w+_at\b(?! \+)|\b\w+_at \+ |_at(?=\()")
 
 HEADERS = Path(__file__).resolve().with_name("include")  # stand in for those of the system
 DECLARED = frozenset(
-    name for header in HEADERS.glob("*.h") for name in re.findall(r"\b(\w+)\(", header.read_text(encoding="ascii")))
+    name for header in HEADERS.rglob("*.h") for name in re.findall(r"\b(\w+)\(", header.read_text(encoding="ascii")))
 
 
 @dataclass(frozen=True)

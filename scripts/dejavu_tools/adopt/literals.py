@@ -3,10 +3,11 @@ from __future__ import annotations
 
 import hashlib
 import re
-from typing import List, Optional, Tuple
+from typing import Any, List, Optional, Tuple
 
 from .types import INT, LONG, UNSIGNED, UNSIGNED_LONG, Number
 
+PREFIXES = ("L", "u", "U")  # the first characters of `L`, `u8`, `u` and `U`
 PIECE = re.compile(r'"((?:[^"\\]|\\.)*)"')
 ESCAPE = re.compile(r"\\(x[0-9A-Fa-f]+|[0-7]{1,3}|.)|([^\\])", re.S)
 SIMPLE = {"n": 10, "t": 9, "r": 13, "a": 7, "b": 8, "f": 12, "v": 11, "\\": 92, "'": 39, '"': 34, "?": 63}
@@ -38,12 +39,20 @@ def string_bytes(text: str) -> List[int]:
     return [byte for piece in PIECE.findall(text) for byte in decoded(piece)]
 
 
+def is_character(node: Any) -> bool:
+    """Whether a constant is one of a character, or of several in one."""
+    return node.value.endswith("'")
+
+
+def has_prefix(node: Any) -> bool:
+    """Whether a constant is a string or a character with a prefix, such as `L"a"`."""
+    return node.value[-1:] in ("'", '"') and node.value[:1] in PREFIXES
+
+
 def char_value(text: str) -> int:
-    """The value of a character constant."""
-    value = 0
-    for byte in decoded(text[1:-1]):
-        value = value << 8 | byte
-    return signed_byte(value) if value < 256 else value
+    """The value of a character constant; one of several characters is what gcc makes of them."""
+    data = decoded(text[1:-1])
+    return signed_byte(data[0]) if len(data) == 1 else int.from_bytes(bytes(data[-4:]), "big", signed=len(data) > 3)
 
 
 def signed_byte(byte: int) -> int:

@@ -55,6 +55,8 @@ class CallLowering:
             return "nothing()"
         if procedure.type.is_variadic:
             return f"{procedure.symbol.unit}()"
+        if len(self.arguments(node)) != len(procedure.parameters):
+            self.tell("arguments", node, procedure.symbol.name)
         parts: List[str] = []
         for parameter, argument in zip(procedure.parameters, self.arguments(node)):
             if isinstance(parameter.type, Number):

@@ -9,7 +9,7 @@ from . import types
 from .constants import size_of, type_of, value_of
 from .effects import STEPS
 from .initialisers import is_null
-from .literals import MOST_INT, MOST_UNSIGNED, char_value, number_value, spelled_number
+from .literals import MOST_INT, MOST_UNSIGNED, char_value, is_character, number_value, spelled_number
 from .lower_places import is_pointer
 from .types import Number, Pointer, Struct, is_narrow
 from .values import (
@@ -37,7 +37,7 @@ class ExpressionLowering:
 
     def value_constant(self, node: Any) -> Value:
         """A number or a character."""
-        if node.type == "char":
+        if is_character(node):
             value = char_value(node.value)
             plain = len(node.value) == 3 or node.value[1:-1] in ("\\n", "\\t", "\\r", "\\a", "\\b", "\\f", "\\v",
                                                                  "\\\\", "\\'", '\\"', "\\?", "\\0")

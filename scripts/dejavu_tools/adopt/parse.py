@@ -7,8 +7,10 @@ from typing import Any, List, NoReturn, Optional, Tuple
 
 from pycparser import c_ast, c_parser
 
+from .extensions import without_extensions
 from .items import Item, declared, split
 from .obstacles import Collector
+from .old_style import with_types
 from .places import Place
 from .preprocess import Preprocessed
 from .unread import Unread
@@ -18,7 +20,22 @@ MOST_FAULTS = 100  # of a file; what stands behind the last one isn't read
 
 
 class Parser(c_parser.CParser):
-    """The parser, which tells where each fault is: version 3.0 of the library tells some without a place."""
+    """The parser, which tells where each fault is: version 3.0 of the library tells some without a place.
+
+    It reads old definitions without a result's type too, such as `main(argc, argv) char **argv; {`.
+    """
+
+    def _parse_external_declaration(self) -> List[c_ast.Node]:
+        token = self._peek()
+        if token is None or token.type != "ID" or self._starts_declaration(token):
+            return super()._parse_external_declaration()
+        decl = self._parse_id_declarator()
+        listed = self._parse_declaration_list() if self._starts_declaration() else None
+        if self._peek_type() != "LBRACE":
+            self._parse_error("Invalid function definition", decl.coord)
+        spec = {"qual": [], "alignment": [], "storage": [], "function": [],
+                "type": [c_ast.IdentifierType(["int"], coord=decl.coord)]}
+        return [self._build_function_definition(spec, decl, listed, self._parse_compound_statement())]
 
     def _parse_error(self, msg: str, coord: Any) -> NoReturn:
         if getattr(coord, "line", None) is None:
@@ -33,14 +50,16 @@ def parse(source: Preprocessed, obstacles: Collector, unread: Unread) -> c_ast.F
     Line markers are blanked out, so that a coordinate leads to the line of the text and from there to its origin. Each
     external declaration that can't be read is told and left out; of a function whose head can be read the body alone.
     """
-    text = "\n".join("" if line.startswith("#") else line for line in source.lines)
+    text = without_extensions("\n".join("" if line.startswith("#") else line for line in source.lines))
     try:
-        return Parser().parse(text, "")
+        tree = Parser().parse(text, "")
     except c_parser.ParseError:
         reader = Reader(text, source, obstacles, unread)
         reader.read(0, len(reader.items))
         unread.spread(reader.nodes)
-        return c_ast.FileAST(reader.nodes)
+        tree = c_ast.FileAST(reader.nodes)
+    with_types(tree.ext)
+    return tree
 
 
 class Reader:

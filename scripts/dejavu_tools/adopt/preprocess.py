@@ -7,8 +7,10 @@ import subprocess
 from bisect import bisect_right
 from difflib import SequenceMatcher
 from pathlib import Path
+from tempfile import TemporaryDirectory
 from typing import Dict, List, NamedTuple, Optional, Sequence, Tuple
 
+from ..console import say_bytes
 from ..errors import ToolError
 from .library import HEADERS
 from .options import Options
@@ -19,6 +21,7 @@ NOT_THE_SAME = ("__DATE__", "__TIME__", "__TIMESTAMP__")  # from one run to the 
 MARKER = re.compile(r'^# (\d+) "((?:[^"\\]|\\.)*)"')
 QUOTED = re.compile(r'"(?:[^"\\\n]|\\.)*"|\'(?:[^\'\\\n]|\\.)*\'')
 ESCAPE = re.compile(r"\\(x[0-9A-Fa-f]+|[0-7]{1,3}|.)")
+MISSING = re.compile(r"^(.+?):(\d+):(\d+): fatal error: (.+): No such file or directory$", re.MULTILINE)
 TOKEN = re.compile(r'[A-Za-z_]\w*|\.?\d[\w.]*|"(?:[^"\\]|\\.)*"|\'(?:[^\'\\]|\\.)*\'|\S')
 
 
@@ -27,6 +30,14 @@ class Origin(NamedTuple):
 
     file: str
     line: int
+
+
+class HeadersMissing(Exception):
+    """The preprocessor doesn't find headers that a file names: the place and the name of each."""
+
+    def __init__(self, headers: Sequence[Tuple[Place, str]]) -> None:
+        super().__init__()
+        self.headers = headers
 
 
 class Preprocessed:
@@ -50,7 +61,7 @@ class Preprocessed:
             if key not in self.columns:
                 self.columns[key] = Columns(*key)
             column = self.columns[key].origin(column)
-        return Place(self.name_of(origin.file), origin.line, column)
+        return Place(told_name(self.path, self.includes, origin.file), origin.line, column)
 
     def source_line(self, origin: Origin) -> Optional[str]:
         """The line of a file from which a line comes, or None where there is no such line."""
@@ -62,16 +73,6 @@ class Preprocessed:
             self.sources[origin.file] = text.split("\n")
         lines = self.sources[origin.file]
         return lines[origin.line - 1] if 0 < origin.line <= len(lines) else None
-
-    def name_of(self, file: str) -> str:
-        """The name of a file as people know it: that of the command line, or of a header beside it."""
-        if file == self.path.name:
-            return str(self.path)
-        for include in self.includes:
-            absolute = os.path.abspath(include)
-            if file.startswith(absolute + os.sep):
-                return str(include / os.path.relpath(file, absolute))
-        return file if os.path.isabs(file) else str(self.folder / file)
 
     def is_standard(self, line: int) -> bool:
         """Whether a line of the preprocessed text comes from a header of the system."""
@@ -97,6 +98,17 @@ class Columns:
         """The column of the source line for a column of the preprocessed one."""
         k = bisect_right(self.starts, column) - 1
         return self.origins[k] if k >= 0 else column
+
+
+def told_name(path: Path, includes: Sequence[Path], file: str) -> str:
+    """The name of a file as people know it: that of the command line, or of a header beside it."""
+    if file == path.name:
+        return str(path)
+    for include in includes:
+        absolute = os.path.abspath(include)
+        if file.startswith(absolute + os.sep):
+            return str(include / os.path.relpath(file, absolute))
+    return file if os.path.isabs(file) else str(path.parent / file)
 
 
 def whole_escapes(match: "re.Match[str]") -> str:
@@ -127,24 +139,61 @@ def list_origins(lines: Sequence[str]) -> List[Origin]:
     return origins
 
 
-def run_gcc(name: Path, words: Sequence[str], folder: Path, text: Optional[bytes] = None) -> bytes:
-    """What gcc writes for these words; a `ToolError` where it refuses, and says why on standard error itself."""
+def run_gcc(words: Sequence[str], folder: Path, text: Optional[bytes] = None) -> "subprocess.CompletedProcess[bytes]":
+    """What gcc answers to these words in a folder."""
     environment = {**os.environ, "LC_ALL": "C", "SOURCE_DATE_EPOCH": "0"}
     try:
-        made = subprocess.run(["gcc", *words], cwd=folder, input=text, env=environment, stdout=subprocess.PIPE,
-                              check=False)
+        return subprocess.run(["gcc", *words], cwd=folder, input=text, env=environment, stdout=subprocess.PIPE,
+                              stderr=subprocess.PIPE, check=False)
     except OSError as error:
         raise ToolError(f"gcc: {error.strerror}") from error
+
+
+def taken(name: Path, made: "subprocess.CompletedProcess[bytes]") -> bytes:
+    """What gcc wrote, and on standard error what it says; a `ToolError` where it refuses."""
+    say_bytes(made.stderr)
     if made.returncode:
         raise ToolError(f"{name}: gcc refuses it")
     return made.stdout
+
+
+def expand(path: Path, words: Sequence[str], options: Options) -> bytes:
+    """The text of a file after preprocessing; `HeadersMissing` where headers aren't there, with all that are named.
+
+    Behind a header that isn't there the preprocessor reads on, as if that were empty, to find the next one.
+    """
+    missing: List[Tuple[Place, str]] = []
+    with TemporaryDirectory() as empty:
+        while True:
+            made = run_gcc([*words, "-I", empty, path.name], path.parent)
+            found = MISSING.search(made.stderr.decode("utf-8", "surrogateescape")) if made.returncode else None
+            if found is None:
+                break
+            name = told_name(path, options.include_directories, found[1])
+            missing.append((Place(name, int(found[2]), int(found[3])), found[4]))
+            header = Path(empty, found[4])
+            if ".." in header.parts or Path(empty) not in header.parents or header.exists():
+                break
+            header.parent.mkdir(parents=True, exist_ok=True)
+            header.touch()
+    if missing:
+        raise HeadersMissing(missing)
+    return taken(path, made)
+
+
+def standard() -> Preprocessed:
+    """The headers of the system whose functions programs also declare by themselves."""
+    text = "".join(f"#include <{name}.h>\n" for name in ("ctype", "stdio", "stdlib", "string", "strings"))
+    made = run_gcc(["-E", "-undef", "-nostdinc", "-I", str(HEADERS), "-x", "c", "-"], HEADERS, text.encode("ascii"))
+    return Preprocessed(HEADERS, taken(HEADERS, made).decode("ascii"), Options())
 
 
 def preprocess(path: Path, options: Options) -> Preprocessed:
     """The file after preprocessing over the repository's own headers, if gcc takes it as C11.
 
     What is made depends on the contents of the files alone: no macro of the compiler's own is defined, and a file is
-    named relative to its folder. Raises a `ToolError` where the file isn't there, or gcc refuses it.
+    named relative to its folder. Raises a `ToolError` where the file isn't there, or gcc refuses it, and
+    `HeadersMissing` where a header isn't there.
     """
     if not path.is_file():
         raise ToolError(f"{path}: No such file or directory")
@@ -155,6 +204,6 @@ def preprocess(path: Path, options: Options) -> Preprocessed:
     standard = ["-std=c11", "-undef", "-nostdinc", "-Wno-builtin-macro-redefined"]
     standard += [f'-D{name}="{name}"' for name in NOT_THE_SAME]
     headers = ["-I", str(HEADERS)]  # no headers of a system to gcc, which would break the lines that use their macros
-    text = run_gcc(path, ["-E", *standard, *maps, *includes, *headers, *defined, path.name], folder)
-    run_gcc(path, ["-x", "cpp-output", "-std=c11", "-w", "-fsyntax-only", "-"], folder, text)
+    text = expand(path, ["-E", *standard, *maps, *includes, *headers, *defined], options)
+    taken(path, run_gcc(["-x", "cpp-output", "-std=c11", "-w", "-fsyntax-only", "-"], folder, text))
     return Preprocessed(path, text.decode("utf-8", "surrogateescape"), options)

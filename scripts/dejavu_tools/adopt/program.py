@@ -12,11 +12,13 @@ from . import types
 from .constants import member_of, type_of, value_of
 from .declarations import Constant, Declarer
 from .effects import roots
+from .library import DECLARED
+from .literals import has_prefix
 from .names import Names
 from .obstacles import Collector
 from .options import Options
 from .parse import Places, parse
-from .preprocess import NOT_THE_SAME, preprocess
+from .preprocess import NOT_THE_SAME, HeadersMissing, Preprocessed, preprocess, standard
 from .symbols import Procedure, Scope, Symbol
 from .types import Array, Function, Number, Pointer, Struct, Type
 from .unread import Unread
@@ -49,23 +51,38 @@ class Program:
         self.standard_types: Set[str] = set()  # the names that headers of the system give to types
         self.named_constants: Set[str] = set()
         self.null_tests: Any = None  # the parameters that are compared with NULL, once they are known
+        self.defined: Set[str] = set()  # the names of the functions that files define
+        self.of_headers: Dict[str, Tuple[Any, Type]] = {}  # declarations of functions of the library, once one is wanted
         self.pointed: Dict[int, List[Any]] = {}  # what is assigned to each pointer that is a local object
 
     def read(self, files: List[Path]) -> None:
         """Reads all files; what can't be read of them is left out."""
-        for path in files:
-            source = preprocess(path, self.options)
+        for path, source in self.preprocessed(files):
             tree = parse(source, self.obstacles, self.unread)
             self.places.add(tree, source)
             self.files.append((re.sub(r"\W", "_", path.stem), tree))
             for node in tree.ext:
                 if not self.places.is_standard(node):
                     self.names.take(node)
+                if isinstance(node, c_ast.FuncDef):
+                    self.defined.add(node.decl.name)
         for stem, tree in self.files:
             self.gather(stem, tree)
         if not any(procedure.symbol.name == "main" for procedure in self.procedures):
             self.refuse(f"{', '.join(map(str, files))}: there is no `main`")
         self.name_all()
+
+    def preprocessed(self, files: List[Path]) -> List[Tuple[Path, Preprocessed]]:
+        """The files after preprocessing. Where headers aren't there, these alone are told."""
+        found = []
+        for path in files:
+            try:
+                found.append((path, preprocess(path, self.options)))
+            except HeadersMissing as error:
+                for place, header in error.headers:
+                    self.obstacles.tell_at("header", place, header)
+        self.obstacles.stop()
+        return found
 
     def gather(self, stem: str, tree: Any) -> None:
         """Takes the declarations and definitions of a file, in order."""
@@ -89,6 +106,7 @@ class Program:
     def declare(self, node: Any, scope: Scope, declarer: Declarer) -> Symbol:
         """Takes a declaration at file scope, or an `extern` one within a function."""
         kind = declarer.type(node.type, scope, node.name)
+        node, kind = self.of_header(node, kind)
         symbol = self.file_symbol(node, kind, scope, declarer.stem)
         if node.init is not None:
             declarer.resolve(node.init, scope)
@@ -98,6 +116,29 @@ class Program:
         if not isinstance(kind, Function) and "extern" not in node.storage:
             symbol.is_defined = True
         return symbol
+
+    def of_header(self, node: Any, kind: Type) -> Tuple[Any, Type]:
+        """A declaration and its type; those of a header for a function of the library that a file declares by itself."""
+        if not isinstance(kind, Function) or node.name not in DECLARED or node.name in self.defined:
+            return node, kind
+        if self.places.is_standard(node):
+            return node, kind
+        if not self.of_headers:
+            self.read_headers()
+        found = self.of_headers.get(node.name)
+        return found if found is not None and (kind.is_open or agree(kind, found[1])) else (node, kind)
+
+    def read_headers(self) -> None:
+        """Reads the declarations of the functions of the library."""
+        source = standard()
+        tree = parse(source, self.obstacles, self.unread)
+        self.places.add(tree, source)
+        scope, declarer = Scope(), Declarer(self, "")
+        for node in tree.ext:
+            if isinstance(node, c_ast.Typedef):
+                declarer.typedef(node, scope)
+            elif isinstance(node.type, c_ast.FuncDecl):
+                self.of_headers[node.name] = node, declarer.type(node.type, scope, node.name)
 
     def known_init(self, symbol: Symbol, node: Any) -> Any:
         """The initialiser of a declaration; None in place of the list of an object whose type isn't known."""
@@ -218,6 +259,8 @@ class Program:
         """Notes what an operator or a call says of an object, and tells of what differs from run to run."""
         if isinstance(node, c_ast.Constant) and node.value.strip('"') in NOT_THE_SAME:
             self.obstacles.tell("time", node, node.value.strip('"'))
+        if isinstance(node, c_ast.Constant) and has_prefix(node):
+            self.obstacles.tell("prefix", node)
         if isinstance(node, c_ast.FuncCall) and getattr(node.name, "name", "") in ("memcpy", "memmove"):
             for symbol in roots(self, node.args.exprs[1]):
                 symbol.is_copied = True
@@ -305,7 +348,8 @@ def agree(left: Type, right: Type) -> bool:
     if isinstance(left, Function) and isinstance(right, Function):
         if left.is_open or right.is_open:
             return types.spelled(left.result) == types.spelled(right.result)
-        kinds = [[types.spelled(kind) for _, kind in function.parameters] for function in (left, right)]
+        taken = types.passed if left.is_old or right.is_old else lambda kind: kind
+        kinds = [[types.spelled(taken(kind)) for _, kind in function.parameters] for function in (left, right)]
         return types.spelled(left.result) == types.spelled(right.result) and kinds[0] == kinds[1]
     if isinstance(left, Array) and isinstance(right, Array) and None in (left.length, right.length):
         return agree(left.element, right.element)

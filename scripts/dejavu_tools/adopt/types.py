@@ -117,6 +117,7 @@ class Function:
     parameters: Tuple[Tuple[str, "Type"], ...]
     is_variadic: bool = False
     is_open: bool = False  # whether nothing is said of its parameters
+    is_old: bool = False  # whether its definition is one in the old style, so that a call promotes its arguments
     size: int = 1
 
 
@@ -140,6 +141,11 @@ def alignment(kind: Type) -> int:
 def promoted(kind: Number) -> Number:
     """The type of a number in an operation (C11 6.3.1.1p2)."""
     return INT if kind.size < INT.size else kind
+
+
+def passed(kind: Type) -> Type:
+    """The type of a parameter as a call without its types passes it (6.5.2.2p6)."""
+    return promoted(kind) if isinstance(kind, Number) else kind
 
 
 def common(left: Number, right: Number) -> Number:

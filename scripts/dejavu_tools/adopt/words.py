@@ -13,6 +13,7 @@ class Words(NamedTuple):
 
 OBSTACLES: Dict[str, Words] = {
     "syntax": Words("this can't be read: {name}", "write it in C11 without extensions of a compiler or `_Generic`"),
+    "header": Words("the header `{name}` isn't there", "take it out, or name the folder that has it by -I"),
     "floating": Words("a floating-point number", "calculate in integers, for instance in hundredths"),
     "long": Words(
         "`{name}` has 64 bits",
@@ -43,6 +44,7 @@ OBSTACLES: Dict[str, Words] = {
     "stderr": Words("output to stderr", "take it out, or drop it by --drop-stderr"),
     "main": Words("the parameters of `main`", "read what they say from stdin"),
     "variadic": Words("a function with `...`", "write a function for each number of arguments"),
+    "arguments": Words("`{name}` is called with other than its parameters", "give it one argument for each"),
     "outside": Words("`{name}` is outside of the language", "take it out, or write a function of the program for it"),
     "undefined": Words("the function `{name}` isn't defined in these files", "name the file that defines it too"),
     "undefined object": Words("the object `{name}` isn't defined in these files", "name the file that defines it too"),
@@ -63,6 +65,7 @@ OBSTACLES: Dict[str, Words] = {
     ),
     "alias": Words("a place with side effects is read and written", "give its index an object of its own"),
     "struct": Words("a struct as the result of this expression", "give it an object of its own"),
+    "prefix": Words("a string or character with a prefix such as `L`", "write it without, as bytes"),
     "string": Words("a string in this place", "use a char array"),
     "object": Words("an object of this type", "use numbers, arrays and structs"),
     "length": Words("an array whose length is no constant", "give it a constant length"),

@@ -89,3 +89,16 @@ int literal_of(int n)
 {
     return n + (int){1};
 }
+
+int old(a, b)
+int a, b;
+{
+    return a + b;
+}
+
+int others_of(int (handler)(int))
+{
+    int wide[] = L"wide";
+
+    return old(wide[0]) + L'w';
+}

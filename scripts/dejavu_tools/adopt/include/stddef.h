@@ -3,4 +3,6 @@
 #define NULL ((void *)0)
 typedef unsigned long size_t;
 typedef long ptrdiff_t;
+typedef int wchar_t;
+#define offsetof(type, member) ((size_t)&((type *)0)->member)
 #endif
