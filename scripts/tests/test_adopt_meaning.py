@@ -21,6 +21,7 @@ INPUTS = {
     "reading_lines": ["12\nabc#d\n-7\n", "", "a line that is longer than the buffer\nx", "\n\n"],
     "scanning": ["2 5 6 7 8 rest", "", "1 x", "3 1 2\n", "2 -5 +6 7z"],
     "assertions_and_exits": ["a", "x", "y", "z"],
+    "error_messages": ["a", "w", "v", "e", "x", ""],
 }
 
 

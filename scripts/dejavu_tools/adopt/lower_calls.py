@@ -332,9 +332,36 @@ class CallLowering:
         if self.stream(node, self.arguments(node)[0]) == "stdin":
             self.tell("file", node, "fflush")
 
+    def give_fflush(self, node: Any) -> Value:
+        """Whether it fails, which no run shows."""
+        self.do_fflush(node)
+        return ZERO
+
     def do_fgets(self, node: Any) -> None:
         """A line read, or none."""
         self.output.put(f"{self.read_line(node).text};")
+
+    def give_ferror(self, node: Any) -> Value:
+        """Whether reading or writing has failed, which no run shows."""
+        if self.stream(node, self.arguments(node)[0]) == "stderr":
+            self.tell("file", node, "ferror")
+        return ZERO
+
+    def do_err(self, node: Any) -> None:
+        """A message on stderr, and the end of the run."""
+        self.do_warn(node, self.arguments(node)[1:])
+        self.do_exit(node)
+
+    do_errx = do_err
+
+    def do_warn(self, node: Any, arguments: Optional[List[Any]] = None) -> None:
+        """A message on stderr."""
+        if not self.program.options.drop_stderr:
+            self.tell("stderr", node)
+        for argument in (self.arguments(node) if arguments is None else arguments)[1:]:
+            self.evaluate(argument)
+
+    do_warnx = do_warn
 
     def do_putc(self, node: Any) -> None:
         """A byte written to a stream."""

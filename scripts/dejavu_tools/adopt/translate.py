@@ -111,6 +111,7 @@ def check_object(program: Program, symbol: Symbol) -> None:
         kind = kind.element
     if isinstance(kind, Pointer) and not kind.text:
         program.obstacles.tell("pointer", symbol.node)
+        symbol.is_told = True
 
 
 def before(options: Options, unit: Unit, objects: List[str], heads: List[str]) -> List[str]:
