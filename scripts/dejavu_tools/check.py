@@ -176,12 +176,17 @@ def build(paths: Sequence[Path], options: Options, folder: Path, name: str) -> P
     """Builds files by gcc with its sanitizers; a `ToolError` where it refuses them, with its own messages before."""
     words = [*GCC, *(f"-D{it}" for it in options.definitions), *(f"-I{it}" for it in options.include_directories)]
     try:
-        done = subprocess.run([*words, *paths, folder / "unbuffered.c", "-o", folder / name], check=False)
+        done = subprocess.run([*words, *map(no_option, paths), folder / "unbuffered.c", "-o", folder / name], check=False)
     except OSError as error:
         raise ToolError(f"gcc: {error.strerror}") from error
     if done.returncode:
         raise ToolError(f"gcc doesn't build {' '.join(map(str, paths))}")
     return folder / name
+
+
+def no_option(path: Path) -> str:
+    """A file's name as gcc takes it for one, also where it begins with `-`."""
+    return f"./{path}" if str(path).startswith("-") else str(path)
 
 
 def run_build(path: Path, test: Test) -> Run:

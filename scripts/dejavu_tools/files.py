@@ -48,7 +48,10 @@ def check_place(path: Path) -> None:
     with told_of(path):
         if path.is_dir():
             raise IsADirectoryError(errno.EISDIR, os.strerror(errno.EISDIR))
-        check_writable(path.parent)
+        if not is_stream(path):
+            check_writable(Path(os.path.realpath(path)).parent)
+        elif not os.access(path, os.W_OK):
+            raise PermissionError(errno.EACCES, os.strerror(errno.EACCES))
 
 
 def check_folder(folder: Path) -> None:
@@ -70,19 +73,34 @@ def check_writable(folder: Path) -> None:
         raise OSError(number, os.strerror(number))
 
 
+def is_stream(path: Path) -> bool:
+    """Whether a path names a device, a pipe or what a descriptor has open, which takes text and isn't replaced."""
+    try:
+        mode = path.stat().st_mode
+    except OSError:
+        return False
+    is_other = not stat.S_ISREG(mode) and not stat.S_ISDIR(mode)
+    return is_other or str(path.absolute()).startswith(("/dev/", "/proc/"))
+
+
 def write_whole(texts: Mapping[Path, bytes]) -> None:
     """Writes files, each of which appears whole or not at all: all are written beside their places, then renamed.
 
-    Raises a `ToolError` of the first that can't be written. None appears where that shows before the renaming.
+    A link stays, and leads to the new file. What is a stream is written to behind that. Raises a `ToolError` of the first
+    that can't be written. None appears where that shows before the renaming.
     """
-    parts = {path: path.with_name(f"{path.name}.{os.getpid()}.part") for path in texts}
+    places = {path: Path(os.path.realpath(path)) if os.path.islink(path) else path for path in texts if not is_stream(path)}
+    parts = {path: place.with_name(f"{place.name}.{os.getpid()}.part") for path, place in places.items()}
     try:
-        for path, data in texts.items():
-            with told_of(path):
-                write_part(path, parts[path], data)
         for path, part in parts.items():
             with told_of(path):
-                part.replace(path)
+                write_part(path, part, texts[path])
+        for path, part in parts.items():
+            with told_of(path):
+                part.replace(places[path])
+        for path in texts.keys() - parts.keys():
+            with told_of(path), path.open("ab") as stream:
+                stream.write(texts[path])
     finally:
         for part in parts.values():
             with suppress(OSError):  # it was renamed, or never came to be

@@ -121,6 +121,20 @@ class Script(InFolder):
                       .replace("\u2019", "'"))
         self.write("c.c", "int f(void) { return 0; }\n")
         self.check_error("c.c: there is no `main`", "c.c")
+        self.check_error(".: this is no file", ".")
+        self.write("d.c", f"int main(void) {{ return {'(' * 5000}0{')' * 5000}; }}\n")
+        self.assertEqual(self.check_error("d.c: expressions or statements stand too deep in each other", "d.c").count("\n"), 1)
+
+    def test_names_that_are_no_options_and_no_lines(self):
+        told = "a floating-point number: calculate in integers, for instance in hundredths"
+        for name, shown in (("-a.c", "-a.c"), ("a\nb.c", "a\\nb.c"), ('a "b".c', 'a "b".c')):
+            self.write(name, "int main(void) { return 1.5 > 1; }\n")
+            self.assertEqual(self.adopt("--", name).stderr.splitlines()[0], f"{shown}:1:25: {told}")
+
+    def test_depth(self):
+        chain = " else ".join(f"if (n == {k}) n = {k + 1};\n" for k in range(240))
+        self.write("a.c", f"int main(void) {{ int n = 3; {chain} return n; }}\n")
+        self.assertEqual(self.adopt("a.c").stderr, "")
 
     def test_definitions_that_disagree(self):
         self.write("a.c", "int f(int x);\nint n = 1;\nint main(void) { return f(n); }\n")

@@ -1,12 +1,13 @@
 """Files that appear whole or not at all, and text for people."""
 import os
 import unittest
+from pathlib import Path
 
 from support import InFolder
 
 from dejavu_tools.console import escaped, parts_around, readable
 from dejavu_tools.errors import ToolError
-from dejavu_tools.files import write_whole
+from dejavu_tools.files import check_place, write_whole
 
 
 class Whole(InFolder):
@@ -28,6 +29,31 @@ class Whole(InFolder):
         write_whole({self.folder / "a": b"A", self.folder / "b": b"\xff"})
         self.assertEqual(self.names(), ["a", "b"])
         self.assertEqual(((self.folder / "a").read_bytes(), (self.folder / "b").read_bytes()), (b"A", b"\xff"))
+
+    def test_links_stay(self):
+        (self.folder / "link").symlink_to("b")
+        self.write("b", "as before")
+        write_whole({self.folder / "link": b"B"})
+        self.assertEqual(self.names(), ["b", "link"])
+        self.assertEqual(((self.folder / "b").read_bytes(), (self.folder / "link").is_symlink()), (b"B", True))
+
+    def test_streams_are_written_to(self):
+        pipe = self.folder / "pipe"
+        os.mkfifo(pipe)
+        reading = os.open(pipe, os.O_RDONLY | os.O_NONBLOCK)
+        self.addCleanup(os.close, reading)
+        for path in (pipe, Path(os.devnull)):
+            check_place(path)
+        write_whole({pipe: b"P", Path(os.devnull): b"D", self.folder / "a": b"A"})
+        self.assertEqual(os.read(reading, 9), b"P")
+        self.assertTrue(pipe.is_fifo() and Path(os.devnull).is_char_device())
+        self.assertEqual(self.names(), ["a", "pipe"])
+
+    def test_stream_that_cannot_be_written(self):
+        with self.assertRaises(ToolError) as caught:
+            write_whole({Path("/dev/full"): b"C"})
+        self.assertEqual(str(caught.exception), "/dev/full: No space left on device")
+        self.assertTrue(Path("/dev/full").is_char_device())
 
     def test_folder_that_is_not_there(self):
         self.check_fault("gone/c", "No such file or directory")

@@ -100,9 +100,14 @@ class Columns:
         return self.origins[k] if k >= 0 else column
 
 
+def preprocessed_name(path: Path) -> str:
+    """A file's name within its folder, as gcc is told it: one that begins with `-` would be an option."""
+    return f"./{path.name}" if path.name.startswith("-") else path.name
+
+
 def told_name(path: Path, includes: Sequence[Path], file: str) -> str:
     """The name of a file as people know it: that of the command line, or of a header beside it."""
-    if file == path.name:
+    if file == preprocessed_name(path):
         return str(path)
     for include in includes:
         absolute = os.path.abspath(include)
@@ -134,7 +139,8 @@ def list_origins(lines: Sequence[str]) -> List[Origin]:
         marker = MARKER.match(line)
         origins.append(Origin(file, number))
         if marker:
-            file, number = re.sub(r"\\(.)", r"\1", marker.group(2)), int(marker.group(1)) - 1
+            name = re.sub(r"\\(.)", lambda escape: "\n" if escape[1] == "n" else escape[1], marker.group(2))
+            file, number = name, int(marker.group(1)) - 1
         number += 1
     return origins
 
@@ -165,7 +171,7 @@ def expand(path: Path, words: Sequence[str], options: Options) -> bytes:
     missing: List[Tuple[Place, str]] = []
     with TemporaryDirectory() as empty:
         while True:
-            made = run_gcc([*words, "-I", empty, path.name], path.parent)
+            made = run_gcc([*words, "-I", empty, preprocessed_name(path)], path.parent)
             found = MISSING.search(made.stderr.decode("utf-8", "surrogateescape")) if made.returncode else None
             if found is None:
                 break
@@ -196,7 +202,7 @@ def preprocess(path: Path, options: Options) -> Preprocessed:
     `HeadersMissing` where a header isn't there.
     """
     if not path.is_file():
-        raise ToolError(f"{path}: No such file or directory")
+        raise ToolError(f"{path}: {'this is no file' if path.exists() else 'No such file or directory'}")
     folder = path.parent
     includes = [word for include in options.include_directories for word in ("-I", os.path.abspath(include))]
     maps = [f"-fmacro-prefix-map={os.path.abspath(include)}/=" for include in options.include_directories]

@@ -1,12 +1,14 @@
 """Several files of C as one unit of the language."""
 from __future__ import annotations
 
+import sys
 from dataclasses import dataclass
 from pathlib import Path
 from typing import Any, Dict, List, Sequence, Tuple
 
 from pycparser import c_ast
 
+from ..errors import ToolError
 from .body import Body
 from .constants import type_of
 from .effects import Effects
@@ -24,6 +26,9 @@ from .unit import Unit, initial
 from .write import Row, written
 
 
+DEEPEST = 5000  # calls of Python's, of which what stands in something else takes several; the language has 256 levels
+
+
 @dataclass(frozen=True)
 class Adopted:
     """A unit, and where its statements come from."""
@@ -36,8 +41,21 @@ def adopt(files: Sequence[Path], options: Options) -> Adopted:
     """The unit that several files of C are.
 
     Raises `ObstaclesFound` with all that the language has nothing for, and a `ToolError` where a file isn't there, gcc
-    refuses it, or the unit passes a limit of the language.
+    refuses it, its parts stand too deep in each other, or the unit passes a limit of the language.
     """
+    before_this = sys.getrecursionlimit()
+    sys.setrecursionlimit(max(before_this, DEEPEST))
+    try:
+        return adopted(files, options)
+    except RecursionError:
+        named = ", ".join(map(str, files))
+        raise ToolError(f"{named}: expressions or statements stand too deep in each other") from None
+    finally:
+        sys.setrecursionlimit(before_this)
+
+
+def adopted(files: Sequence[Path], options: Options) -> Adopted:
+    """The same, as deep as Python goes."""
     program = Program(options)
     program.read(list(files))
     trees = read_objects(program)
