@@ -5,15 +5,10 @@ import tempfile
 import unittest
 from pathlib import Path
 
+from adopted import programs, unit_of
 from pycparser import c_ast, c_parser
-from support import SCRIPTS, TOP
 
 from dejavu_tools.adopt.measure import BUILT_IN, SKIPPED
-from dejavu_tools.adopt.options import Options
-from dejavu_tools.adopt.translate import adopt
-
-CONSTRUCTS = SCRIPTS / "tests" / "constructs"
-EXAMPLES = TOP / "examples" / "adopt"
 
 NODES = (
     "ArrayDecl ArrayRef Assignment BinaryOp Break Case Cast Compound Constant Continue Decl DeclList Default DoWhile"
@@ -30,10 +25,8 @@ FORMAT = re.compile(r"(?:[^%]|%[duc%])*")
 
 def units():
     """The units of the programs of the tests and of the examples, by name."""
-    for name in sorted({path.name.split(".")[0] for path in CONSTRUCTS.glob("*.c")}):
-        yield name, adopt(sorted(CONSTRUCTS.glob(f"{name}.*")), Options(True, True)).unit.decode()
-    for folder in sorted(path.parent for path in EXAMPLES.glob("*/changes")):
-        yield folder.name, adopt(sorted(folder.glob("*.c")), Options(True, True)).unit.decode()
+    for name in programs():
+        yield name, unit_of(name).decode()
 
 
 class Faults:

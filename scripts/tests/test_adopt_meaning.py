@@ -1,19 +1,17 @@
 """A unit does what the files do of which it was made: each construct in a program that gcc builds both ways."""
 import os
+import signal
 import subprocess
 import tempfile
 import unittest
 from concurrent.futures import ThreadPoolExecutor
 from pathlib import Path
 
-from support import SCRIPTS
+from adopted import constructs, programs, unit_of
 
-from dejavu_tools.adopt.options import Options
-from dejavu_tools.adopt.translate import adopt
-
-CONSTRUCTS = SCRIPTS / "tests" / "constructs"  # a program in NAME.c, or in NAME.1.c and NAME.2.c
-
-GCC = ["gcc", "-std=c11", "-w", "-fsanitize=undefined", "-fno-sanitize-recover=all"]
+# A trap at what C leaves undefined is built in half the time that the sanitizer's own messages take.
+GCC = ["gcc", "-std=c11", "-w", "-fsanitize=undefined", "-fsanitize-undefined-trap-on-error"]
+TRAPPED = 128 + signal.SIGILL
 
 # The inputs of the programs that read any.
 INPUTS = {
@@ -28,23 +26,21 @@ INPUTS = {
 class Meaning(unittest.TestCase):
     """Programs and their units, both built by gcc."""
 
-    def check_program(self, paths, inputs):
-        """The unit of these files gives what the files give, on each input."""
-        with tempfile.TemporaryDirectory() as name:
-            folder = Path(name)
-            (folder / "unit.c").write_bytes(adopt(paths, Options(True, True)).unit)
-            subprocess.run([*GCC, "-o", folder / "files", *paths], check=True)
+    def check_program(self, name, inputs):
+        """The unit of a program gives what its files give, on each input."""
+        with tempfile.TemporaryDirectory() as work:
+            folder = Path(work)
+            (folder / "unit.c").write_bytes(unit_of(name))
+            subprocess.run([*GCC, "-o", folder / "files", *programs()[name]], check=True)
             subprocess.run([*GCC, "-o", folder / "unit", folder / "unit.c"], check=True)
             for text in inputs:
-                self.assertEqual(run(folder / "unit", text), run(folder / "files", text), text)
+                output, status = run(folder / "files", text)
+                self.assertNotEqual(status, TRAPPED, text)
+                self.assertEqual(run(folder / "unit", text), (output, status), text)
 
     def test_programs(self):
-        names = sorted({path.name.split(".")[0] for path in CONSTRUCTS.glob("*.c")})
         with ThreadPoolExecutor(os.cpu_count()) as pool:
-            done = {
-                name: pool.submit(self.check_program, sorted(CONSTRUCTS.glob(f"{name}.*")), INPUTS.get(name, [""]))
-                for name in names
-            }
+            done = {name: pool.submit(self.check_program, name, INPUTS.get(name, [""])) for name in constructs()}
         for name, future in done.items():
             with self.subTest(name):
                 future.result()

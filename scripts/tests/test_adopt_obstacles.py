@@ -1,10 +1,8 @@
 """The obstacles of a program that has one of every kind: all are told in one run, at their places."""
 import re
-import subprocess
-import sys
 import unittest
 
-from support import SCRIPTS
+from support import SCRIPTS, answer
 
 from dejavu_tools.adopt.words import OBSTACLES
 
@@ -17,12 +15,9 @@ class Told(unittest.TestCase):
     maxDiff = None
 
     def adopt(self, *words):
-        done = subprocess.run(
-            [sys.executable, str(SCRIPTS / "adopt"), *words], cwd=FOLDER, stdout=subprocess.PIPE, stderr=subprocess.PIPE,
-            text=True, timeout=60, check=False,
-        )
-        self.assertEqual((done.stdout, done.returncode), ("", 1))
-        *told, last = done.stderr.splitlines()
+        done = answer("adopt", *words, folder=FOLDER, has_libraries=True)
+        self.assertEqual((done.stdout, done.returncode), (b"", 1))
+        *told, last = done.stderr.decode("utf-8").splitlines()
         self.assertEqual(last, f"{len(told)} obstacles")
         return told
 

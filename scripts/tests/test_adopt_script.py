@@ -1,9 +1,8 @@
 """The script `adopt`: what it writes, the map of a unit, and what keeps it from writing one."""
 import re
-import subprocess
-import sys
+from types import SimpleNamespace
 
-from support import SCRIPTS, InFolder
+from support import InFolder
 
 from dejavu_tools.adopt.places import Place
 from dejavu_tools.adopt.write import Row, origin_of
@@ -34,8 +33,8 @@ class Script(InFolder):
 
     def adopt(self, *words):
         """What the script answers in this folder."""
-        return subprocess.run([sys.executable, str(SCRIPTS / "adopt"), *words], cwd=self.folder, timeout=100,
-                              stdout=subprocess.PIPE, stderr=subprocess.PIPE, text=True, check=False)
+        done = self.run_script("adopt", *words, has_libraries=True)
+        return SimpleNamespace(returncode=done.returncode, stdout=done.stdout.decode(), stderr=done.stderr.decode())
 
     def write_program(self):
         """A program of two files and a header."""

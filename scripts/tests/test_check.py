@@ -5,7 +5,7 @@ import sys
 import unittest
 from unittest import mock
 
-from support import SCRIPTS, InFolder, sealed
+from support import SCRIPTS, InFolder
 
 from dejavu_tools import check, formats, limits
 from dejavu_tools.adopt.options import Options
@@ -14,14 +14,14 @@ from dejavu_tools.formats import Test
 
 ECHO = "#include <stdio.h>\nint main(void)\n{ int c; while ((c = getchar()) != EOF) putchar(%s); return 3; }\n"
 SAME = ECHO % "c"
+ENDLESS = "#include <unistd.h>\nint main(void) { for (;;) pause(); }\n"  # which takes no processor
 
 # Stands in for `dejavu record`: what each run did is given by an expression of its input `data`.
-PROGRAM = """#!{python}
-import sys
+PROGRAM = """#!{python} -S
+import hashlib, sys
 sys.path.insert(0, {scripts!r})
 from pathlib import Path
 from dejavu_tools.formats import read_suite
-from tests.support import sealed
 lines = ["dejavu history 3", "source " + 64 * "0", "edges 0"]
 tests = read_suite(Path(sys.argv[3]))
 lines.append(f"tests {{len(tests)}}")
@@ -30,7 +30,8 @@ for test in tests:
     output, status = {run}
     lines += [f"test {{test.name}}", f"budget {{test.budget}}", f"input {{data.hex() or '-'}}", f"status {{status}}",
               "turns 1", f"output {{output.hex() or '-'}}", "crossed -"]
-sys.stdout.buffer.write(sealed("\\n".join(lines) + "\\n"))
+data = ("\\n".join(lines) + "\\n").encode("ascii")
+sys.stdout.buffer.write(data + f"end {{hashlib.sha256(data).hexdigest()}}\\n".encode("ascii"))
 """
 
 
@@ -123,15 +124,14 @@ class Told(Checked):
         self.check_told(told, 0, self.last(2))
 
     def test_no_end(self):
-        source = "int main(void) { for (;;) ; }\n"
+        source = ENDLESS
         with mock.patch.object(check, "SECONDS", 1):
             told = self.check(source, source, b"", run="b'', 'turns'")
         self.check_told(told, 1, "limit a no end within its budget of 1,000 turns", self.last(1, limit=1))
 
     def test_unit_without_end(self):
         with mock.patch.object(check, "SECONDS", 1):
-            ends, goes_on = "int main(void) { return 0; }\n", "int main(void) { for (;;) ; }\n"
-            told = self.check(ends, goes_on, b"", run="b'', 'turns'")
+            told = self.check("int main(void) { return 0; }\n", ENDLESS, b"", run="b'', 'turns'")
         self.assertIn("differs a original and unit: status original exit 0, unit no end within 1 seconds", told.lines)
 
     def test_refused_unit(self):

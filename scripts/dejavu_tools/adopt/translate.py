@@ -43,15 +43,12 @@ def adopt(files: Sequence[Path], options: Options) -> Adopted:
     Raises `ObstaclesFound` with all that the language has nothing for, and a `ToolError` where a file isn't there, gcc
     refuses it, its parts stand too deep in each other, or the unit passes a limit of the language.
     """
-    before_this = sys.getrecursionlimit()
-    sys.setrecursionlimit(max(before_this, DEEPEST))
+    sys.setrecursionlimit(max(sys.getrecursionlimit(), DEEPEST))
     try:
         return adopted(files, options)
     except RecursionError:
         named = ", ".join(map(str, files))
         raise ToolError(f"{named}: expressions or statements stand too deep in each other") from None
-    finally:
-        sys.setrecursionlimit(before_this)
 
 
 def adopted(files: Sequence[Path], options: Options) -> Adopted:
