@@ -48,6 +48,24 @@ int f(void) {
     return sum(grid) + n;
 }
 """, {6: "pointer", 7: "pointer", 8: "pointer", 9: "pointer"}),
+    "pointers of file scope that aren't an array and an index": ("""
+static char a[9], b[9];
+static char *either = a;
+static char *given;
+static char **addressed;
+static char *lent;
+static int *other = (int *)a;
+static char *local;
+static void set(char *to) { given = to; }
+static void take(void) { char mine[2]; local = mine; }
+int f(int n) {
+    either = n ? a : b;
+    lent = a;
+    addressed = &lent;
+    set(a);
+    return *given + *either + *other + *local;
+}
+""", {3: "pointer", 4: "pointer", 5: "pointer", 6: "pointer", 7: "pointer", 8: "pointer", 12: "pointer", 14: "pointer"}),
     "arguments of sprintf that it writes to": ("""
 static char line[9];
 static const char *const t[] = { "a", "b" };

@@ -5,8 +5,8 @@
   places; `items`, `unread`: what can't be read of it
 - `types`, `literals`, `constants`, `declarations`, `symbols`, `initialisers`: what declarations and constants mean
 - `program`: all files together; `names`: names that nothing else has
-- `effects`, `offsets`, `endings`: what functions read and write, which array parameters have an offset, and whether
-  control comes to an end
+- `effects`, `file_pointers`, `offsets`, `endings`: what functions read and write, which pointers of file scope have one
+  array, which array parameters have an offset, and whether control comes to an end
 - `values`, `output`: expressions and lines of the unit
 - `lower_places`, `lower_expressions`, `lower_calls`, `lower_memory`, `lower_printing`, `lower_statements`, `body`:
   functions of the files as functions of the unit

@@ -55,7 +55,8 @@ def roots(program: Any, node: Any, through: FrozenSet[Symbol] = frozenset()) -> 
     origins = program.pointed.get(id(symbol), [])
     if symbol.is_parameter or not isinstance(symbol.type, Pointer) or symbol in through:
         return {symbol}
-    return {found for origin in origins for found in roots(program, origin, through | {symbol})} or {symbol}
+    found = {root for origin in origins for root in roots(program, origin, through | {symbol})}
+    return found - {symbol} or {symbol}
 
 
 class Effects:
@@ -81,7 +82,7 @@ class Effects:
     def is_seen(symbol: Any) -> bool:
         """Whether whoever calls a function sees what it does to this."""
         if isinstance(symbol, tuple):
-            return False
+            return symbol[1].is_global
         return not isinstance(symbol, Symbol) or symbol.is_global or isinstance(symbol.type, Pointer)
 
     def of(self, node: Any) -> Found:

@@ -75,7 +75,7 @@ class CallLowering:
             found = self.reference(argument)
         target = parameter.type.target if isinstance(parameter.type, Pointer) else parameter.type
         has_lost_offset = found.offset is not None and found.offset.constant != 0 and not parameter.moves
-        if has_lost_offset or found.is_flat != isinstance(target, Array) or not are_alike(found.element, target):
+        if has_lost_offset or found.is_flat != isinstance(target, Array) or not types.are_alike(found.element, target):
             self.tell("pointer", argument)
         if found.text is not None and found.text.has_null and parameter in self.program.null_tests.tested:
             self.tell("null", argument)
@@ -372,14 +372,3 @@ class CallLowering:
             self.output.put(f"{self.give_putchar(node).text};")
 
     do_fputc = do_putc
-
-
-def are_alike(element: Any, target: Any) -> bool:
-    """Whether an array parameter with such elements may refer to an array of these."""
-    if isinstance(element, Array) and isinstance(target, Array):
-        return types.cells(element) == types.cells(target) and are_alike(*map(types.innermost, (element, target)))
-    if isinstance(element, Number) and isinstance(target, Number):
-        return element.unit == target.unit and element.size == target.size
-    if isinstance(element, Struct) and isinstance(target, Struct):
-        return element.tag == target.tag
-    return isinstance(target, types.Void)

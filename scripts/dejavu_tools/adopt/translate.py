@@ -12,8 +12,9 @@ from ..errors import ToolError
 from .body import Body
 from .constants import type_of
 from .effects import Effects
+from .file_pointers import FilePointers
 from .flat import Flat
-from .initialisers import Reader, length_of, take_texts
+from .initialisers import Reader, is_null, length_of, take_texts
 from .measure import check_limits
 from .nulls import NullTests
 from .offsets import Offsets
@@ -55,6 +56,7 @@ def adopted(files: Sequence[Path], options: Options) -> Adopted:
     """The same, as deep as Python goes."""
     program = Program(options)
     program.read(list(files))
+    FilePointers(program)
     trees = read_objects(program)
     Flat(program)
     Offsets(program)
@@ -87,7 +89,7 @@ def read_objects(program: Program) -> Dict[int, Any]:
         tree = trees[id(symbol)] = None if symbol.init is None else reader.read(symbol.type, symbol.init)
         if isinstance(symbol.type, Array) and symbol.type.length is None:
             symbol.type.length = length_of(tree) if tree is not None else 1
-        if tree is not None or is_aggregate(symbol.type):
+        if symbol.base is None and (tree is not None or is_aggregate(symbol.type)):
             take_texts(program, symbol.type, tree)
     for procedure in program.procedures:
         take_local_texts(program, reader, procedure.node.body)
@@ -114,9 +116,23 @@ def object_lines(program: Program, unit: Unit, effects: Effects, trees: Dict[int
         if not symbol.is_defined:
             continue
         body = Body(program, unit, effects, None)
+        if symbol.base is not None:
+            lines.append(f"int {symbol.base.offset.text} = {start_of(body, symbol)};")
+            continue
         check_object(program, symbol)
         lines.append(initial(unit, body, symbol, trees[id(symbol)]))
     return lines
+
+
+def start_of(body: Body, symbol: Symbol) -> int:
+    """The index at which a pointer of file scope begins; -1 of NULL."""
+    if symbol.init is None or is_null(symbol.init):
+        return -1
+    found = body.reference(symbol.init)
+    if found.base != symbol.base.base or found.offset is not None and found.offset.constant is None:
+        body.tell("pointer", symbol.node)
+        return -1
+    return found.offset.constant if found.offset is not None else 0
 
 
 def check_object(program: Program, symbol: Symbol) -> None:

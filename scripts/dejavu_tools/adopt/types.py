@@ -224,6 +224,17 @@ def holds(kind: Type, part: Type) -> bool:
     return isinstance(kind, Struct) and any(holds(member.type, part) for member in kind.members or ())
 
 
+def are_alike(element: Type, target: Type) -> bool:
+    """Whether an array parameter with such elements may refer to an array of these."""
+    if isinstance(element, Array) and isinstance(target, Array):
+        return cells(element) == cells(target) and are_alike(*map(innermost, (element, target)))
+    if isinstance(element, Number) and isinstance(target, Number):
+        return element.unit == target.unit and element.size == target.size
+    if isinstance(element, Struct) and isinstance(target, Struct):
+        return element.tag == target.tag
+    return isinstance(target, Void)
+
+
 def spelled(kind: Type, depth: int = 0) -> str:
     """A text that is the same for types that are the same."""
     if isinstance(kind, Struct):

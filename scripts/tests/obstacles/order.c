@@ -20,6 +20,9 @@ static int both(struct pair one, int x) { return one.x + x; }
 static int shift(struct pair *one) { one->x++; return 1; }
 static int say(void) { putchar('s'); return 1; }
 static int read(void) { return getchar(); }
+static char *here = s;
+static int step(void) { here++; return 1; }
+static int mark(void) { *here = 1; return 1; }
 static int twice(int x) { return x < 1 ? 0 : twice(x - 1) + 2; }
 
 int main(void)
@@ -53,5 +56,9 @@ int main(void)
     x = y + (y > 0 ? bump() : 2);
     x = n + (y > 0 ? bump() : 2);       /* order */
     x = n + (y > 0 && bump());          /* order */
+    x = *here + step();                 /* order */
+    x = len(here) + step();             /* order */
+    x = s[0] + mark();                  /* order */
+    x = n + step();
     return bump() < 3 && n > 1;
 }
