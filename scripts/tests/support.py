@@ -8,6 +8,7 @@ import sys
 import tempfile
 import traceback
 import unittest
+import warnings
 from pathlib import Path
 
 SCRIPTS = Path(__file__).resolve().parent.parent
@@ -63,6 +64,7 @@ def run_as_script(words, folder, columns, has_libraries):
     os.chdir(folder or os.getcwd())
     os.environ["COLUMNS"] = str(columns)
     signal.alarm(120)  # which a busy machine may need
+    warnings.simplefilter("ignore", ResourceWarning)  # as a new Python does; a test that failed may have left something
     sys.argv = words
     if not has_libraries:
         sys.path[:] = [path for path in sys.path if "site-packages" not in path]

@@ -11,6 +11,7 @@ import tempfile
 import time
 import traceback
 import unittest
+import warnings
 from types import SimpleNamespace
 from unittest import mock
 from xml.etree import ElementTree
@@ -106,6 +107,7 @@ class WithRepository(InFolder):
         with tempfile.TemporaryFile() as output, tempfile.TemporaryFile() as errors:
             child = os.fork()  # which has what the script imports
             if not child:
+                warnings.simplefilter("ignore", ResourceWarning)
                 os.chdir(self.folder / folder)
                 os.environ.clear()
                 os.environ.update(OUTSIDE, RUNS=str(log), **variables)
