@@ -6,9 +6,11 @@ use Rattle.csub_flat.specs.Trees as the
 use Rattle.csub_flat.specs.declared.flat.Form.{Form}
 use Rattle.csub_flat.specs.declared.flat.FlatVariable.{FlatVariable}
 use Rattle.csub_flat.specs.declared.flat.FlatVariable.TheVariants.{Frame, Global, Referring}
+use Rattle.csub_flat.specs.declared.flat.FlatLocal.{FlatLocal}
 use Rattle.csub_flat.specs.declared.flat.FlatPart.{FlatPart}
 use Rattle.csub_flat.specs.declared.flat.FlatPlace.{FlatPlace, Variable, Element', Member'}
 use Rattle.csub_flat.specs.declared.flat.FlatExpr.{FlatExpr, Const, Read, Unary', Cast', Step, Binary', And', Or', Choose', Assign', Update', Getchar, Putchar'}
+use Rattle.csub_flat.specs.declared.flat.FlatExpr.{Local, StepLocal, AssignLocal', BinaryConst', BinaryLocal', BinaryLocalConst}
 use Rattle.csub_flat.specs.declared.flat.FlatExpr.{Printf', Row_of-FlatExpr, end_of-FlatExpr, more_of-FlatExpr}
 use Rattle.csub_flat.specs.declared.flat.FlatGiven.{FlatGiven}
 use Rattle.csub_flat.specs.declared.flat.FlatGiven.TheVariants.{Number, Array}
@@ -29,6 +31,10 @@ variable_seen (Referring s f) = the.referring_slot s (form_seen f)
 
 abbrev pub part_seen : FlatPart → the.FlatPart
 part_seen p = record { slots = p.slots; form = form_seen p.form }
+
+-- a variable of the frame
+abbrev pub local_seen : FlatLocal → the.FlatVariable
+local_seen l = the.frame_slot l.slot (form_seen l.form)
 
 abbrev mutual
   pub place_seen : FlatPlace → the.FlatPlace
@@ -51,6 +57,13 @@ abbrev mutual
   expr_seen Getchar = input_byte
   expr_seen (Putchar' p e) = output_byte (expr_seen e)
   expr_seen (Printf' pieces shape row) = formatted pieces.items (row_seen row)
+  -- a form of its own stands for the tree of its parts
+  expr_seen (Local l) = reading (variable (local_seen l))
+  expr_seen (StepLocal op l) = stepping op (variable (local_seen l))
+  expr_seen (AssignLocal' l p e) = assignment (variable (local_seen l)) (expr_seen e)
+  expr_seen (BinaryConst' op k p a c) = operation op k (expr_seen a) (constant c.kind c.value)
+  expr_seen (BinaryLocal' op k l p b) = operation op k (reading (variable (local_seen l))) (expr_seen b)
+  expr_seen (BinaryLocalConst op k l c) = operation op k (reading (variable (local_seen l))) (constant c.kind c.value)
 
   pub row_seen : {m : _} → Row_of-FlatExpr m → the.FlatExprs
   row_seen end_of-FlatExpr = no_expr

@@ -31,6 +31,24 @@ pub struct FlatPart {
     pub form: Form,
 }
 
+/// A variable that is a slot of the frame, counted from the frame's first.
+#[derive(Clone, Copy, Debug, PartialEq, Eq)]
+pub struct FlatLocal {
+    /// The slot.
+    pub slot: u32,
+    /// What is there.
+    pub form: Form,
+}
+
+/// A constant of a kind.
+#[derive(Clone, Copy, Debug, PartialEq, Eq)]
+pub struct FlatConst {
+    /// The kind.
+    pub kind: IntKind,
+    /// The number.
+    pub value: i64,
+}
+
 impl FlatVariable {
     ghost use Rattle.std.specs.Prelude.{◌≡◌};
     ghost use Rattle.csub_flat.specs.Trees.{variable_form};
@@ -60,7 +78,7 @@ pub enum FlatPlace {
     Member(FlatPart, Box<FlatPlace>),
 }
 
-/// An expression.
+/// An expression. What programs do most has forms of its own, which are evaluated by fewer calls.
 #[derive(Drop)]
 #[cycle(tree)]
 pub enum FlatExpr {
@@ -92,6 +110,18 @@ pub enum FlatExpr {
     Putchar(Box<FlatExpr>),
     /// `printf` of a format and the values of its conversions.
     Printf(Vec<Piece>, Vec<FlatExpr>),
+    /// The number in a variable of the frame.
+    Local(FlatLocal),
+    /// `++` and `--` of such a variable.
+    StepLocal(StepOp, FlatLocal),
+    /// An assignment to one.
+    AssignLocal(FlatLocal, Box<FlatExpr>),
+    /// A binary operation of an expression and a constant.
+    BinaryConst(BinOp, IntKind, Box<FlatExpr>, FlatConst),
+    /// A binary operation of a variable of the frame and an expression.
+    BinaryLocal(BinOp, IntKind, FlatLocal, Box<FlatExpr>),
+    /// A binary operation of a variable of the frame and a constant.
+    BinaryLocalConst(BinOp, IntKind, FlatLocal, FlatConst),
 }
 
 /// What an argument gives to its parameter.

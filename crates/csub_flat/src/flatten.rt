@@ -13,6 +13,7 @@ ghost use Rattle.csub_flat.specs.Seen.{form_seen, variable_seen, part_seen, plac
 
 use crate::flat::{FlatArg, FlatExpr, FlatGiven, FlatPart, FlatPlace, FlatVariable, Form};
 use crate::frame::find_slot;
+use crate::fused::{assign_of, binary_of, read_of, step_of};
 use crate::places::{slots_before, slots_of};
 use crate::scope::Scope;
 use csub_objects::{array_length, member_type, number_kind};
@@ -178,15 +179,15 @@ pub fn flatten_expr(alloc: Global, scope: Scope<'_>, expr: &RExpr) -> Result<Fla
             let format = copy_pieces(alloc, pieces)?;
             Ok(FlatExpr::Printf(format, flatten_exprs(alloc, scope, values)?))
         }
-        RExpr::Read(place) => Ok(FlatExpr::Read(flatten_place(alloc, scope, place)?)),
+        RExpr::Read(place) => Ok(read_of(flatten_place(alloc, scope, place)?)),
         RExpr::Temp(number, kind) => {
             let variable = flatten_temporary(scope, *number, *kind);
-            Ok(FlatExpr::Read(FlatPlace::Variable(variable)))
+            Ok(read_of(FlatPlace::Variable(variable)))
         }
-        RExpr::Step(op, place) => Ok(FlatExpr::Step(*op, flatten_place(alloc, scope, place)?)),
+        RExpr::Step(op, place) => Ok(step_of(*op, flatten_place(alloc, scope, place)?)),
         RExpr::Assign(place, value) => {
             let target = flatten_place(alloc, scope, place)?;
-            Ok(FlatExpr::Assign(target, flatten_boxed(alloc, scope, value)?))
+            Ok(assign_of(target, flatten_boxed(alloc, scope, value)?))
         }
         RExpr::Update(place, op, kind, value) => {
             let target = flatten_place(alloc, scope, place)?;
@@ -200,7 +201,7 @@ pub fn flatten_expr(alloc: Global, scope: Scope<'_>, expr: &RExpr) -> Result<Fla
         }
         RExpr::Binary(op, kind, left, right) => {
             let new_left = flatten_boxed(alloc, scope, left)?;
-            Ok(FlatExpr::Binary(*op, *kind, new_left, flatten_boxed(alloc, scope, right)?))
+            Ok(binary_of(*op, *kind, new_left, flatten_boxed(alloc, scope, right)?))
         }
         RExpr::And(left, right) => {
             let new_left = flatten_boxed(alloc, scope, left)?;

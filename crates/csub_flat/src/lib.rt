@@ -16,6 +16,7 @@
 pub mod flat;
 mod flatten;
 mod frame;
+mod fused;
 mod globals;
 mod inits;
 mod places;
@@ -24,8 +25,8 @@ mod scope;
 pub mod ways;
 
 pub use flat::{
-    FlatArg, FlatCall, FlatExpr, FlatGiven, FlatLabel, FlatPart, FlatPlace, FlatVariable,
-    FlatWrite, Form,
+    FlatArg, FlatCall, FlatConst, FlatExpr, FlatGiven, FlatLabel, FlatLocal, FlatPart, FlatPlace,
+    FlatVariable, FlatWrite, Form,
 };
 pub use program::{FlatProgram, Sizes, first_slots, flatten_program};
 pub use ways::{PlainWays, way_along};

@@ -6,13 +6,13 @@
 ghost use Rattle.std.specs.Prelude.{◌≡◌, ◌≤◌, [], length, map, All, slice_set, Ok};
 ghost use Rattle.csub_types.specs.Kinds.{promote, convert};
 ghost use Rattle.csub_types.specs.Arithmetic.{unary, binary, right_operand};
-ghost use Rattle.csub_semantics.specs.Trees.{variable, reading, unary_operation, stepping, output_byte, formatted, exprs_of};
+ghost use Rattle.csub_semantics.specs.Trees.{variable, constant, reading, unary_operation, stepping, operation, assignment, output_byte, formatted, exprs_of};
 ghost use Rattle.csub_semantics.specs.Memory.{value, then_do, get_byte};
 ghost use Rattle.csub_semantics.specs.Evaluation as the;
 ghost use Rattle.csub_semantics.specs.Evaluation.{is_nonzero, locate, eval, eval_all, fetch, computed, indexed};
 ghost use Rattle.csub_slots.specs.Layout as layout;
 ghost use Rattle.csub_slots.specs.Memory.{flat, spots};
-ghost use Rattle.csub_flat.specs.Seen.{variable_seen, part_seen, place_seen, expr_seen};
+ghost use Rattle.csub_flat.specs.Seen.{variable_seen, local_seen, part_seen, place_seen, expr_seen};
 ghost use Rattle.csub_slots.specs.Seen.{slot_seen, spot_seen};
 ghost use Rattle.csub_slots.specs.Numbered.{narrowed};
 ghost use Rattle.csub_slots.specs.States.{state_of, Gives, same, Keeps, FewAtPlace, FewValues};
@@ -20,10 +20,10 @@ ghost use Rattle.csub_slots.specs.States.{state_of, Gives, same, Keeps, FewAtPla
 use crate::output::{write_format, write_low};
 use crate::registers::{Numbered, narrow, narrow_spot, number_of, widen};
 use crate::slot::{Slot, set_slot, slot_at};
-use crate::spot::{Spot, element, member, stand};
+use crate::spot::{Spot, element, member, stand, stand_local};
 use crate::store::Store;
 use arrayvec::ArrayVec;
-use csub_flat::{FlatExpr, FlatPart, FlatPlace, FlatVariable};
+use csub_flat::{FlatConst, FlatExpr, FlatLocal, FlatPart, FlatPlace, FlatVariable};
 use csub_semantics::{BinOp, IntKind, Piece, StepOp, Trap, UnaryOp};
 use csub_types::arithmetic::{binary, unary};
 use csub_types::kind::{convert, promote};
@@ -133,6 +133,41 @@ fn read_variable(store: &Store, base: u32, named: FlatVariable) -> Numbered<i64>
 {
     let spot = stand(store.slots.as_slice(), base, named)?;
     fetch(store, spot)
+}
+
+/// The number that a variable of the frame at a base holds.
+#[inline(always)]
+fn read_local(store: &Store, base: u32, local: FlatLocal) -> Numbered<i64>
+    ensures { Gives same (eval (flat base) (reading (variable (local_seen local))) (state_of store.now)) (narrowed result) (state_of store.now) }
+{
+    let spot = stand_local(base, local);
+    fetch(store, spot)
+}
+
+/// What `++` and `--` give at a variable of the frame at a base.
+#[inline(never)]
+fn step_local(store: &mut Store, base: u32, op: &StepOp, local: &FlatLocal) -> Numbered<i64>
+    ensures value { Gives same (eval (flat base) (stepping op.now (variable (local_seen local.now))) (state_of store.old)) (narrowed result) (state_of store.new) }
+    ensures kept { Keeps store.old store.new }
+{
+    let spot = stand_local(base, *local);
+    step(store, *op, spot)
+}
+
+/// What a binary operation of a variable of the frame at a base and a constant gives.
+#[inline(never)]
+fn eval_local_const(
+    store: &Store,
+    base: u32,
+    op: &BinOp,
+    kind: &IntKind,
+    left: &FlatLocal,
+    right: &FlatConst,
+) -> Numbered<i64>
+    ensures { Gives same (eval (flat base) (operation op.now kind.now (reading (variable (local_seen left.now))) (constant right.now.kind right.now.value)) (state_of store.now)) (narrowed result) (state_of store.now) }
+{
+    let value = read_local(store, base, *left)?;
+    compute(*op, *kind, value, right.value)
 }
 
 /// The number that a variable holds for the frame at a base (C11 6.5.1).
@@ -257,6 +292,18 @@ fn evaluate(store: &mut Store, base: u32, expr: &FlatExpr) -> Numbered<i64>
         FlatExpr::Getchar => Ok(next_byte(store)),
         FlatExpr::Putchar(inner) => eval_putchar(store, base, inner),
         FlatExpr::Printf(pieces, exprs) => eval_format(store, base, pieces, exprs),
+        FlatExpr::Local(local) => read_local(store, base, *local),
+        FlatExpr::StepLocal(op, local) => step_local(store, base, op, local),
+        FlatExpr::AssignLocal(local, inner) => assign_local(store, base, local, inner),
+        FlatExpr::BinaryConst(op, kind, left, right) => {
+            eval_with_const(store, base, op, kind, left, right)
+        }
+        FlatExpr::BinaryLocal(op, kind, left, right) => {
+            eval_on_local(store, base, op, kind, left, right)
+        }
+        FlatExpr::BinaryLocalConst(op, kind, left, right) => {
+            eval_local_const(store, base, op, kind, left, right)
+        }
     }
 }
 
@@ -270,6 +317,7 @@ fn operand(store: &mut Store, base: u32, expr: &FlatExpr) -> Numbered<i64>
 {
     match expr {
         FlatExpr::Const(_, value) => Ok(*value),
+        FlatExpr::Local(local) => read_local(store, base, *local),
         FlatExpr::Read(FlatPlace::Variable(named)) => read_variable(store, base, *named),
         _ => evaluate(store, base, expr),
     }
@@ -334,6 +382,58 @@ fn eval_right(
 {
     let value = operand(store, base, right)?;
     compute(*op, *kind, left, value)
+}
+
+/// What a binary operation of an expression and a constant gives.
+#[cycle(expressions)]
+#[inline(never)]
+fn eval_with_const(
+    store: &mut Store,
+    base: u32,
+    op: &BinOp,
+    kind: &IntKind,
+    left: &FlatExpr,
+    right: &FlatConst,
+) -> Numbered<i64>
+    requires { FewValues (expr_seen left.now) }
+    ensures value { Gives same (eval (flat base) (operation op.now kind.now (expr_seen left.now) (constant right.now.kind right.now.value)) (state_of store.old)) (narrowed result) (state_of store.new) }
+    ensures kept { Keeps store.old store.new }
+{
+    let value = operand(store, base, left)?;
+    compute(*op, *kind, value, right.value)
+}
+
+/// What a binary operation of a variable of the frame at a base and an expression gives.
+#[cycle(expressions)]
+#[inline(never)]
+fn eval_on_local(
+    store: &mut Store,
+    base: u32,
+    op: &BinOp,
+    kind: &IntKind,
+    left: &FlatLocal,
+    right: &FlatExpr,
+) -> Numbered<i64>
+    requires { FewValues (expr_seen right.now) }
+    ensures value { Gives same (eval (flat base) (operation op.now kind.now (reading (variable (local_seen left.now))) (expr_seen right.now)) (state_of store.old)) (narrowed result) (state_of store.new) }
+    ensures kept { Keeps store.old store.new }
+{
+    let before = read_local(store, base, *left)?;
+    let value = operand(store, base, right)?;
+    compute(*op, *kind, before, value)
+}
+
+/// What an assignment to a variable of the frame at a base gives.
+#[cycle(expressions)]
+#[inline(never)]
+fn assign_local(store: &mut Store, base: u32, local: &FlatLocal, inner: &FlatExpr) -> Numbered<i64>
+    requires { FewValues (expr_seen inner.now) }
+    ensures value { Gives same (eval (flat base) (assignment (variable (local_seen local.now)) (expr_seen inner.now)) (state_of store.old)) (narrowed result) (state_of store.new) }
+    ensures kept { Keeps store.old store.new }
+{
+    let number = operand(store, base, inner)?;
+    let spot = stand_local(base, *local);
+    Ok(put(store, spot, number))
 }
 
 /// What an assignment to a spot gives.

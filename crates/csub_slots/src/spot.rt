@@ -1,5 +1,5 @@
 //! Where places are among the slots.
-ghost use Rattle.std.specs.Prelude.{◌≡◌, map};
+ghost use Rattle.std.specs.Prelude.{◌≡◌, ◌+◌, map};
 ghost use Rattle.csub_semantics.specs.Memory.{found};
 ghost use Rattle.csub_semantics.specs.Evaluation.{indexed};
 ghost use Rattle.csub_flat.specs.Seen.{form_seen, variable_seen, part_seen};
@@ -11,7 +11,7 @@ ghost use Rattle.csub_slots.specs.States.{Gives};
 
 use crate::registers::{Numbered, number_of};
 use crate::slot::{Slot, slot_at};
-use csub_flat::{FlatPart, FlatVariable, Form};
+use csub_flat::{FlatLocal, FlatPart, FlatVariable, Form};
 use csub_semantics::Trap;
 
 /// The greatest number of a slot to which another may refer.
@@ -61,6 +61,17 @@ pub fn stand(slots: &[Slot], base: u32, variable: FlatVariable) -> Numbered<Spot
         FlatVariable::Referring(slot, form) => {
             behind(form, slot_at(slots, base as usize + slot as usize))
         }
+    }
+}
+
+/// Where a variable of the frame is, for the frame whose slots begin at a base.
+#[inline(always)]
+pub fn stand_local(base: u32, local: FlatLocal) -> Spot
+    ensures { spot_seen result ≡ record { slot = base + local.slot; form = form_seen local.form } }
+{
+    Spot {
+        slot: base as usize + local.slot as usize,
+        form: local.form,
     }
 }
 
