@@ -9,10 +9,18 @@ use std::marker::Model;
 /// A valid program: `#start`, which calls `main`, and then the defined functions in the order of the source; and the
 /// objects of file scope in that order. Contracts see both lists; what validity is stands in `specs/Valid` of
 /// `csub_validity`.
-#[derive(Drop)]
 pub struct Program {
     functions: Vec<Function>,
     globals: Vec<GlobalVar>,
+}
+
+impl Drop for Program {
+    fn drop(self) {
+        let Program {
+            functions: _,
+            globals: _,
+        } = self;
+    }
 }
 
 impl Model for Program {

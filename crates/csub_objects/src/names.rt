@@ -7,9 +7,14 @@ use std::alloc::{AllocError, Global};
 use std::marker::Model;
 
 /// Names in the order in which they came, each once. Contracts see the list of the names.
-#[derive(Drop)]
 pub struct NameSet {
     held: IndexSet<Vec<u8>>,
+}
+
+impl Drop for NameSet {
+    fn drop(self) {
+        let NameSet { held: _ } = self;
+    }
 }
 
 impl Model for NameSet {

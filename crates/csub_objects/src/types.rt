@@ -13,7 +13,6 @@ use std::marker::Model;
 use std::sync::Arc;
 
 /// A declared type (C11 6.2.5).
-#[derive(Drop)]
 #[cycle(types)]
 pub enum CType {
     /// `char`, `int` or `unsigned int`.
@@ -26,8 +25,19 @@ pub enum CType {
     Loose(Element),
 }
 
+impl Drop for CType {
+    #[cycle(drop)]
+    fn drop(self) {
+        match self {
+            CType::Num(_) => {}
+            CType::Array(_, _) => {}
+            CType::Struct(_, _) => {}
+            CType::Loose(_) => {}
+        }
+    }
+}
+
 /// A parameter or a member: its name and its declared type.
-#[derive(Drop)]
 #[cycle(types)]
 pub struct Member {
     /// The declared name.
@@ -36,19 +46,38 @@ pub struct Member {
     pub ctype: CType,
 }
 
+impl Drop for Member {
+    #[cycle(drop)]
+    fn drop(self) {
+        let Member { name: _, ctype: _ } = self;
+    }
+}
+
 /// The type of elements, shared. Contracts see the tree of the type.
-#[derive(Drop)]
 #[cycle(types)]
 pub struct Element {
     shared: Arc<CType, Global>,
 }
 
+impl Drop for Element {
+    #[cycle(drop)]
+    fn drop(self) {
+        let Element { shared: _ } = self;
+    }
+}
+
 /// The members of a struct, shared, with what is asked of them again and again, made once. Contracts see the list of
 /// the members.
-#[derive(Drop)]
 #[cycle(types)]
 pub struct Members {
     shared: Arc<MemberList, Global>,
+}
+
+impl Drop for Members {
+    #[cycle(drop)]
+    fn drop(self) {
+        let Members { shared: _ } = self;
+    }
 }
 
 /// Members in order, and beside them their names, each one's first cell, the number of all cells (this and the former

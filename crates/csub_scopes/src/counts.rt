@@ -8,11 +8,20 @@ use std::alloc::{AllocError, Global};
 use std::marker::Model;
 
 /// Names, some of them more than once, each counted by a hash. Contracts see their list, the latest first.
-#[derive(Drop)]
 pub struct Counts {
     alloc: Global,
     names: Vec<Text>,
     counts: IndexMap<Vec<u8>, Option<u32>>,
+}
+
+impl Drop for Counts {
+    fn drop(self) {
+        let Counts {
+            alloc: _,
+            names: _,
+            counts: _,
+        } = self;
+    }
 }
 
 impl Model for Counts {

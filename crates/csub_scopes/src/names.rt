@@ -11,11 +11,20 @@ use std::alloc::{AllocError, Global};
 use std::marker::Model;
 
 /// The declarations in scope. Contracts see their list, the innermost and the latest first.
-#[derive(Drop)]
 pub struct Names {
     alloc: Global,
     stack: Vec<Entry>,
     latest: IndexMap<Vec<u8>, Option<u32>>,
+}
+
+impl Drop for Names {
+    fn drop(self) {
+        let Names {
+            alloc: _,
+            stack: _,
+            latest: _,
+        } = self;
+    }
 }
 
 /// A declaration, and the place of the one of its name that it hides.

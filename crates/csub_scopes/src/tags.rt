@@ -13,11 +13,20 @@ use std::alloc::{AllocError, Global};
 use std::marker::Model;
 
 /// The declared tags. Contracts see their list, the latest first.
-#[derive(Drop)]
 pub struct Tags {
     alloc: Global,
     stack: Vec<Tagged>,
     latest: IndexMap<Vec<u8>, Option<u32>>,
+}
+
+impl Drop for Tags {
+    fn drop(self) {
+        let Tags {
+            alloc: _,
+            stack: _,
+            latest: _,
+        } = self;
+    }
 }
 
 impl Model for Tags {

@@ -13,7 +13,6 @@ pub enum Owner {
 }
 
 /// A place (an lvalue, C11 6.3.2.1).
-#[derive(Drop)]
 #[cycle(tree)]
 pub enum Place {
     /// An object, with its declared type.
@@ -22,6 +21,17 @@ pub enum Place {
     Index(Box<Place>, Box<RExpr>),
     /// A member of a struct place, by its name (C11 6.5.2.3).
     Member(Box<Place>, Text),
+}
+
+impl Drop for Place {
+    #[cycle(drop)]
+    fn drop(self) {
+        match self {
+            Place::Var(_, _) => {}
+            Place::Index(_, _) => {}
+            Place::Member(_, _) => {}
+        }
+    }
 }
 
 /// A piece of a `printf` format (C11 7.21.6.1).
@@ -38,7 +48,6 @@ pub enum Piece {
 }
 
 /// An expression whose names, kinds and calls are resolved; user calls have been made before it.
-#[derive(Drop)]
 #[cycle(tree)]
 pub enum RExpr {
     /// A constant: its kind, and a value of that kind.
@@ -73,11 +82,42 @@ pub enum RExpr {
     Printf(Vec<Piece>, Vec<RExpr>),
 }
 
+impl Drop for RExpr {
+    #[cycle(drop)]
+    fn drop(self) {
+        match self {
+            RExpr::Const(_, _) => {}
+            RExpr::Read(_) => {}
+            RExpr::Temp(_, _) => {}
+            RExpr::Unary(_, _, _) => {}
+            RExpr::Cast(_, _) => {}
+            RExpr::Step(_, _) => {}
+            RExpr::Binary(_, _, _, _) => {}
+            RExpr::And(_, _) => {}
+            RExpr::Or(_, _) => {}
+            RExpr::Choose(_, _, _, _) => {}
+            RExpr::Assign(_, _) => {}
+            RExpr::Update(_, _, _, _) => {}
+            RExpr::Getchar => {}
+            RExpr::Putchar(_) => {}
+            RExpr::Printf(_, _) => {}
+        }
+    }
+}
+
 /// An argument of a user call.
-#[derive(Drop)]
 pub enum RArg {
     /// A number, which is converted to its parameter's kind.
     Value(RExpr),
     /// An array, to which its array parameter refers (C11 6.7.6.3p7).
     Array(Place),
+}
+
+impl Drop for RArg {
+    fn drop(self) {
+        match self {
+            RArg::Value(_) => {}
+            RArg::Array(_) => {}
+        }
+    }
 }

@@ -14,7 +14,6 @@ pub struct RCall {
 }
 
 /// A part of a statement: an expression. Its calls are made first, in order, and then its own point is evaluated.
-#[derive(Drop)]
 pub struct RPart {
     /// The user calls, innermost and leftmost first.
     pub calls: Vec<RCall>,
@@ -22,6 +21,16 @@ pub struct RPart {
     pub main: Option<Label>,
     /// The place that is named for the own point; where there is none, the first token of the part's expression.
     pub span: Span,
+}
+
+impl Drop for RPart {
+    fn drop(self) {
+        let RPart {
+            calls: _,
+            main: _,
+            span: _,
+        } = self;
+    }
 }
 
 /// A statement.
@@ -57,7 +66,6 @@ pub enum RStmt {
 }
 
 /// A local object that is no parameter.
-#[derive(Drop)]
 pub struct LocalVar {
     /// The declared name.
     pub name: Text,
@@ -67,8 +75,17 @@ pub struct LocalVar {
     pub ctype: CType,
 }
 
+impl Drop for LocalVar {
+    fn drop(self) {
+        let LocalVar {
+            name: _,
+            number: _,
+            ctype: _,
+        } = self;
+    }
+}
+
 /// A function definition.
-#[derive(Drop)]
 pub struct Function {
     /// The function's name.
     pub name: Text,
@@ -84,4 +101,18 @@ pub struct Function {
     pub locals: Vec<LocalVar>,
     /// The most temporaries of one of its parts.
     pub temps: u32,
+}
+
+impl Drop for Function {
+    fn drop(self) {
+        let Function {
+            name: _,
+            params: _,
+            result: _,
+            body: _,
+            span: _,
+            locals: _,
+            temps: _,
+        } = self;
+    }
 }

@@ -27,7 +27,6 @@ pub struct Answer {
 }
 
 /// A user call.
-#[derive(Drop)]
 pub struct CallLabel {
     /// The called function's name.
     pub callee: Text,
@@ -41,8 +40,19 @@ pub struct CallLabel {
     pub temp: Option<u32>,
 }
 
+impl Drop for CallLabel {
+    fn drop(self) {
+        let CallLabel {
+            callee: _,
+            params: _,
+            result: _,
+            args: _,
+            temp: _,
+        } = self;
+    }
+}
+
 /// What an object is initialised with (C11 6.7.9).
-#[derive(Drop)]
 #[cycle(initialisers)]
 pub enum RInit {
     /// The initial value of a number, which is converted to the declared type.
@@ -52,8 +62,16 @@ pub enum RInit {
     List(Vec<RInit>),
 }
 
+impl Drop for RInit {
+    fn drop(self) {
+        match self {
+            RInit::One(_) => {}
+            RInit::List(_) => {}
+        }
+    }
+}
+
 /// What is done at a point.
-#[derive(Drop)]
 pub enum Label {
     /// A function's entry: nothing.
     Entry,
@@ -75,6 +93,23 @@ pub enum Label {
     Halt(RExpr),
     /// A user call.
     Call(CallLabel),
+}
+
+impl Drop for Label {
+    fn drop(self) {
+        match self {
+            Label::Entry => {}
+            Label::Exit(_) => {}
+            Label::Eval(_) => {}
+            Label::Init(_, _, _) => {}
+            Label::Branch(_) => {}
+            Label::Switch(_) => {}
+            Label::Return(_) => {}
+            Label::Goto => {}
+            Label::Halt(_) => {}
+            Label::Call(_) => {}
+        }
+    }
 }
 
 /// A way out of a point.

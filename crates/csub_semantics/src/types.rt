@@ -3,7 +3,6 @@ use csub_objects::CType;
 use csub_text::Text;
 
 /// An object of file scope.
-#[derive(Drop)]
 pub struct GlobalVar {
     /// The declared name.
     pub name: Text,
@@ -11,4 +10,14 @@ pub struct GlobalVar {
     pub ctype: CType,
     /// What its cells hold when a run begins, a number for each (C11 6.7.9p10 for those that nothing is given for).
     pub initial: Vec<i64>,
+}
+
+impl Drop for GlobalVar {
+    fn drop(self) {
+        let GlobalVar {
+            name: _,
+            ctype: _,
+            initial: _,
+        } = self;
+    }
 }

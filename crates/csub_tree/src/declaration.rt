@@ -5,7 +5,6 @@ use csub_text::Span;
 
 /// An initialiser (C11 6.7.9).
 #[cycle(initialiser)]
-#[derive(Drop)]
 pub enum Init {
     /// An expression.
     One(Expr),
@@ -13,8 +12,16 @@ pub enum Init {
     List(Vec<Init>, Span),
 }
 
+impl Drop for Init {
+    fn drop(self) {
+        match self {
+            Init::One(_) => {}
+            Init::List(_, _) => {}
+        }
+    }
+}
+
 /// A declaration of objects, or of members of a struct (C11 6.7).
-#[derive(Drop)]
 pub struct Declare {
     /// The type that it begins with.
     pub base: TypeName,
@@ -24,8 +31,17 @@ pub struct Declare {
     pub span: Span,
 }
 
+impl Drop for Declare {
+    fn drop(self) {
+        let Declare {
+            base: _,
+            vars: _,
+            span: _,
+        } = self;
+    }
+}
+
 /// A declared name (C11 6.7.6).
-#[derive(Drop)]
 pub struct Declarator {
     /// The name.
     pub name: Name,
@@ -35,8 +51,17 @@ pub struct Declarator {
     pub init: Option<Init>,
 }
 
+impl Drop for Declarator {
+    fn drop(self) {
+        let Declarator {
+            name: _,
+            dims: _,
+            init: _,
+        } = self;
+    }
+}
+
 /// What a prototype or a definition of a function begins with (C11 6.7.6.3).
-#[derive(Drop)]
 pub struct Head {
     /// The type of its result.
     pub result: TypeName,
@@ -46,8 +71,17 @@ pub struct Head {
     pub params: Vec<Param>,
 }
 
+impl Drop for Head {
+    fn drop(self) {
+        let Head {
+            result: _,
+            name: _,
+            params: _,
+        } = self;
+    }
+}
+
 /// A parameter (C11 6.7.6.3).
-#[derive(Drop)]
 pub struct Param {
     /// The type that it begins with.
     pub base: TypeName,
@@ -59,4 +93,16 @@ pub struct Param {
     pub length: Option<Expr>,
     /// From the first token of the type to the last of the parameter.
     pub span: Span,
+}
+
+impl Drop for Param {
+    fn drop(self) {
+        let Param {
+            base: _,
+            name: _,
+            array: _,
+            length: _,
+            span: _,
+        } = self;
+    }
 }

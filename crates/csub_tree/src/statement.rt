@@ -6,7 +6,6 @@ use csub_text::Span;
 
 /// A line of a block, at its place, which runs from its first token to its last.
 #[cycle(statement)]
-#[derive(Drop)]
 pub struct Stmt {
     /// What it is.
     pub kind: StmtKind,
@@ -14,9 +13,15 @@ pub struct Stmt {
     pub span: Span,
 }
 
+impl Drop for Stmt {
+    #[cycle(drop)]
+    fn drop(self) {
+        let Stmt { kind: _, span: _ } = self;
+    }
+}
+
 /// What a line of a block is.
 #[cycle(statement)]
-#[derive(Drop)]
 pub enum StmtKind {
     /// A declaration (C11 6.7).
     Declare(Declare),
@@ -51,4 +56,28 @@ pub enum StmtKind {
     Label(Name, Box<Stmt>),
     /// `return` (C11 6.8.6.4).
     Return(Option<Expr>),
+}
+
+impl Drop for StmtKind {
+    #[cycle(drop)]
+    fn drop(self) {
+        match self {
+            StmtKind::Declare(_) => {}
+            StmtKind::Eval(_) => {}
+            StmtKind::Empty => {}
+            StmtKind::Block(_) => {}
+            StmtKind::If(_, _, _) => {}
+            StmtKind::While(_, _) => {}
+            StmtKind::Do(_, _) => {}
+            StmtKind::For(_, _, _, _) => {}
+            StmtKind::Switch(_, _) => {}
+            StmtKind::Case(_) => {}
+            StmtKind::Default => {}
+            StmtKind::Break => {}
+            StmtKind::Continue => {}
+            StmtKind::Goto(_) => {}
+            StmtKind::Label(_, _) => {}
+            StmtKind::Return(_) => {}
+        }
+    }
 }

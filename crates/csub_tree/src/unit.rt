@@ -6,14 +6,18 @@ use crate::statement::Stmt;
 use csub_text::Span;
 
 /// A source as a whole (C11 6.9).
-#[derive(Drop)]
 pub struct Unit {
     /// Its items in order.
     pub items: Vec<Item>,
 }
 
+impl Drop for Unit {
+    fn drop(self) {
+        let Unit { items: _ } = self;
+    }
+}
+
 /// What stands outside of every function (C11 6.9).
-#[derive(Drop)]
 pub enum Item {
     /// A struct and its members (C11 6.7.2.1).
     Struct(Name, Vec<Declare>),
@@ -28,11 +32,28 @@ pub enum Item {
     Function(Head, Vec<Stmt>, Span),
 }
 
+impl Drop for Item {
+    fn drop(self) {
+        match self {
+            Item::Struct(_, _) => {}
+            Item::Enum(_, _) => {}
+            Item::Object(_) => {}
+            Item::Prototype(_) => {}
+            Item::Function(_, _, _) => {}
+        }
+    }
+}
+
 /// A constant of an enumeration (C11 6.7.2.2).
-#[derive(Drop)]
 pub struct Constant {
     /// Its name.
     pub name: Name,
     /// Its value, where it is given.
     pub value: Option<Expr>,
+}
+
+impl Drop for Constant {
+    fn drop(self) {
+        let Constant { name: _, value: _ } = self;
+    }
 }

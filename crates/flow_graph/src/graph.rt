@@ -28,7 +28,6 @@ use std::ops::Range;
 /// function the entry, the points of the body in the order of the text, and the exit; edges by their source points and
 /// then in order, a `Default` last; functions in the program's order, `#start` first. Beside them stand two ordered maps,
 /// by which the way out by a case and the function with a name are found.
-#[derive(Drop)]
 pub struct Graph {
     functions: Vec<GraphFunction>,
     points: Vec<GraphPoint>,
@@ -37,6 +36,20 @@ pub struct Graph {
     cases: BTreeMap<(u32, i64), u32>,
     names: BTreeMap<Text, u32>,
     globals: Vec<GlobalVar>,
+}
+
+impl Drop for Graph {
+    fn drop(self) {
+        let Graph {
+            functions: _,
+            points: _,
+            firsts: _,
+            sources: _,
+            cases: _,
+            names: _,
+            globals: _,
+        } = self;
+    }
 }
 
 impl Model for Graph {

@@ -3,7 +3,8 @@ use crate::error::Unread;
 use crate::fields::Fields;
 use crate::lists::{all, last, push};
 use crate::values::Values;
-use csub_core::{Answer, CallLabel, EndRule, Label, Place, RCall, RPart, Span};
+use csub_core::{Answer, CType, CallLabel, EndRule, Label, Owner, Place, RCall, RPart, Span};
+use csub_objects::copy_type;
 use std::alloc::Global;
 
 /// The place of what stands in no source.
@@ -94,11 +95,18 @@ impl Parts {
 
     fn read_initialisation(&mut self) -> Result<(), Unread> {
         let place = last(&mut self.operands.places)?;
+        let Place::Var(owner, ctype) = &*place else {
+            return Err(Unread::Operand);
+        };
+        let owner = copy_owner(owner)?;
+        let ctype = copy_type(ctype)?;
+        self.push_initialisation(owner, ctype)
+    }
+
+    /// Adds a part that initialises an object.
+    fn push_initialisation(&mut self, owner: Owner, ctype: CType) -> Result<(), Unread> {
         let contents = last(&mut self.operands.initialisers)?;
-        match Box::into_inner(place) {
-            Place::Var(owner, ctype) => self.push_part(Label::Init(owner, ctype, contents)),
-            _ => Err(Unread::Operand),
-        }
+        self.push_part(Label::Init(owner, ctype, contents))
     }
 
     fn read_end(&mut self, fields: &mut Fields<'_>) -> Result<(), Unread> {
@@ -150,4 +158,11 @@ impl Parts {
         };
         Ok(())
     }
+}
+
+fn copy_owner(owner: &Owner) -> Result<Owner, Unread> {
+    Ok(match owner {
+        Owner::Global(name) => Owner::Global(name.copy()?),
+        Owner::Local(name, number) => Owner::Local(name.copy()?, *number),
+    })
 }

@@ -99,14 +99,9 @@ pub fn read_labels(alloc: Global, text: &str) -> Result<Vec<Label>, Unread> {
 }
 
 /// The label of a part of one point.
-fn label_of(part: RPart) -> Result<Label, Unread> {
-    let RPart {
-        mut calls,
-        main,
-        ..
-    } = part;
-    match main {
+fn label_of(mut part: RPart) -> Result<Label, Unread> {
+    match part.main.take() {
         Some(label) => Ok(label),
-        None => Ok(Label::Call(last(&mut calls)?.label)),
+        None => Ok(Label::Call(last(&mut part.calls)?.label)),
     }
 }

@@ -8,13 +8,24 @@ use test_suite::Test;
 
 /// A test and what its run gave. Contracts see the five parts, the output as the list of its bytes and
 /// the crossed edges as the value of their row.
-#[derive(Drop)]
 pub struct Entry {
     test: Test,
     status: Status,
     turns: u32,
     output: Vec<u8>,
     crossed: EdgeRow,
+}
+
+impl Drop for Entry {
+    fn drop(self) {
+        let Entry {
+            test: _,
+            status: _,
+            turns: _,
+            output: _,
+            crossed: _,
+        } = self;
+    }
 }
 
 impl Model for Entry {

@@ -8,11 +8,20 @@ use std::marker::Model;
 /// The digest of a source, the number of edges of its program, and the entries of the tests that ran on
 /// it. In every entry the row of crossed edges has that number of edges. Contracts see the three parts,
 /// the digest and the entries as lists.
-#[derive(Drop)]
 pub struct History {
     digest: [u8; 32],
     edges: u32,
     entries: Vec<Entry>,
+}
+
+impl Drop for History {
+    fn drop(self) {
+        let History {
+            digest: _,
+            edges: _,
+            entries: _,
+        } = self;
+    }
 }
 
 impl Model for History {

@@ -8,11 +8,20 @@ use std::marker::Model;
 
 /// A test: its name, the number of turns that its run may take, and the bytes that it reads. Contracts
 /// see the three parts, the name and the input as lists.
-#[derive(Drop)]
 pub struct Test {
     name: Text,
     budget: u32,
     input: Vec<u8>,
+}
+
+impl Drop for Test {
+    fn drop(self) {
+        let Test {
+            name: _,
+            budget: _,
+            input: _,
+        } = self;
+    }
 }
 
 impl Model for Test {
