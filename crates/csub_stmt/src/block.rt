@@ -12,8 +12,8 @@ ghost use Rattle.csub_stmt.specs.StatementDescent.{bare_name, read_stmt, read_li
 
 use crate::base::begins_base;
 use crate::node::{
-    block_node, boxed, do_node, else_node, for_node, if_node, label_node, switch_node, unboxed,
-    while_node,
+    block_node, boxed, do_node, else_node, for_node, if_node, label_node, push_line, switch_node,
+    unboxed, while_node,
 };
 use crate::opening::{Opening, opening_at};
 use crate::statement::{
@@ -114,7 +114,7 @@ pub fn lines(alloc: Global, tokens: &[Token], budget: u32) -> Result<(Vec<Stmt>,
     let mut rest = tokens;
     'each: while !begins(rest, Mark::CloseBrace) {
         let (one, after) = line(alloc, rest, budget)?;
-        all.push(one)?;
+        push_line(&mut all, one)?;
         rest = after;
     }
     Ok((all, rest))
@@ -151,7 +151,7 @@ fn switch_lines(alloc: Global, tokens: &[Token], budget: u32) -> Result<(Vec<Stm
     let mut rest = tokens;
     'each: while !begins(rest, Mark::CloseBrace) {
         let (one, after) = switch_line(alloc, rest, budget)?;
-        all.push(one)?;
+        push_line(&mut all, one)?;
         rest = after;
     }
     Ok((all, rest))

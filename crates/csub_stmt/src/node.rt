@@ -1,5 +1,5 @@
 //! Statements with statements inside, made of what was read.
-ghost use Rattle.std.specs.Prelude.{◌≡◌, map, Option, Some, None, IfOk, IfErr};
+ghost use Rattle.std.specs.Prelude.{◌≡◌, ◌++◌, ◌∷◌, [], map, Option, Some, None, IfOk, IfErr, OnOk};
 ghost use Rattle.std.specs.Option.{option_map};
 ghost use Rattle.csub_tree.specs.Expressions.{expr_tree};
 ghost use Rattle.csub_tree.specs.Statements.{stmt_tree, stmts_of, perhaps_of, Block, If, While, Do, For, Switch, Label, NoStmt, OneStmt};
@@ -50,6 +50,15 @@ pub fn boxed(alloc: Global, x: Stmt) -> Result<Box<Stmt>, Stop>
     ensures err { IfErr result (λ e. e ≡ Memory) }
 {
     Ok(Box::new(alloc, x)?)
+}
+
+/// Adds a line to those of a block. All are added here, since a call of a generic function at a type of many forms takes long to prove.
+pub fn push_line(lines: &mut Vec<Stmt>, line: Stmt) -> Result<(), Stop>
+    ensures ok { OnOk result (lines.new.items ≡ lines.old.items ++ line ∷ []) }
+    ensures err { IfErr result (λ e. e ≡ Memory) }
+{
+    lines.push(line)?;
+    Ok(())
 }
 
 pub fn if_node(start: u32, e: Box<Expr>, x: Box<Stmt>) -> Stmt

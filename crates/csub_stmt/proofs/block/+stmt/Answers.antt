@@ -26,7 +26,7 @@ lines-each-preserved t c =
     let i = c.each.invariant in
     let less = read_line_shorter c.args.budget c.each.rest.now (stmt_tree c.in_ok-one.one) c.in_ok-one.after.now c.in_ok-one.ensures in
     let goes = each_goes (read_line c.args.budget) (begins CloseBrace) i.0 c.each.rest.now c.in_ok-one.after.now (map stmt_tree c.each.all.items) (stmt_tree c.in_ok-one.one) i.1 (sym c.each-test.ensures) c.in_ok-one.ensures in
-    (i.0 - 1, omega (arith, i.1, less), rw (c.in_ok-push.ensures.items, map_push stmt_tree c.each.all.items c.in_ok-one.one) (i.2 ∙ goes))
+    (i.0 - 1, omega (arith, i.1, less), rw (c.in_ok-push_line.ensures.ok, map_push stmt_tree c.each.all.items c.in_ok-one.one) (i.2 ∙ goes))
 
 pub lines-returns : goal.lines-returns
 lines-returns t c = let i = c.each.invariant in i.2 ∙ each_ends (read_line c.args.budget) (begins CloseBrace) i.0 c.each.rest.now (map stmt_tree c.each.all.items) (sym c.each-test.ensures)
@@ -45,7 +45,7 @@ switch_lines-each-preserved t c =
     let i = c.each.invariant in
     let less = switch_line_shorter c.args.budget (read_stmt c.args.budget) (stmt_sound c.args.budget) c.each.rest.now (stmt_tree c.in_ok-one.one) c.in_ok-one.after.now c.in_ok-one.ensures in
     let goes = each_goes (switch_line_by (read_stmt c.args.budget) c.args.budget) (begins CloseBrace) i.0 c.each.rest.now c.in_ok-one.after.now (map stmt_tree c.each.all.items) (stmt_tree c.in_ok-one.one) i.1 (sym c.each-test.ensures) c.in_ok-one.ensures in
-    (i.0 - 1, omega (arith, i.1, less), rw (c.in_ok-push.ensures.items, map_push stmt_tree c.each.all.items c.in_ok-one.one) (i.2 ∙ goes))
+    (i.0 - 1, omega (arith, i.1, less), rw (c.in_ok-push_line.ensures.ok, map_push stmt_tree c.each.all.items c.in_ok-one.one) (i.2 ∙ goes))
 
 pub switch_lines-returns : goal.switch_lines-returns
 switch_lines-returns t c = let i = c.each.invariant in i.2 ∙ each_ends (switch_line_by (read_stmt c.args.budget) c.args.budget) (begins CloseBrace) i.0 c.each.rest.now (map stmt_tree c.each.all.items) (sym c.each-test.ensures)
