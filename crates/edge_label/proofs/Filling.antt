@@ -9,10 +9,10 @@ use Rattle.csub_semantics.specs.Trees.{constant, reading, unary_operation, conve
 use Rattle.csub_semantics.specs.Trees.{update, input_byte, output_byte, formatted, NamedExprs, no_expr, more_exprs, NamedArg, value_argument, array_argument}
 use Rattle.csub_semantics.specs.Labels.{LabelTree, enters, exits, evaluates, initialises, branches, switches, returns, jumps, halts, calls}
 use Rattle.csub_semantics.specs.Labels.{AnswerTree, CallTree, InitTree, one_value, listed, InitTrees, no_init, more_inits}
-use Rattle.edge_label.specs.Bare.{bare_variable, bare_place, bare_expr, bare_exprs, bare_arg, bare_init, bare_inits, bare_answer, bare_call, bare_label}
+use Rattle.label_code.specs.Bare.{bare_variable, bare_place, bare_expr, bare_exprs, bare_arg, bare_init, bare_inits, bare_answer, bare_call, bare_label}
 use Rattle.edge_label.specs.Fills.{Filler, list_of, fill_variable, fill_place, fill_expr, fill_exprs, fill_arg, fill_args, fill_init, fill_inits, fill_answer, fill_call, fill_label}
-use Rattle.edge_label.specs.Readers.{then}
-use Rattle.edge_label.specs.ReadBack.{then_back, then_append}
+use Rattle.label_code.specs.Readers.{then}
+use Rattle.label_code.specs.ReadBack.{then_back, then_append}
 use Rattle.edge_label.specs.Tables.{use_type, types_of}
 use Rattle.edge_label.specs.Uses.{TypeUse, parameters_type, variable_uses, place_uses, expr_uses, exprs_uses, arg_uses, init_uses, inits_uses, answer_uses}
 

@@ -9,7 +9,7 @@ use Rattle.csub_semantics.specs.Types.{GlobalTree}
 use Rattle.csub_semantics.specs.Trees.{global_owner, local_owner}
 use Rattle.csub_semantics.specs.Labels.{label_tree}
 use Rattle.edge_label.specs.declared.types.Typed.{Typed}
-use Rattle.edge_label.specs.declared.uses.TypeUse.{TypeUse as CodeUse}
+use Rattle.label_code.specs.declared.uses.TypeUse.{TypeUse as CodeUse}
 use Rattle.csub_objects.specs.Types.{TypeTree}
 use Rattle.edge_label.specs.Numbers.{HasEachOnce}
 use Rattle.edge_label.specs.Known.{named_code, type_at, IsNumberOf, AreStructs, AreKnown, AreTyped}

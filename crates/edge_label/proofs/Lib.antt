@@ -3,7 +3,6 @@ mod CodeLemmas
 mod Filling
 mod KnownLemmas
 mod ListLemmas
-mod NameLemmas
 mod BookLemmas
 mod IndexLemmas
 mod StructLemmas

@@ -10,13 +10,13 @@ use Rattle.csub_types.specs.declared.kind.IntKind.{IntKind}
 use Rattle.csub_objects.specs.Types.{Name, TypeTree, number_type, array_type, struct_type, loose_type, MemberTrees, no_member, more_members, members_of}
 use Rattle.csub_objects.specs.Meaning.{type_tree, member_tree}
 use Rattle.csub_objects.specs.declared.types.Member.{Member}
-use Rattle.edge_label.specs.Codes.{kind_number, name_code, type_code, members_code}
+use Rattle.label_code.specs.Codes.{kind_number, name_code, type_code, members_code, numbered}
 use Rattle.edge_label.specs.Known.{AreOfTags, AreStructs}
 use Rattle.edge_label.specs.declared.structs.TagNumbers.{TagNumbers}
 use Rattle.edge_label.specs.Numbers.{HasEachOnce}
-use Rattle.edge_label.specs.ReadBack.{coded_type-type_code}
-use Rattle.edge_label.specs.Readers.{coded_type}
-use Rattle.edge_label.specs.Structs.{Table, numbered, IsShort, AreShort, HasStruct, IsTypeCode, AreTypeCodes, AppendsType, AppendsMembers, IsBelow, AreBelow, IsStructTable, whole_type, whole_members, whole_struct, struct_at, type_in}
+use Rattle.label_code.specs.ReadBack.{coded_type-type_code}
+use Rattle.label_code.specs.Readers.{coded_type}
+use Rattle.edge_label.specs.Structs.{Table, IsShort, AreShort, HasStruct, IsTypeCode, AreTypeCodes, AppendsType, AppendsMembers, IsBelow, AreBelow, IsStructTable, whole_type, whole_members, whole_struct, struct_at, type_in}
 use Rattle.edge_label.specs.Tables.{Extends}
 use Rattle.edge_label.specs.Uses.{Tags, IsTagged, AreTagged, struct_members}
 use Rattle.edge_label.proofs.ListLemmas.{kept, last_or_before}

@@ -7,14 +7,14 @@ use Rattle.csub_objects.specs.Types.{Name, TypeTree}
 use Rattle.csub_semantics.specs.Types.{GlobalTree}
 use Rattle.csub_semantics.specs.Labels.{LabelTree, PointLabel}
 use Rattle.csub_semantics.specs.Globals.{global_of, globals_of, found_first}
-use Rattle.edge_label.specs.Bare.{bare_label}
-use Rattle.edge_label.specs.Codes.{global_code, label_code}
+use Rattle.label_code.specs.Bare.{bare_label}
+use Rattle.label_code.specs.Codes.{global_code, label_code, numbered, with_type}
 use Rattle.edge_label.specs.Fills.{fill_label}
-use Rattle.edge_label.specs.Readers.{read_tree, coded_global}
-use Rattle.edge_label.specs.ReadBack.{tree_back, coded_global-global_code}
+use Rattle.label_code.specs.Readers.{read_tree, coded_global}
+use Rattle.label_code.specs.ReadBack.{tree_back, coded_global-global_code}
 use Rattle.edge_label.specs.Numbers.{HasEachOnce}
-use Rattle.edge_label.specs.Structs.{Table, numbered, AppendsType, whole_type, type_in}
-use Rattle.edge_label.specs.Tables.{Extends, Extend, AreNumbers, AppendsNumbers, AreTables, IsTypeNumber, AreTypeNumbers, types_of, with_type, IsGlobalCode, AreGlobalCodes, IsGlobalNumber, AppendsGlobals, codes_at, last_of, global_in, label_in, IsCode}
+use Rattle.edge_label.specs.Structs.{Table, AppendsType, whole_type, type_in}
+use Rattle.edge_label.specs.Tables.{Extends, Extend, AreNumbers, AppendsNumbers, AreTables, IsTypeNumber, AreTypeNumbers, types_of, IsGlobalCode, AreGlobalCodes, IsGlobalNumber, AppendsGlobals, codes_at, last_of, global_in, label_in, IsCode}
 use Rattle.edge_label.specs.declared.table.Tables.{Tables}
 use Rattle.edge_label.proofs.Filling.{label_filled}
 use Rattle.edge_label.proofs.ListLemmas.{kept, those_behind}

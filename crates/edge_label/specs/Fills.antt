@@ -8,8 +8,8 @@ use Rattle.csub_semantics.specs.Trees.{reading, unary_operation, conversion, ste
 use Rattle.csub_semantics.specs.Trees.{update, input_byte, output_byte, formatted, NamedExprs, no_expr, more_exprs, NamedArg, value_argument, array_argument}
 use Rattle.csub_semantics.specs.Labels.{LabelTree, enters, exits, evaluates, initialises, branches, switches, returns, jumps, halts, calls}
 use Rattle.csub_semantics.specs.Labels.{AnswerTree, CallTree, InitTree, one_value, listed, InitTrees, no_init, more_inits}
-use Rattle.edge_label.specs.Bare.{no_type}
-use Rattle.edge_label.specs.Readers.{Taker, just, then}
+use Rattle.label_code.specs.Bare.{no_type}
+use Rattle.label_code.specs.Readers.{Taker, just, then}
 
 -- the types are taken off the front of a list
 abbrev pub Filler : Type 0 → Type 0

@@ -7,7 +7,7 @@ use Rattle.std.specs.List.{All}
 use Rattle.csub_objects.specs.Types.{Name, TypeTree, MemberTrees}
 use Rattle.csub_semantics.specs.Trees.{global_owner, local_owner}
 use Rattle.csub_semantics.specs.Labels.{label_tree}
-use Rattle.edge_label.specs.Codes.{name_code}
+use Rattle.label_code.specs.Codes.{name_code}
 use Rattle.edge_label.specs.Numbers.{HasEachOnce}
 use Rattle.edge_label.specs.Structs.{Table, HasStruct, IsStructTable}
 use Rattle.edge_label.specs.Tables.{IsTypeNumber, AreTypeNumbers, types_of}

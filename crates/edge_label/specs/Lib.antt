@@ -1,11 +1,7 @@
-pub mod Bare
-pub mod Codes
 pub mod Fills
 pub mod Indices
 pub mod Known
 pub mod Numbers
-pub mod ReadBack
-pub mod Readers
 pub mod Stored
 pub mod Structs
 pub mod Tables

@@ -3,18 +3,14 @@
 use Rattle.std.specs.Prelude.{◌≡◌, ◌<◌, ℕ, zero, suc, List, [], ◌∷◌, ◌++◌, Some, length, slice_get}
 use Rattle.std.proofs.Common.{get_or}
 use Rattle.csub_objects.specs.Types.{Name, TypeTree, number_type, array_type, struct_type, loose_type, MemberTrees, no_member, more_members}
-use Rattle.edge_label.specs.Bare.{no_type}
-use Rattle.edge_label.specs.Codes.{type_code, members_code}
+use Rattle.label_code.specs.Bare.{no_type}
+use Rattle.label_code.specs.Codes.{type_code, members_code, numbered}
 use Rattle.edge_label.specs.Numbers.{HasEachOnce}
-use Rattle.edge_label.specs.Readers.{coded_type}
+use Rattle.label_code.specs.Readers.{coded_type}
 
 -- codes by their numbers
 abbrev pub Table : Type 0
 Table = List (List ℕ)
-
--- a number in the place of a struct, or of a whole type: it stands as the tag of a struct without members
-abbrev pub numbered : ℕ → TypeTree
-numbered s = struct_type (s ∷ []) no_member
 
 -- the second type, or the second list of members, is the first with numbers in place of its structs
 abbrev mutual

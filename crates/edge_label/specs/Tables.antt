@@ -7,12 +7,12 @@ use Rattle.std.proofs.Common.{get_or}
 use Rattle.csub_objects.specs.Types.{TypeTree}
 use Rattle.csub_semantics.specs.Types.{GlobalTree}
 use Rattle.csub_semantics.specs.Labels.{LabelTree, PointLabel}
-use Rattle.edge_label.specs.Bare.{bare_label}
-use Rattle.edge_label.specs.Codes.{global_code, label_code}
+use Rattle.label_code.specs.Bare.{bare_label}
+use Rattle.label_code.specs.Codes.{global_code, label_code, numbered, with_type}
 use Rattle.edge_label.specs.Fills.{fill_label}
-use Rattle.edge_label.specs.Readers.{read_tree, coded_global}
+use Rattle.label_code.specs.Readers.{read_tree, coded_global}
 use Rattle.edge_label.specs.Numbers.{HasNumber, KeepsNumbers, AddsOnly, HasEachOnce}
-use Rattle.edge_label.specs.Structs.{Table, numbered, IsStructTable, IsTypeCode, AreTypeCodes, whole_type, type_in}
+use Rattle.edge_label.specs.Structs.{Table, IsStructTable, IsTypeCode, AreTypeCodes, whole_type, type_in}
 use Rattle.edge_label.specs.declared.table.Tables.{Tables}
 use Rattle.edge_label.specs.Uses.{TypeUse, label_uses}
 
@@ -59,10 +59,6 @@ pub record AreTypeNumbers (tables : Tables) (numbers : List ℕ) (types : List T
   pub codes : List (List ℕ)
   pub are : AreTypeCodes tables.structs types codes
   pub stand : AreNumbers tables.parts numbers codes
-
--- a global with another type in the type's place
-abbrev pub with_type : GlobalTree → TypeTree → GlobalTree
-with_type g t = record { name = g.name; ctype = t; initial = g.initial }
 
 -- a list is the code of a global: the number of its type stands in the place of the type
 pub record IsGlobalCode (tables : Tables) (global : GlobalTree) (code : List ℕ) : Type 0 where

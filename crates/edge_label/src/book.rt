@@ -9,15 +9,14 @@ ghost use Rattle.edge_label.specs.Tables.{AreTypeNumbers, types_of, label_in, Is
 ghost use Rattle.edge_label.specs.declared.table.Tables.{Tables};
 ghost use Rattle.edge_label.specs.Uses.{AreDeclared, standing_tree};
 
-use crate::code::push_label;
 use crate::globals::{GlobalNumbers, number_globals, push_numbers};
-use crate::names::global_names;
 use crate::standing::Standing;
 use crate::steps::Steps;
 use crate::table::{CodeTable, Tables};
 use crate::types::{Typed, number_all_types, number_types};
 use csub_semantics::{GlobalVar, Label};
 use indexmap::IndexSet;
+use label_code::{global_names, push_label};
 use std::alloc::{AllocError, Global};
 use std::marker::Model;
 use std::sync::ledger::Ledger;

@@ -11,11 +11,10 @@ ghost use Rattle.edge_label.specs.Tables.{Extend, AreTables, IsTypeNumber, IsGlo
 ghost use Rattle.edge_label.specs.Uses.{Tags, IsTagged};
 ghost use Rattle.edge_label.specs.declared.table.Tables.{Tables};
 
-use crate::code::push_global;
-use crate::names::NameSet;
 use crate::structs::{TagNumbers, push_short};
 use crate::table::Tables;
 use csub_semantics::{CType, GlobalVar};
+use label_code::{NameSet, push_global};
 use std::alloc::{AllocError, Global};
 use std::collections::HashMap;
 

@@ -9,27 +9,24 @@
 //! ([`LabelBook::same`]). [`Steps`] is that count, which takes no bytes. In contracts a book is the list of its whole
 //! labels, in the order of their numbers.
 //!
-//! `specs/Numbers` has the words of these contracts, and `Uses` which names a label has with their types; which globals a
-//! tree names stands in `csub_semantics`. A book itself keeps a code of each label, a list of numbers: that of the bare
-//! label (`Bare`), with the numbers of its types and globals in a table behind it (`Tables`), where each type and each
-//! global stands once; in a global the number of its type there stands in the place of the type, and in a type a number in
-//! the place of each struct, that of the struct in a table of structs (`Structs`). `Codes` has the codes, `Readers` reads
-//! them back, and `ReadBack` proves that no two labels have one code; `Fills` puts the types back into a bare label;
-//! `Indices` says what an index of globals keeps, `Known` what is kept of the types of names and of the structs of tags,
-//! and `Stored` how codes stand for labels. Laws for proofs above stand in `proofs/LawsNumbers`: a book has each label
-//! once, so its numbers are equal exactly where the labels are.
+//! `specs/Numbers` has the words of these contracts, and `Uses` which names have their declared types; the names in a label
+//! with their types are those of `label_code`'s `Uses`, and which globals a tree names stands in `csub_semantics`. A book
+//! itself keeps a code of each label, a list of numbers: that of the bare label (`label_code`), with the numbers of its types
+//! and globals in a table behind it (`Tables`), where each type and each global stands once; in a global the number of its
+//! type there stands in the place of the type, and in a type a number in the place of each struct, that of the struct in a
+//! table of structs (`Structs`). `Fills` puts the types back into a bare label; `Indices` says what an index of globals keeps,
+//! `Known` what is kept of the types of names and of the structs of tags, and `Stored` how codes stand for labels. Laws for
+//! proofs above stand in `proofs/LawsNumbers`: a book has each label once, so its numbers are equal exactly where the labels
+//! are.
 #![tactic(auto)]
 
 pub mod book;
-mod code;
 mod globals;
-mod names;
 pub mod standing;
 pub mod steps;
 mod structs;
 mod table;
 mod types;
-mod uses;
 
 pub use book::LabelBook;
 pub use standing::Standing;

@@ -9,9 +9,9 @@ ghost use Rattle.edge_label.specs.Structs.{HasStruct, AppendsType, AppendsMember
 ghost use Rattle.edge_label.specs.Tables.{Extends};
 ghost use Rattle.edge_label.specs.Uses.{Tags, IsTagged, AreTagged};
 
-use crate::code::{kind_number, push_name, push_numbered};
 use crate::table::CodeTable;
 use csub_semantics::{CType, Member};
+use label_code::{kind_number, push_name, push_numbered};
 use std::alloc::{AllocError, Global};
 use std::collections::HashMap;
 

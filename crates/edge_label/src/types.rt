@@ -9,12 +9,11 @@ ghost use Rattle.edge_label.specs.Tables.{Extends, Extend, AreTables, IsTypeNumb
 ghost use Rattle.edge_label.specs.Known.{named_code, AreStructs, AreKnown, AreTyped};
 ghost use Rattle.edge_label.specs.Uses.{an_object, Tags, HasTags, Declarations, IsDeclaredUse, IsDeclared, use_tree, standing_tree};
 
-use crate::code::{push_name, push_numbered};
 use crate::standing::Standing;
 use crate::structs::{TagNumbers, number_struct, push_short};
 use crate::table::{CodeTable, Tables};
-use crate::uses::{TypeUse, uses_of};
 use csub_semantics::{Label, Owner};
+use label_code::{TypeUse, push_name, push_numbered, uses_of};
 use std::alloc::{AllocError, Global};
 use std::collections::HashMap;
 

@@ -1,8 +1,8 @@
 use Rattle.std.proofs.Common.{subst, rules}
 use Rattle.csub_semantics.specs.Labels.{label_tree}
 use Rattle.csub_semantics.specs.Globals.{globals_of}
-use Rattle.edge_label.specs.Bare.{bare_label}
-use Rattle.edge_label.specs.Codes.{label_code}
+use Rattle.label_code.specs.Bare.{bare_label}
+use Rattle.label_code.specs.Codes.{label_code}
 use Rattle.edge_label.specs.Tables.{AppendsNumbers, AppendsGlobals}
 use Rattle.edge_label.proofs.TableLemmas.{AppendsNumbers-both}
 use Rattle.edge_label.proofs.book.code_of.Goals as goal

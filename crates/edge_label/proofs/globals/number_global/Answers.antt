@@ -2,9 +2,7 @@ use Rattle.std.proofs.Common.{◌≡◌, ◌∙◌, ◌++◌, ap}
 use Rattle.std.proofs.lemmas.Result.{IfOk-weaker}
 use Rattle.csub_semantics.specs.Types.{global_tree}
 use Rattle.edge_label.specs.declared.table.Tables.{Tables}
-use Rattle.edge_label.specs.Codes.{global_code}
-use Rattle.edge_label.specs.Structs.{numbered}
-use Rattle.edge_label.specs.Tables.{with_type}
+use Rattle.label_code.specs.Codes.{global_code, numbered, with_type}
 use Rattle.edge_label.proofs.TableLemmas.{parts_extend, global_numbered}
 use Rattle.edge_label.proofs.globals.number_global.Goals as goal
 

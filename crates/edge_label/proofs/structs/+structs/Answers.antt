@@ -5,7 +5,7 @@ use Rattle.csub_objects.specs.Codes.{type_size}
 use Rattle.csub_objects.specs.Meaning.{type_tree, member_tree}
 use Rattle.csub_objects.specs.Types.{array_type, struct_type, loose_type, members_of}
 use Rattle.csub_objects.proofs.LawsMembers.{member_falls}
-use Rattle.edge_label.specs.Codes.{name_code}
+use Rattle.label_code.specs.Codes.{name_code}
 use Rattle.edge_label.specs.Uses.{IsTagged}
 use Rattle.edge_label.specs.declared.structs.TagNumbers.{TagNumbers}
 use Rattle.edge_label.proofs.StructLemmas.{number_appended, array_appended, loose_appended, struct_appended, struct_numbered, structs_numbered, known_struct, tag_put, first_more, first_all, left_more, tagged_at}
