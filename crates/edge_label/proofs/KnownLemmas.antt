@@ -12,7 +12,7 @@ use Rattle.edge_label.specs.declared.types.Typed.{Typed}
 use Rattle.label_code.specs.declared.uses.TypeUse.{TypeUse as CodeUse}
 use Rattle.csub_objects.specs.Types.{TypeTree}
 use Rattle.edge_label.specs.Numbers.{HasEachOnce}
-use Rattle.edge_label.specs.Known.{named_code, type_at, IsNumberOf, AreStructs, AreKnown, AreTyped}
+use Rattle.edge_label.specs.Known.{named_code, type_at, IsNumberOf, AreOfTags, AreStructs, AreKnown, AreTyped}
 use Rattle.edge_label.specs.Structs.{Table, IsStructTable}
 use Rattle.edge_label.specs.declared.structs.TagNumbers.{TagNumbers}
 use Rattle.edge_label.specs.Tables.{Extend, IsTypeNumber, AreTypeNumbers, use_type, types_of}
@@ -53,6 +53,13 @@ none_known tables d = record { once = λ i j name at_i at_j. absurd cc; as_many 
 -- where no tag is trusted, nothing is asked of their numbers
 pub none_trusted : (structs : Table) (by_tag : Tags) (tags : TagNumbers) → tags.trusted ≡ false → IsStructTable structs → AreStructs by_tag structs tags
 none_trusted structs by_tag tags untrusted is = record { table = is; numbers = λ trusted. absurd (true≢false (sym trusted ∙ untrusted)) }
+
+-- so where there are no tags yet
+pub no_tags : (structs : Table) (by_tag : Tags) (tags : TagNumbers) → tags.by_tag.entries ≡ [] → IsStructTable structs → AreStructs by_tag structs tags
+no_tags structs by_tag tags empty is = record {
+  table = is;
+  numbers = λ _. subst (AreOfTags structs by_tag) (sym empty) (λ tag s at. absurd cc);
+}
 
 -- tags of globals, where they are trusted, and else any
 pub some_tags : (trusted : Bool) (globals : List GlobalTree) → (IsTrue trusted → (by_tag : Tags) × All (λ g. IsTagged by_tag g.ctype) globals)

@@ -201,14 +201,21 @@ module _ (tables new : Tables) (grown : Extend tables new) (sound : AreTables ne
   pub still_written : (codes : List (List ℕ)) → All (λ code. IsCode tables (label_in tables code) code) codes → All (λ code. IsCode new (label_in new code) code) codes
   still_written codes written k d within = (still_code (get_or codes k d) (written k d within)).1
 
+-- a table that stays has grown by nothing
+pub Extends-refl : (table : Table) → Extends table table
+Extends-refl table = ([], sym (append-nil table))
+
 -- a table to which at most one code was added has grown
 pub Extends-added : (old new : Table) (code : List ℕ) → (new ≡ old) ⊎ (new ≡ old ++ code ∷ []) → Extends old new
 Extends-added old new code (inl e) = ([], e ∙ sym (append-nil old))
 Extends-added old new code (inr e) = (code ∷ [], e)
 
+pub Extend-refl : (tables : Tables) → Extend tables tables
+Extend-refl tables = record { structs = Extends-refl tables.structs; parts = Extends-refl tables.parts }
+
 pub parts_extend : (tables : Tables) (parts : Table) (code : List ℕ) → (parts ≡ tables.parts) ⊎ (parts ≡ tables.parts ++ code ∷ [])
     → Extend tables (record { structs = tables.structs; parts = parts })
-parts_extend tables parts code added = record { structs = ([], sym (append-nil tables.structs)); parts = Extends-added tables.parts parts code added }
+parts_extend tables parts code added = record { structs = Extends-refl tables.structs; parts = Extends-added tables.parts parts code added }
 
 pub Extends-trans : (first second third : Table) → Extends first second → Extends second third → Extends first third
 Extends-trans first second third before after = (before.0 ++ after.0, after.1 ∙ ap (λ t. t ++ after.0) before.1 ∙ append_assoc first before.0 after.0)

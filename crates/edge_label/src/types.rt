@@ -227,6 +227,28 @@ fn type_label<'a>(
     Ok(Typed { label, types })
 }
 
+/// Labels, each with the numbers of its types. An `Err` is want of memory.
+fn type_labels<'a>(
+    alloc: Global,
+    tables: &mut Tables,
+    known: &mut TypeNumbers<'a>,
+    labels: &[Standing<'a>],
+) -> Result<Vec<Typed<'a>>, AllocError>
+    ensures typed { IfOk result (λ rows. (d : Declarations) → All (IsDeclared d) (map standing_tree labels.now) → AreStructs d.by_tag tables.old.structs known.old.tags →
+        AreKnown tables.old d known.old.names known.old.numbers.items → AreTyped tables.new rows.items) }
+    ensures labels { IfOk result (λ rows. map (λ t. label_tree t.label.now) rows.items ≡ map (λ s. label_tree s.label.now) labels.now) }
+    ensures structs { (d : Declarations) → All (IsDeclared d) (map standing_tree labels.now) → AreStructs d.by_tag tables.old.structs known.old.tags →
+        AreStructs d.by_tag tables.new.structs known.new.tags }
+    ensures grows { Extend tables.old tables.new }
+    ensures once { HasEachOnce tables.old.parts → HasEachOnce tables.new.parts }
+{
+    let mut rows = Vec::new(alloc);
+    for standing in labels {
+        rows.push(type_label(alloc, tables, known, *standing)?)?;
+    }
+    Ok(rows)
+}
+
 /// The labels of a program, each with the numbers of its types. An `Err` is want of memory.
 pub fn number_all_types<'a>(
     alloc: Global,
@@ -247,9 +269,5 @@ pub fn number_all_types<'a>(
             by_tag: HashMap::new(alloc),
         },
     };
-    let mut rows = Vec::new(alloc);
-    for standing in labels {
-        rows.push(type_label(alloc, tables, &mut known, *standing)?)?;
-    }
-    Ok(rows)
+    type_labels(alloc, tables, &mut known, labels)
 }

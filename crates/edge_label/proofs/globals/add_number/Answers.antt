@@ -2,6 +2,7 @@ use Rattle.std.proofs.Common.{◌≡◌, ◌∙◌, sym, ap, cond, Some, is_some
 use Rattle.std.specs.Str.{bytes_eq}
 use Rattle.csub_semantics.specs.Types.{global_tree}
 use Rattle.edge_label.proofs.IndexLemmas.{number_of, first_stays, first_added}
+use Rattle.edge_label.proofs.TableLemmas.{Extend-refl}
 use Rattle.edge_label.proofs.globals.add_number.Goals as goal
 
 pub returns-then-contains_key-clause-numbers : goal.returns-then-contains_key-clause-numbers
@@ -18,3 +19,6 @@ returns-clause-numbers c = λ by_tag before tagged structs index.
     c.in_ok-number.ensures.grows (c.in_ok-number.ensures.number by_tag tagged structs) index (sym known ∙ c.if-contains_key.false)
     (λ name. c.in_ok-insert.ensures.updates.0 (record { ref_ptr = c.bytes-name.result.ref_ptr; now = name })
     ∙ ap (λ key. cond (bytes_eq key name) (Some c.in_ok-number.number) (held name)) c.bytes-name.ensures)
+
+pub returns-then-contains_key-clause-grows : goal.returns-then-contains_key-clause-grows
+returns-then-contains_key-clause-grows c = Extend-refl c.args.tables.now

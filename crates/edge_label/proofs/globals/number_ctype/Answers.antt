@@ -3,7 +3,7 @@ use Rattle.std.proofs.lemmas.Result.{IfOk-weaker}
 use Rattle.csub_objects.specs.Meaning.{type_tree}
 use Rattle.edge_label.specs.declared.table.Tables.{Tables}
 use Rattle.edge_label.specs.Structs.{AppendsType}
-use Rattle.edge_label.proofs.TableLemmas.{type_numbered}
+use Rattle.edge_label.proofs.TableLemmas.{type_numbered, Extends-refl, Extends-added}
 use Rattle.edge_label.proofs.globals.number_ctype.Goals as goal
 
 pub returns-clause-number : goal.returns-clause-number
@@ -16,3 +16,12 @@ returns-clause-number c =
     (λ n at by_tag tagged are. type_numbered tables ctype code n
     (subst (λ old. AppendsType structs ctype old code) c.new-code.ensures.items (c.in_ok-push_short.ensures.short by_tag tagged are)) at)
     c.number.ensures.number
+
+pub returns-in_err-push_short-clause-grows : goal.returns-in_err-push_short-clause-grows
+returns-in_err-push_short-clause-grows c = record { structs = c.in_err-push_short.ensures.grows; parts = Extends-refl c.args.tables.now.parts }
+
+pub returns-clause-grows : goal.returns-clause-grows
+returns-clause-grows c = record {
+  structs = c.in_ok-push_short.ensures.grows;
+  parts = Extends-added c.args.tables.now.parts c.number.new.self c.push_short.new.out.items c.number.ensures.adds;
+}

@@ -8,8 +8,8 @@ use Rattle.csub_objects.proofs.LawsMembers.{member_falls}
 use Rattle.label_code.specs.Codes.{name_code}
 use Rattle.edge_label.specs.Uses.{IsTagged}
 use Rattle.edge_label.specs.declared.structs.TagNumbers.{TagNumbers}
-use Rattle.edge_label.proofs.StructLemmas.{number_appended, array_appended, loose_appended, struct_appended, struct_numbered, structs_numbered, known_struct, tag_put, first_more, first_all, left_more, tagged_at}
-use Rattle.edge_label.proofs.TableLemmas.{Extends-trans}
+use Rattle.edge_label.proofs.StructLemmas.{first_none, number_appended, array_appended, loose_appended, struct_appended, struct_numbered, structs_numbered, known_struct, tag_put, first_more, first_all, left_more, tagged_at}
+use Rattle.edge_label.proofs.TableLemmas.{Extends-refl, Extends-added, Extends-trans}
 use Rattle.edge_label.proofs.structs.+structs.Goals as goal
 
 pub push_short-returns-in_ok-push-in-Num-2-clause-short : goal.push_short-returns-in_ok-push-in-Num-2-clause-short
@@ -114,3 +114,80 @@ number_struct-returns-clause-structs t c = λ by_tag tagged structs.
     structs_numbered c.push_short_members.new.structs c.number.new.self c.args.tag.now (members_of (map member_tree c.args.members.now)) c.push_name.new.out.items
     c.push_short_members.new.out.items begins (c.in_ok-push_short_members.ensures.short by_tag tagged structs) c.number.ensures.adds by_tag c.push_short_members.new.tags
     (c.in_ok-push_short_members.ensures.structs by_tag tagged structs) c.number.ensures.once
+
+pub push_short-returns-in_err-push-in-Num-clause-grows : goal.push_short-returns-in_err-push-in-Num-clause-grows
+push_short-returns-in_err-push-in-Num-clause-grows t c = Extends-refl c.args.structs.now
+
+pub push_short-returns-in_err-push-in-Num-2-clause-grows : goal.push_short-returns-in_err-push-in-Num-2-clause-grows
+push_short-returns-in_err-push-in-Num-2-clause-grows t c = Extends-refl c.args.structs.now
+
+pub push_short-returns-in_err-push-in-Array-clause-grows : goal.push_short-returns-in_err-push-in-Array-clause-grows
+push_short-returns-in_err-push-in-Array-clause-grows t c = Extends-refl c.args.structs.now
+
+pub push_short-returns-in_err-push-in-Array-2-clause-grows : goal.push_short-returns-in_err-push-in-Array-2-clause-grows
+push_short-returns-in_err-push-in-Array-2-clause-grows t c = Extends-refl c.args.structs.now
+
+pub push_short-returns-in_err-push-in-Loose-clause-grows : goal.push_short-returns-in_err-push-in-Loose-clause-grows
+push_short-returns-in_err-push-in-Loose-clause-grows t c = Extends-refl c.args.structs.now
+
+pub push_short-returns-in_ok-push-in-Num-2-clause-grows : goal.push_short-returns-in_ok-push-in-Num-2-clause-grows
+push_short-returns-in_ok-push-in-Num-2-clause-grows t c = Extends-refl c.args.structs.now
+
+pub find_struct-returns-in-Some-clause-grows : goal.find_struct-returns-in-Some-clause-grows
+find_struct-returns-in-Some-clause-grows t c = Extends-refl c.args.structs.now
+
+pub number_struct-returns-in_err-push-clause-grows : goal.number_struct-returns-in_err-push-clause-grows
+number_struct-returns-in_err-push-clause-grows t c = Extends-refl c.args.structs.now
+
+pub number_struct-returns-in_err-push_name-clause-grows : goal.number_struct-returns-in_err-push_name-clause-grows
+number_struct-returns-in_err-push_name-clause-grows t c = Extends-refl c.args.structs.now
+
+pub push_short_members-returns-in_err-push-clause-grows : goal.push_short_members-returns-in_err-push-clause-grows
+push_short_members-returns-in_err-push-clause-grows t c = c.loop-member.invariant.grows
+
+pub push_short_members-returns-in_err-push_name-clause-grows : goal.push_short_members-returns-in_err-push_name-clause-grows
+push_short_members-returns-in_err-push_name-clause-grows t c = c.loop-member.invariant.grows
+
+pub push_short_members-returns-in_err-push-2-clause-grows : goal.push_short_members-returns-in_err-push-2-clause-grows
+push_short_members-returns-in_err-push-2-clause-grows t c = c.loop-member.invariant.grows
+
+pub push_short_members-returns-clause-grows : goal.push_short_members-returns-clause-grows
+push_short_members-returns-clause-grows t c = c.loop-member.invariant.grows
+
+pub push_short_members-returns-in_err-push_short-clause-grows : goal.push_short_members-returns-in_err-push_short-clause-grows
+push_short_members-returns-in_err-push_short-clause-grows t c =
+    Extends-trans c.args.structs.now c.loop-member.structs c.push_short.new.structs c.loop-member.invariant.grows c.in_err-push_short.ensures.grows
+
+pub number_struct-returns-clause-grows : goal.number_struct-returns-clause-grows
+number_struct-returns-clause-grows t c =
+    let new = c.push_short_members.new.structs in
+    Extends-trans c.args.structs.now new c.number.new.self c.in_ok-push_short_members.ensures.grows (Extends-added new c.number.new.self c.push_short_members.new.out.items c.number.ensures.adds)
+
+pub push_short-push_short-requires : goal.push_short-push_short-requires
+push_short-push_short-requires t c =
+    let e = type_tree c.ctype.result.now in
+    let is : type_tree c.args.ctype.now ≡ array_type e c.in-Array.length = ap type_tree c.in-Array.is ∙ ap (λ x. array_type x c.in-Array.length) (sym c.ctype.ensures) in
+    let size = ap type_size is in
+    (omega arith, tt)
+
+pub push_short-push_short-requires-in-Loose : goal.push_short-push_short-requires-in-Loose
+push_short-push_short-requires-in-Loose t c =
+    let is : type_tree c.args.ctype.now ≡ loose_type (type_tree c.ctype-in-Loose.result.now) = ap type_tree c.in-Loose.is ∙ ap loose_type (sym c.ctype-in-Loose.ensures) in
+    let size = ap type_size is in
+    (omega arith, tt)
+
+pub push_short-find_struct-requires : goal.push_short-find_struct-requires
+push_short-find_struct-requires t c =
+    let members = members_of (map member_tree c.items.result.now) in
+    let is : type_tree c.args.ctype.now ≡ struct_type c.bytes.result.now members =
+    ap type_tree c.in-Struct.is ∙ ap₂ (λ a ms. struct_type a (members_of ms)) (sym c.bytes.ensures) (sym c.items.ensures.items) in
+    let size = ap type_size is in
+    (omega arith, tt)
+
+pub push_short_members-loop-member-init : goal.push_short_members-loop-member-init
+push_short_members-loop-member-init t c = record {
+  short = λ by_tag tagged structs. first_none c.args.structs.now (members_of (map member_tree c.args.members.now)) c.args.out.now.items;
+  structs = λ by_tag tagged structs. structs;
+  grows = Extends-refl c.args.structs.now;
+  trusted = refl;
+}

@@ -3,6 +3,7 @@ use Rattle.std.proofs.lemmas.Option.{slice_get-get_or}
 use Rattle.edge_label.specs.Known.{named_code, AreKnown}
 use Rattle.edge_label.specs.Uses.{use_tree}
 use Rattle.edge_label.proofs.KnownLemmas.{number_of_use, use_number, found_number, still_known, now_known, known_stays}
+use Rattle.edge_label.proofs.TableLemmas.{Extend-refl}
 use Rattle.edge_label.proofs.types.find_number.Goals as goal
 
 pub returns-then-place-len-clause-found : goal.returns-then-place-len-clause-found
@@ -36,3 +37,18 @@ returns-clause-found c = λ d declared structs known.
 
 pub returns-clause-structs : goal.returns-clause-structs
 returns-clause-structs c = λ d declared structs. c.in_ok-number.ensures.structs d.by_tag (λ _. declared.1) structs
+
+pub returns-in_err-push_named-clause-grows : goal.returns-in_err-push_named-clause-grows
+returns-in_err-push_named-clause-grows c = Extend-refl c.args.tables.now
+
+pub returns-in_err-place-clause-grows : goal.returns-in_err-place-clause-grows
+returns-in_err-place-clause-grows c = Extend-refl c.args.tables.now
+
+pub returns-then-place-len-clause-grows : goal.returns-then-place-len-clause-grows
+returns-then-place-len-clause-grows c = Extend-refl c.args.tables.now
+
+pub returns-in_err-number-clause-structs : goal.returns-in_err-number-clause-structs
+returns-in_err-number-clause-structs c = λ d declared structs. c.in_err-number.ensures.structs d.by_tag (λ _. declared.1) structs
+
+pub returns-in_err-push-clause-structs : goal.returns-in_err-push-clause-structs
+returns-in_err-push-clause-structs c = λ d declared structs. c.in_ok-number.ensures.structs d.by_tag (λ _. declared.1) structs

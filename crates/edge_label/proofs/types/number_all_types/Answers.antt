@@ -1,58 +1,27 @@
-use Rattle.std.proofs.Common.{◌++◌, ◌∷◌, [], ◌∙◌, ap, ap₂, sym, subst, map}
-use Rattle.std.proofs.lemmas.List.{map-append, map_more}
-use Rattle.csub_semantics.specs.Labels.{label_tree}
-use Rattle.edge_label.specs.declared.types.Typed.{Typed}
-use Rattle.edge_label.specs.declared.standing.Standing.{Standing}
-use Rattle.edge_label.specs.Known.{AreTyped}
-use Rattle.edge_label.specs.Uses.{IsDeclared, standing_tree}
-use Rattle.edge_label.proofs.KnownLemmas.{typed_stays, one_more_typed, mapped_at}
-use Rattle.edge_label.proofs.TableLemmas.{Extend-trans}
+use Rattle.std.proofs.Common.{true, subst₂, sym}
+use Rattle.std.proofs.lemmas.Result.{IfOk-weaker}
+use Rattle.edge_label.specs.declared.structs.TagNumbers.{TagNumbers}
+use Rattle.edge_label.specs.Known.{AreStructs, AreKnown}
+use Rattle.edge_label.specs.Tables.{AreTables}
+use Rattle.edge_label.proofs.KnownLemmas.{none_known, no_tags}
 use Rattle.edge_label.proofs.types.number_all_types.Goals as goal
+use Rattle.edge_label.proofs.types.number_all_types.Goals.{After-drop-known-6}
 
-pub loop-standing-preserved : goal.loop-standing-preserved
-loop-standing-preserved c =
-    let tables = c.type_label.new.tables in
-    let last = c.in_ok-type_label.field-0 in
-    record {
-      typed = λ d declared sound.
-          let before = c.loop-standing.invariant.typed d declared sound in
-          let at = mapped_at (IsDeclared d) standing_tree c.args.labels.now c.loop-standing.standing-index c.standing-item.result c.loop-standing-test.true c.standing-item.is declared in
-          let found = c.in_ok-type_label.ensures.found d at (c.loop-standing.invariant.structs d declared sound) before.1 in (
-            subst (AreTyped tables) (sym c.in_ok-push.ensures.items)
-                (one_more_typed tables c.loop-standing.rows.items last (typed_stays c.loop-standing.tables tables c.loop-standing.rows.items c.in_ok-type_label.ensures.grows before.0) found.0),
-            found.1,
-          );
-      structs = λ d declared sound.
-          let at = mapped_at (IsDeclared d) standing_tree c.args.labels.now c.loop-standing.standing-index c.standing-item.result c.loop-standing-test.true c.standing-item.is declared in
-          c.in_ok-type_label.ensures.structs d at (c.loop-standing.invariant.structs d declared sound);
-      labels =
-          ap (map (λ (t : Typed). label_tree t.label.now)) c.in_ok-push.ensures.items
-          ∙ map-append (λ (t : Typed). label_tree t.label.now) c.loop-standing.rows.items (last ∷ [])
-          ∙ ap₂ (λ trees tree. trees ++ tree ∷ []) c.loop-standing.invariant.labels (c.in_ok-type_label.ensures.label ∙ ap (λ (s : Standing). label_tree s.label.now) c.standing-item.is)
-          ∙ sym (map_more (λ (s : Standing). label_tree s.label.now) c.args.labels.now c.loop-standing.standing-index c.standing-item.result c.loop-standing-test.true);
-      grows = Extend-trans c.args.tables.now c.loop-standing.tables tables c.loop-standing.invariant.grows c.in_ok-type_label.ensures.grows;
-      once = λ once. c.in_ok-type_label.ensures.once (c.loop-standing.invariant.once once);
-    }
+-- no tag is known at first
+abbrev tags : After-drop-known-6 → TagNumbers
+tags c = record { trusted = true; by_tag = c.new-3.result }
 
-pub returns-in_err-type_label-clause-sound : goal.returns-in_err-type_label-clause-sound
-returns-in_err-type_label-clause-sound c = λ sound.
+structs : (c : After-drop-known-6) → AreTables c.args.tables.now → AreStructs c.requires.declared.0.by_tag c.args.tables.now.structs (tags c)
+structs c sound = no_tags c.args.tables.now.structs c.requires.declared.0.by_tag (tags c) c.new-3.ensures.empty sound.structs
+
+pub returns-clause-typed : goal.returns-clause-typed
+returns-clause-typed c =
     let d = c.requires.declared.0 in
-    let declared = c.requires.declared.1 in
-    let at = mapped_at (IsDeclared d) standing_tree c.args.labels.now c.loop-standing.standing-index c.standing-item.result c.loop-standing-test.true c.standing-item.is declared in
-    let structs = c.in_err-type_label.ensures.structs d at (c.loop-standing.invariant.structs d declared sound) in
-    record { structs = structs.table; parts = c.in_err-type_label.ensures.once (c.loop-standing.invariant.once sound.parts) }
+    let known : AreKnown c.args.tables.now d c.new.result c.new-2.result.items =
+    subst₂ (λ names numbers. AreKnown c.args.tables.now d names numbers) (sym c.new.ensures) (sym c.new-2.ensures.items) (none_known c.args.tables.now d) in
+    IfOk-weaker c.type_labels.result _ _ (λ rows typed sound. typed d c.requires.declared.1 (structs c sound) known) c.type_labels.ensures.typed
 
-pub returns-in_err-type_label-clause-grows : goal.returns-in_err-type_label-clause-grows
-returns-in_err-type_label-clause-grows c =
-    Extend-trans c.args.tables.now c.loop-standing.tables c.type_label.new.tables c.loop-standing.invariant.grows c.in_err-type_label.ensures.grows
-
-pub returns-in_err-push-clause-sound : goal.returns-in_err-push-clause-sound
-returns-in_err-push-clause-sound c = λ sound.
-    let d = c.requires.declared.0 in
-    let declared = c.requires.declared.1 in
-    let at = mapped_at (IsDeclared d) standing_tree c.args.labels.now c.loop-standing.standing-index c.standing-item.result c.loop-standing-test.true c.standing-item.is declared in
-    let structs = c.in_ok-type_label.ensures.structs d at (c.loop-standing.invariant.structs d declared sound) in
-    record { structs = structs.table; parts = c.in_ok-type_label.ensures.once (c.loop-standing.invariant.once sound.parts) }
-
-pub returns-in_err-push-clause-grows : goal.returns-in_err-push-clause-grows
-returns-in_err-push-clause-grows c = Extend-trans c.args.tables.now c.loop-standing.tables c.type_label.new.tables c.loop-standing.invariant.grows c.in_ok-type_label.ensures.grows
+pub returns-clause-sound : goal.returns-clause-sound
+returns-clause-sound c = λ sound.
+    let after = c.type_labels.ensures.structs c.requires.declared.0 c.requires.declared.1 (structs c sound) in
+    record { structs = after.table; parts = c.type_labels.ensures.once sound.parts }

@@ -1,5 +1,6 @@
-use Rattle.std.proofs.Common.{map, take}
-use Rattle.edge_label.specs.Tables.{use_type}
+use Rattle.std.proofs.Common.{map, subst, take}
+use Rattle.std.proofs.lemmas.List.{take_all}
+use Rattle.edge_label.specs.Tables.{AreTypeNumbers, use_type}
 use Rattle.edge_label.specs.Uses.{use_tree}
 use Rattle.edge_label.proofs.KnownLemmas.{one_more_use}
 use Rattle.edge_label.proofs.TableLemmas.{Extend-trans, AreTypeNumbers-extends}
@@ -17,3 +18,27 @@ loop-used-preserved c =
       sound = λ sound. c.in_ok-number_use.ensures.sound (c.loop-used.invariant.sound sound);
       grows = Extend-trans c.args.tables.now c.loop-used.tables tables c.loop-used.invariant.grows c.in_ok-number_use.ensures.grows;
     }
+
+pub returns-in_err-number_use-clause-sound : goal.returns-in_err-number_use-clause-sound
+returns-in_err-number_use-clause-sound c = λ sound. c.in_err-number_use.ensures.sound (c.loop-used.invariant.sound sound)
+
+pub returns-in_err-number_use-clause-grows : goal.returns-in_err-number_use-clause-grows
+returns-in_err-number_use-clause-grows c =
+    Extend-trans c.args.tables.now c.loop-used.tables c.number_use.new.tables c.loop-used.invariant.grows c.in_err-number_use.ensures.grows
+
+pub returns-in_err-push-clause-sound : goal.returns-in_err-push-clause-sound
+returns-in_err-push-clause-sound c = λ sound. c.in_ok-number_use.ensures.sound (c.loop-used.invariant.sound sound)
+
+pub returns-in_err-push-clause-grows : goal.returns-in_err-push-clause-grows
+returns-in_err-push-clause-grows c = Extend-trans c.args.tables.now c.loop-used.tables c.number_use.new.tables c.loop-used.invariant.grows c.in_ok-number_use.ensures.grows
+
+pub returns-clause-numbers : goal.returns-clause-numbers
+returns-clause-numbers c = λ sound.
+    subst (λ uses. AreTypeNumbers c.loop-used.tables c.loop-used.numbers.items (map use_type (map use_tree uses))) (take_all c.loop-used.used-index c.args.uses.now c.loop-used-test.false)
+    (c.loop-used.invariant.numbers sound)
+
+pub returns-clause-sound : goal.returns-clause-sound
+returns-clause-sound c = c.loop-used.invariant.sound
+
+pub returns-clause-grows : goal.returns-clause-grows
+returns-clause-grows c = c.loop-used.invariant.grows

@@ -106,3 +106,17 @@ returns-clause-grows c =
 
 pub returns-clause-err : goal.returns-clause-err
 returns-clause-err c = on_err_weaker c.intern_code.result (λ same. same_book c same) c.intern_code.ensures.err
+
+pub returns-in_err-types-clause-grows : goal.returns-in_err-types-clause-grows
+returns-in_err-types-clause-grows c =
+    let same : labels c.number_types.new.tables c.self.inside.codes.keys ≡ c.args.self.now =
+    same_labels c.self.inside.tables c.number_types.new.tables c.self.inside.codes.keys c.in_err-types.ensures.grows c.in_err-types.ensures.sound c.self.invariant ∙ c.self.view_is in
+    omega (arith, ap length same)
+
+pub returns-in_err-numbers-clause-grows : goal.returns-in_err-numbers-clause-grows
+returns-in_err-numbers-clause-grows c =
+    let same : labels c.number_globals.new.tables c.self.inside.codes.keys ≡ c.args.self.now =
+    same_labels c.self.inside.tables c.number_globals.new.tables c.self.inside.codes.keys
+    (Extend-trans c.self.inside.tables c.number_types.new.tables c.number_globals.new.tables c.in_ok-types.ensures.grows c.in_err-numbers.ensures.grows)
+    (λ sound. c.in_err-numbers.ensures.sound (c.in_ok-types.ensures.sound sound)) c.self.invariant ∙ c.self.view_is in
+    omega (arith, ap length same)
