@@ -4,7 +4,7 @@
 ghost use Rattle.std.specs.Prelude.{◌≡◌, ◌++◌, ◌∷◌, OnOk, map, option_map};
 ghost use Rattle.csub_semantics.specs.Types.{global_tree};
 ghost use Rattle.csub_semantics.specs.Trees.{constant, reading, stepping, variable, object, temporary, owner_tree, place_tree, expr_tree, formatted, exprs_of, arg_tree};
-ghost use Rattle.csub_semantics.specs.Labels.{answer_tree, call_tree, init_tree, inits_of, label_tree};
+ghost use Rattle.csub_semantics.specs.Labels.{answer_tree, call_tree, init_tree, initialises, inits_of, label_tree};
 ghost use Rattle.label_code.specs.Bare.{bare_answer, bare_arg, bare_call, bare_expr, bare_exprs, bare_init, bare_inits, bare_label, bare_place, no_type};
 ghost use Rattle.label_code.specs.Codes.{integer_code, name_code, list_code, option_code, number_code, kind_code, kind_number, unary_number, step_number, operator_number, piece_number, piece_code, rule_number, type_code, owner_code, place_code, expr_code, exprs_code, arg_code, answer_code, call_code, init_code, inits_code, label_code, global_code, numbered, with_type};
 
@@ -19,32 +19,36 @@ pub fn push_label(out: &mut Vec<u64>, label: &Label) -> Result<(), AllocError>
     ensures { OnOk result (out.new.items ≡ out.old.items ++ label_code (bare_label (label_tree label.now))) }
 {
     match label {
-        Label::Entry => out.push(0)?,
+        Label::Entry => Ok(out.push(0)?),
         Label::Exit(rule) => {
             out.push(1)?;
-            out.push(rule_number(*rule))?;
+            Ok(out.push(rule_number(*rule))?)
         }
-        Label::Eval(expr) => push_behind(out, 2, expr)?,
-        Label::Branch(expr) => push_behind(out, 3, expr)?,
+        Label::Eval(expr) => push_behind(out, 2, expr),
+        Label::Branch(expr) => push_behind(out, 3, expr),
         Label::Return(answer) => {
             out.push(4)?;
-            push_answer(out, answer)?;
+            push_answer(out, answer)
         }
         Label::Call(call) => {
             out.push(5)?;
-            push_call(out, call)?;
+            push_call(out, call)
         }
-        Label::Init(owner, _, init) => {
-            out.push(6)?;
-            push_owner(out, owner)?;
-            push_no_type(out)?;
-            push_init(out, init)?;
-        }
-        Label::Switch(expr) => push_behind(out, 7, expr)?,
-        Label::Goto => out.push(8)?,
-        Label::Halt(expr) => push_behind(out, 9, expr)?,
+        Label::Init(owner, _, init) => push_initialisation(out, owner, init),
+        Label::Switch(expr) => push_behind(out, 7, expr),
+        Label::Goto => Ok(out.push(8)?),
+        Label::Halt(expr) => push_behind(out, 9, expr),
     }
-    Ok(())
+}
+
+/// Appends the code of the initialisation of an object, without its type.
+fn push_initialisation(out: &mut Vec<u64>, owner: &Owner, init: &RInit) -> Result<(), AllocError>
+    ensures { OnOk result (out.new.items ≡ out.old.items ++ label_code (initialises (owner_tree owner.now) no_type (bare_init (init_tree init.now)))) }
+{
+    out.push(6)?;
+    push_owner(out, owner)?;
+    push_no_type(out)?;
+    push_init(out, init)
 }
 
 /// Appends the code of a global, with a number in the place of its type.
