@@ -1,13 +1,13 @@
 -- Facts with the set of their pairs and an index of their places.
-use Rattle.std.proofs.Common.{◌≡◌, ℕ, ◌+◌, ◌<◌, ◌≤◌, ◌&&◌, List, [], ◌∷◌, ◌++◌, length, get_or, set, replicate, Some, nat_eq, IsTrue, refl, sym, ap, ◌∙◌, subst₂, ◌⊎◌, ◌↔◌, inl, inr, arith, zero, suc, length-append, get_or-set_same, get_or-set_other}
+use Rattle.std.proofs.Common.{◌≡◌, ℕ, ◌+◌, ◌-◌, ◌<◌, ◌≤◌, ◌&&◌, List, [], ◌∷◌, ◌++◌, length, get_or, set, replicate, Some, nat_eq, IsTrue, refl, sym, ap, ◌∙◌, subst₂, ◌⊎◌, ◌↔◌, inl, inr, arith, zero, suc, length-append, get_or-set_same, get_or-set_other}
 use Rattle.std.specs.Prelude.{slice_get}
-use Rattle.std.proofs.lemmas.Bool.{cases_eq, and_from, and_parts, or_left, or_right, or_cases, eqb-true, eq-eqb, false≢true}
-use Rattle.std.proofs.lemmas.Option.{slice_get_within}
+use Rattle.std.proofs.lemmas.Bool.{cases_eq, cases_lt, and_from, and_parts, or_left, or_right, or_cases, eqb-true, eq-eqb, false≢true}
+use Rattle.std.proofs.lemmas.Option.{slice_get_within, get_or_from_slice_get, same_Some}
 use Rattle.dual_walk.specs.declared.fact.Fact.{Fact}
 use Rattle.dual_walk.specs.declared.pair_set.PairSet.{PairSet}
 use Rattle.dual_walk.specs.Bits.{IsIn}
 use Rattle.dual_walk.specs.Held.{HasPair, has_pair}
-use Rattle.dual_walk.proofs.LawsLists.{get_left, get_push, get_last}
+use Rattle.dual_walk.proofs.LawsLists.{get_left, get_push, get_last, read_at}
 
 -- the test says whether the pair stands among the facts
 pub pair_tested : (facts : List Fact) (n n' : ℕ) → HasPair facts n n' → IsTrue (has_pair facts n n')
@@ -100,3 +100,21 @@ pair_row facts ends n n' before h = within ends n (let b = before h.place h.fact
 
 pub pair_column : (facts : List Fact) (held : PairSet) → Marks facts held → (n n' : ℕ) → HasPair facts n n' → n' < held.width
 pair_column facts held m n n' h = ((m n n').1 (pair_tested facts n n' h)).row
+
+-- an end that was read is that of its point
+pub end_read : (ends : List ℕ) (old at : ℕ) → old < length ends → at ≡ get_or ends old at → get_or ends old 0 ≡ at
+end_read ends old at within read = get_or_from_slice_get ends old at 0 (read_at ends old at within read)
+
+-- where no fact of a pair stands from a place on, and none right before it, none does from there
+pub none_before : (facts : List Fact) (at : ℕ) (here : Fact) (old new : ℕ) → 0 < at → at ≤ length facts → here ≡ get_or facts (at - 1) here → ((here.old ≡ old) × (here.new ≡ new) → ⊥)
+    → ((k : ℕ) (c : Fact) → at ≤ k → slice_get facts k ≡ Some c → c.old ≡ old → c.new ≡ new → ⊥)
+    → (k : ℕ) (c : Fact) → at - 1 ≤ k → slice_get facts k ≡ Some c → c.old ≡ old → c.new ≡ new → ⊥
+none_before facts at here old new some upto read other behind k c from stands is_old is_new = pick (cases_lt k at)
+  where
+    pick : (k < at) ⊎ (at ≤ k) → ⊥
+    pick (inr later) = behind k c later stands is_old is_new
+    pick (inl below) =
+        let same : at - 1 ≡ k = omega (arith, from, below, some) in
+        let within : at - 1 < length facts = omega (arith, some, upto) in
+        let is : here ≡ c = same_Some here c (sym (read_at facts (at - 1) here within read) ∙ ap (slice_get facts) same ∙ stands) in
+        other (ap (λ (b : Fact). b.old) is ∙ is_old, ap (λ (b : Fact). b.new) is ∙ is_new)

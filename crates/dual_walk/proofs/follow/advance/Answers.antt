@@ -1,7 +1,7 @@
 use Rattle.std.proofs.lemmas.Result.{on_ok_weaker}
 use Rattle.csub_semantics.specs.Points.{exit_tree}
 use Rattle.dual_walk.proofs.LawsLists.{contained}
-use Rattle.dual_walk.proofs.LawsFacts.{at_named}
+use Rattle.dual_walk.proofs.LawsFacts.{at_named, extends_none}
 use Rattle.dual_walk.proofs.Explaining.{moment_more, together_held, extends_added}
 use Rattle.dual_walk.proofs.follow.advance.Goals as goal
 
@@ -21,3 +21,6 @@ returns-clause-grows g c = extends_added c.args.pairs.now.facts.items c.add.new.
 
 pub returns-clause-held : goal.returns-clause-held
 returns-clause-held g c = on_ok_weaker c.add.result (λ h P P' ok ok' f p p' q q' at both. together_held P P' c.add.new.pairs.facts.items f p p' q q' (exit_tree c.args.exit.now) c.in-Some.next (c.in-Some.ensures.together P P' f p p' ok ok' at) h both) c.add.ensures.held
+
+pub returns-in_default-clause-grows : goal.returns-in_default-clause-grows
+returns-in_default-clause-grows g c = extends_none

@@ -8,6 +8,8 @@ use Rattle.dual_walk.specs.Moments.{HoldsNext}
 use Rattle.dual_walk.proofs.LawsNumbers.{leaves_own}
 use Rattle.dual_walk.proofs.Explaining.{on_ok_2}
 use Rattle.dual_walk.proofs.Following.{waited, no_way, passed_by}
+use Rattle.dual_walk.proofs.LawsFacts.{extends_none}
+use Rattle.std.proofs.lemmas.Option.{slice_get_within}
 use Rattle.dual_walk.proofs.follow.follow_call.Goals as goal
 
 -- what the test of a range says
@@ -60,3 +62,9 @@ returns-clause-cost g c =
     let some = some_range c.edges_of.result.start c.edges_of.result.end c.is_empty.result c.is_empty.ensures c.if-is_empty.false in
     let count = c.edges_of.ensures.count in
     omega (arith, cost, some, count)
+
+pub returns-then-is_empty-clause-grows : goal.returns-then-is_empty-clause-grows
+returns-then-is_empty-clause-grows g c = extends_none
+
+pub pass_or_wait-requires-clause-at : goal.pass_or_wait-requires-clause-at
+pass_or_wait-requires-clause-at g c = slice_get_within c.args.pairs.now.facts.items c.args.at c.args.from c.requires.stands

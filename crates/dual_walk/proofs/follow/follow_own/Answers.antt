@@ -1,4 +1,4 @@
-use Rattle.std.proofs.Common.{sym, ◌∙◌, subst}
+use Rattle.std.proofs.Common.{sym, ◌∙◌, subst, arith}
 use Rattle.std.proofs.lemmas.Option.{same_Some}
 use Rattle.std.proofs.lemmas.Result.{on_ok_weaker}
 use Rattle.dual_walk.specs.declared.fact.Fact.{Fact}
@@ -23,3 +23,6 @@ returns-in-None-clause-followed g c =
     (λ h P P' ok ok'. stepped P P' c.take_steps.new.pairs.facts.items c.args.waiting.now c.args.at c.args.from
     (λ f p p' at. c.in-None.ensures.callee P P' f p p' ok ok' (moment_same c.args.both.now.old.now c.args.both.now.new.now c.args.pairs.now c.requires.moment P P' ok ok' c.args.at c.args.from c.requires.stands f p p' at) at.old) (h P P' ok ok'))
     c.take_steps.ensures.steps
+
+pub returns-in-None-clause-cost : goal.returns-in-None-clause-cost
+returns-in-None-clause-cost g c = let cost = c.take_steps.ensures.cost in omega (arith, cost)

@@ -4,6 +4,7 @@ use Rattle.dual_walk.proofs.LawsLists.{get_some}
 use Rattle.dual_walk.proofs.RowLemmas.{lists_added, lists_kept}
 use Rattle.dual_walk.proofs.Following.{call_over, call_waits, waiting_extends, waiting_push, passed_by, none_back}
 use Rattle.dual_walk.proofs.Counting.{push_count}
+use Rattle.dual_walk.proofs.LawsFacts.{extends_none}
 use Rattle.dual_walk.proofs.follow.pass_or_wait.Goals as goal
 
 pub pass_over-requires-clause-over : goal.pass_over-requires-clause-over
@@ -51,3 +52,6 @@ returns-in-None-clause-cost g c = let more = push_count c.args.waiting.now c.pus
   where
     within : c.args.callee.exit.old < length c.args.waiting.now
     within = let p = c.requires.waiting.points in let b = c.requires.old_exit in omega (arith, p, b)
+
+pub returns-in-None-clause-grows : goal.returns-in-None-clause-grows
+returns-in-None-clause-grows g c = extends_none

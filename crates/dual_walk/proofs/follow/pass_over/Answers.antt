@@ -9,6 +9,7 @@ use Rattle.dual_walk.specs.Moments.{HoldsNext}
 use Rattle.dual_walk.proofs.LawsNumbers.{leads_none}
 use Rattle.dual_walk.proofs.LawsLists.{read_at}
 use Rattle.dual_walk.proofs.Explaining.{over_explained}
+use Rattle.dual_walk.proofs.LawsFacts.{extends_none}
 use Rattle.dual_walk.proofs.follow.pass_over.Goals as goal
 
 pub follow-requires : goal.follow-requires
@@ -31,3 +32,6 @@ pub returns-clause-held : goal.returns-clause-held
 returns-clause-held g c =
     let stands = read_at c.args.pairs.now.facts.items c.args.at c.index-from.result.now c.requires.at c.index-from.ensures in
     on_ok_weaker c.advance.result (λ h P P' d ok ok' e. subst (λ (b : Fact). HoldsNext P P' c.advance.new.pairs.facts.items b next) (same_Some c.index-from.result.now d (sym stands ∙ e)) (h P P' ok ok')) c.advance.ensures.held
+
+pub returns-in_default-clause-grows : goal.returns-in_default-clause-grows
+returns-in_default-clause-grows g c = extends_none

@@ -12,7 +12,7 @@ use Rattle.dual_walk.specs.Rows.{Lists}
 use Rattle.dual_walk.specs.Moments.{WaitsFor, PassesOver, HoldsNext}
 use Rattle.dual_walk.specs.Held.{Extends}
 use Rattle.dual_walk.proofs.LawsLists.{in_row}
-use Rattle.dual_walk.proofs.LawsFacts.{get_extends, get_back, extends_more, extends_long, at_named}
+use Rattle.dual_walk.proofs.LawsFacts.{get_extends, get_back, extends_more, extends_long, at_named, extends_none}
 use Rattle.dual_walk.proofs.RowLemmas.{cleared_long, cleared_none, cleared_kept, cleared_fewer}
 use Rattle.dual_walk.proofs.Following.{holds_extends, moment_named, waiting_extends, waiting_fewer}
 use Rattle.dual_walk.proofs.Counting.{cleared_count, row_within}
@@ -130,3 +130,25 @@ returns-in_err-pass_over-clause-cost g c =
     let test = c.loop-call-test.true in
     let row = row_within c.args.waiting.now c.args.from.old c.row-call-items.result.now c.row-call-items.ensures in
     omega (arith, cost, one, test, row)
+
+pub loop-call-init : goal.loop-call-init
+loop-call-init g c = record {
+  moment = c.requires.moment;
+  upto = omega arith;
+  cost = omega arith;
+  counted = refl;
+  grows = extends_none;
+  held = λ P P' ok ok' k j d l get stands. absurd (omega (arith, l));
+}
+
+pub returns-then-not-are_exits-clause-grows : goal.returns-then-not-are_exits-clause-grows
+returns-then-not-are_exits-clause-grows g c = extends_none
+
+pub returns-in_err-pass_over-clause-grows : goal.returns-in_err-pass_over-clause-grows
+returns-in_err-pass_over-clause-grows g c = extends_more c.loop-call.invariant.grows c.pass_over.ensures.grows
+
+pub returns-in_err-pass_over-clause-counted : goal.returns-in_err-pass_over-clause-counted
+returns-in_err-pass_over-clause-counted g c =
+    let before = c.loop-call.invariant.counted in
+    let one = c.pass_over.ensures.counted in
+    omega (arith, before, one)

@@ -108,3 +108,22 @@ returns-clause-steps g c P P' ok ok' x f p p' q q' at both =
     let own = c.loop-edge.invariant.all P ok e.0 leaves in
     let none = c.in-None.ensures.steps.1.0 in
     c.loop-edge.invariant.held P P' ok ok' e.0 (omega (arith, own, none)) leaves f p p' q q' at both
+
+pub returns-in_err-advance-clause-grows : goal.returns-in_err-advance-clause-grows
+returns-in_err-advance-clause-grows g c = extends_more c.loop-edge.invariant.grows c.advance.ensures.grows
+
+pub returns-in_err-advance-clause-counted : goal.returns-in_err-advance-clause-counted
+returns-in_err-advance-clause-counted g c =
+    let before = c.loop-edge.invariant.counted in
+    let one = c.advance.ensures.counted in
+    omega (arith, before, one)
+
+pub returns-in_err-advance-clause-cost : goal.returns-in_err-advance-clause-cost
+returns-in_err-advance-clause-cost g c =
+    let before = c.loop-edge.invariant.cost in
+    let one = c.advance.ensures.cost in
+    let more = c.in-Some.ensures.steps.1.0 in
+    omega (arith, before, one, more)
+
+pub returns-clause-cost : goal.returns-clause-cost
+returns-clause-cost g c = let cost = c.loop-edge.invariant.cost in omega (arith, cost)

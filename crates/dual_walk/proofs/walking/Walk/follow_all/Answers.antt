@@ -1,6 +1,6 @@
-use Rattle.std.proofs.Common.{◌<◌, length, arith}
+use Rattle.std.proofs.Common.{◌<◌, length, refl, arith}
 use Rattle.dual_walk.specs.Rest.{facts_of}
-use Rattle.dual_walk.proofs.LawsFacts.{extends_more}
+use Rattle.dual_walk.proofs.LawsFacts.{extends_none, extends_more}
 use Rattle.dual_walk.proofs.Resting.{asked_few, next_asks, asks_few, followed}
 use Rattle.dual_walk.proofs.walking.Walk.follow_all.Goals as goal
 
@@ -25,3 +25,25 @@ loop-self-preserved g c = record {
 
 pub returns-clause-few : goal.returns-clause-few
 returns-clause-few g c = asked_few c.args.both.now.old.now c.args.both.now.new.now c.loop-self.self c.loop-self.invariant.under_way
+
+pub loop-self-init : goal.loop-self-init
+loop-self-init g c = record { under_way = c.requires.under_way; grows = extends_none; counted = refl }
+
+pub follow-requires-clause-at : goal.follow-requires-clause-at
+follow-requires-clause-at g c = let test = c.loop-self-test.true in omega (arith, test)
+
+pub returns-in_err-follow-clause-grows : goal.returns-in_err-follow-clause-grows
+returns-in_err-follow-clause-grows g c = extends_more c.loop-self.invariant.grows c.follow.ensures.grows
+
+pub returns-in_err-follow-clause-counted : goal.returns-in_err-follow-clause-counted
+returns-in_err-follow-clause-counted g c =
+    let before = c.loop-self.invariant.counted in
+    let one = c.follow.ensures.counted in
+    omega (arith, before, one)
+
+pub returns-clause-rests : goal.returns-clause-rests
+returns-clause-rests g c =
+    let under_way = c.loop-self.invariant.under_way in
+    let upto = under_way.upto in
+    let test = c.loop-self-test.false in
+    record { under_way = under_way; all = omega (arith, upto, test) }
