@@ -1,7 +1,8 @@
 -- Marks of places: which are added, and when all that marked facts rest on is marked.
-use Rattle.std.proofs.Common.{◌≡◌, ℕ, ◌+◌, ◌<◌, ◌≤◌, Bool, true, false, IsTrue, List, [], ◌∷◌, ◌++◌, length, get_or, set, replicate, Some, sym, ap, ◌∙◌, subst, ◌⊎◌, ◌↔◌, inl, inr, arith, get_or-set_same, get_or-set_other}
+use Rattle.std.proofs.Common.{◌≡◌, ℕ, ◌+◌, ◌<◌, ◌≤◌, Bool, true, false, IsTrue, List, [], ◌∷◌, ◌++◌, length, get_or, set, replicate, take, Some, sym, ap, ◌∙◌, subst, ◌⊎◌, ◌↔◌, inl, inr, arith, get_or-set_same, get_or-set_other}
 use Rattle.std.specs.Prelude.{slice_get, Contains, All}
 use Rattle.std.proofs.lemmas.Bool.{cases_eq, cases_lt}
+use Rattle.std.proofs.lemmas.List.{take_more}
 use Rattle.std.proofs.lemmas.List.Elements.{Contains-get_or, Contains-append_left, Contains-append_right, Contains-append_cases}
 use Rattle.std.proofs.lemmas.Option.{slice_get_within, slice_get-get_or, same_Some}
 use Rattle.std.proofs.Math.ListN.{length-set}
@@ -45,6 +46,13 @@ adds_then a b d xs ys h k = record { long = k.long ∙ h.long; each = λ i. (λ 
     from : (i : ℕ) → IsTrue (has a i) ⊎ Contains (xs ++ ys) i → IsTrue (has d i)
     from i (inl m) = (k.each i).1 (inl ((h.each i).1 (inl m)))
     from i (inr m) = second i (Contains-append_cases xs ys i m)
+
+-- the first places of a list, and the next one
+pub adds_next : (a b : List Bool) (wanted : List ℕ) (i d : ℕ) → i < length wanted → get_or wanted i d < length b → AddsMarks a b (take i wanted)
+    → AddsMarks a (set b (get_or wanted i d) true) (take (i + 1) wanted)
+adds_next a b wanted i d within below h =
+    let place = get_or wanted i d in
+    subst (AddsMarks a (set b place true)) (sym (take_more wanted i d within)) (adds_then a b (set b place true) (take i wanted) (place ∷ []) h (adds_one b place below))
 
 -- where nothing was marked, just these places are
 pub adds_to_none : (n : ℕ) (marks : List Bool) (places : List ℕ) → AddsMarks (replicate n false) marks places → (i : ℕ) → IsTrue (has marks i) ↔ Contains places i

@@ -1,7 +1,8 @@
 -- Lines that are written word by word.
-use Rattle.std.proofs.Common.{◌≡◌, ℕ, ◌+◌, List, [], ◌∷◌, ◌++◌, drop, Option, Some, refl, sym, ap, ◌∙◌, append_assoc}
+use Rattle.std.proofs.Common.{◌≡◌, ℕ, ◌+◌, ◌<◌, ◌≤◌, List, [], ◌∷◌, ◌++◌, length, get_or, drop, Option, Some, refl, sym, ap, ◌∙◌, append_assoc, append-nil}
 use Rattle.std.specs.Prelude.{codes}
 use Rattle.std.specs.Fmt.{decimal}
+use Rattle.std.proofs.lemmas.List.{at_drop_more, at_drop_all}
 use Rattle.line_text.specs.Lines.{text_of_lines}
 use Rattle.line_text.specs.Words.{line_of_words}
 use Rattle.csub_objects.specs.Types.{Name}
@@ -29,6 +30,15 @@ spaced : (start before after whole line rest : List ℕ) → before ≡ start ++
 spaced start before after whole line rest a b c =
     c ∙ ap (λ text. text ++ rest) (b ∙ ap (λ text. text ++ 32 ∷ []) a) ∙ append_assoc (start ++ line) (32 ∷ []) rest ∙ append_assoc start line (32 ∷ rest)
 
+-- three words, two more behind them, and the end of the line
+pub parts_told : (start a b c d e named first placed second told whole : List ℕ) → named ≡ start ++ line_of_words (a ∷ b ∷ c ∷ []) → first ≡ named ++ 32 ∷ [] → placed ≡ first ++ d
+    → second ≡ placed ++ 32 ∷ [] → told ≡ second ++ e → whole ≡ told ++ 10 ∷ [] → whole ≡ start ++ line_of_words (a ∷ b ∷ c ∷ d ∷ e ∷ []) ++ 10 ∷ []
+parts_told start a b c d e named first placed second told whole s1 s2 s3 s4 s5 s6 =
+    let line = line_of_words (a ∷ b ∷ c ∷ []) in
+    let front : placed ≡ start ++ (line ++ 32 ∷ d) = spaced start named first placed line d s1 s2 s3 in
+    let both : told ≡ start ++ ((line ++ 32 ∷ d) ++ 32 ∷ e) = spaced start placed second told (line ++ 32 ∷ d) e front s4 s5 in
+    s6 ∙ ap (λ text. text ++ 10 ∷ []) (both ∙ ap (λ l. start ++ l) (append_assoc line (32 ∷ d) (32 ∷ e) ∙ sym (words_joined a (b ∷ c ∷ []) d (e ∷ []))))
+
 -- ---- the line of a fact
 
 module _ (P : ProgramTree) where
@@ -52,6 +62,17 @@ module _ (P : ProgramTree) where
 
   abbrev pub MakesFacts : List Fact → ℕ → List ℕ → List ℕ → Type 0
   MakesFacts facts i text whole = text ++ text_of_lines (fact_lines P i (drop i facts)) ≡ whole
+
+  pub facts_next : (facts : List Fact) (i : ℕ) (d : Fact) (before after whole : List ℕ) → i < length facts → after ≡ before ++ fact_line P i (get_or facts i d) ++ 10 ∷ []
+      → MakesFacts facts i before whole → MakesFacts facts (i + 1) after whole
+  facts_next facts i d before after whole within more h =
+      let line = fact_line P i (get_or facts i d) in
+      let rest = text_of_lines (fact_lines P (i + 1) (drop (i + 1) facts)) in
+      ap (λ text. text ++ rest) more ∙ append_assoc (before ++ line) (10 ∷ []) rest ∙ append_assoc before line (10 ∷ rest)
+      ∙ ap (λ lines. before ++ text_of_lines lines) (sym (at_drop_more (fact_lines P i) facts i d within)) ∙ h
+
+  pub facts_all : (facts : List Fact) (i : ℕ) (text whole : List ℕ) → length facts ≤ i → MakesFacts facts i text whole → text ≡ whole
+  facts_all facts i text whole all h = sym (append-nil text) ∙ ap (λ lines. text ++ text_of_lines lines) (sym (at_drop_all (fact_lines P i) facts i all)) ∙ h
 
 -- ---- the line of the danger
 

@@ -1,7 +1,9 @@
-use Rattle.std.proofs.Common.{length, sym, ap, subst, arith}
+use Rattle.std.proofs.Common.{◌<◌, List, length, sym, ap, subst, arith}
+use Rattle.std.specs.Prelude.{All, IfSome}
 use Rattle.std.proofs.lemmas.Option.{slice_get_within}
 use Rattle.csub_semantics.specs.Points.{exit_tree}
-use Rattle.explain_report.specs.Dangers.{AreNamed}
+use Rattle.dual_walk.specs.declared.fact.Fact.{Fact}
+use Rattle.explain_report.specs.Dangers.{AreNamed, AreWithin}
 use Rattle.explain_report.proofs.FollowLemmas.{edge_there}
 use Rattle.explain_report.proofs.ShownLemmas.{walk_reasoned, reasoned_named, parting_there, shown_there, points_seen}
 use Rattle.explain_report.proofs.shown.find_shown.Goals as goal
@@ -36,3 +38,16 @@ returns-clause-shown c P P' edge ok ok' walk numbered =
     c.edge_at-from.result.from c.edge_at-from.result.to (exit_tree c.edge_at-from.result.exit.now) (ends.from P edge ok numbered) (ends.exit P edge ok numbered) (ends.to P edge ok numbered)
     c.as_slice-facts.result.now c.as_slice-facts.ensures.value c.deref.result.now c.in_ok-partners.partners.items c.deref.ensures.value c.in_ok-partners.ensures.partners
     c.in-Some.place c.find_back-back.result c.in-Some.ensures.found (c.find_back-back.ensures.back P P' edge.function edge.from ok ok' named (ends.from P edge ok numbered))
+
+pub list_partners-requires : goal.list_partners-requires
+list_partners-requires c =
+    let facts = c.as_slice-facts.result.now in
+    subst (λ n. All (λ (d : Fact). d.new < n) facts) (sym c.points.ensures.value)
+    (points_seen c.args.old.now c.args.new.now c.args.walked.now.facts.items facts c.requires.within c.as_slice-facts.ensures.value)
+
+pub find_back-back-requires-clause-within : goal.find_back-back-requires-clause-within
+find_back-back-requires-clause-within c = subst (AreWithin c.args.old.now c.args.new.now) (sym c.as_slice-facts.ensures.value) c.requires.within
+
+pub returns-clause-back : goal.returns-clause-back
+returns-clause-back c =
+    subst (λ (facts : List Fact). IfSome c.find_back-back.result (λ place. place < length facts)) c.as_slice-facts.ensures.value c.find_back-back.ensures.place
