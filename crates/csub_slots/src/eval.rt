@@ -3,10 +3,10 @@
 //! [`evaluate`] chooses by the form of an expression, and what has locals in memory is a function of its own: a function
 //! clears all of its locals whenever it is called, whichever of its cases it comes to. Operators and kinds go to these by
 //! reference, since a copy of a small enum would be such a local.
-ghost use Rattle.std.specs.Prelude.{◌≡◌, ◌≤◌, [], length, map, All, slice_set, Ok};
+ghost use Rattle.std.specs.Prelude.{◌≡◌, ◌≤◌, [], length, map, All, IfSome, slice_set, Ok};
 ghost use Rattle.csub_types.specs.Kinds.{promote, convert};
 ghost use Rattle.csub_types.specs.Arithmetic.{unary, binary, right_operand};
-ghost use Rattle.csub_semantics.specs.Trees.{variable, constant, reading, unary_operation, stepping, operation, assignment, output_byte, formatted, exprs_of};
+ghost use Rattle.csub_semantics.specs.Trees.{variable, element_place, constant, reading, unary_operation, stepping, operation, assignment, output_byte, formatted, exprs_of};
 ghost use Rattle.csub_semantics.specs.Memory.{value, then_do, get_byte};
 ghost use Rattle.csub_semantics.specs.Evaluation as the;
 ghost use Rattle.csub_semantics.specs.Evaluation.{is_nonzero, locate, eval, eval_all, fetch, computed, indexed};
@@ -198,6 +198,17 @@ pub fn eval(store: &mut Store, base: u32, expr: &FlatExpr) -> Result<i64, Trap>
     narrow(given)
 }
 
+/// The variable that a place is, if it is one.
+#[inline(always)]
+fn variable_in(place: &FlatPlace) -> Option<&FlatVariable>
+    ensures { IfSome result (λ named. place_seen place.now ≡ variable (variable_seen named.now)) }
+{
+    match place {
+        FlatPlace::Variable(named) => Some(named),
+        _ => None,
+    }
+}
+
 /// Where a place is, or the number of its trap.
 #[cycle(expressions)]
 #[inline(never)]
@@ -219,7 +230,7 @@ fn find(store: &mut Store, base: u32, place: &FlatPlace) -> Numbered<Spot>
     }
 }
 
-/// Where a place is, as [`find`] says; a variable needs no call.
+/// Where a place is, as [`find`] says; a variable and an element of one need no call.
 #[cycle(expressions)]
 #[inline(always)]
 fn find_near(store: &mut Store, base: u32, place: &FlatPlace) -> Numbered<Spot>
@@ -229,8 +240,30 @@ fn find_near(store: &mut Store, base: u32, place: &FlatPlace) -> Numbered<Spot>
 {
     match place {
         FlatPlace::Variable(named) => stand(store.slots.as_slice(), base, *named),
-        _ => find(store, base, place),
+        FlatPlace::Element(part, array, index) => match variable_in(array) {
+            Some(named) => find_in(store, base, *part, *named, index),
+            None => find(store, base, place),
+        },
+        FlatPlace::Member(_, _) => find(store, base, place),
     }
+}
+
+/// Where an element of an array that is a variable is, by its index.
+#[cycle(expressions)]
+#[inline(always)]
+fn find_in(
+    store: &mut Store,
+    base: u32,
+    part: FlatPart,
+    named: FlatVariable,
+    index: &FlatExpr,
+) -> Numbered<Spot>
+    requires { FewValues (expr_seen index.now) }
+    ensures value { Gives spot_seen (locate (flat base) (element_place (part_seen part) (variable (variable_seen named)) (expr_seen index.now)) (state_of store.old)) (narrowed result) (state_of store.new) }
+    ensures kept { Keeps store.old store.new }
+{
+    let array = stand(store.slots.as_slice(), base, named)?;
+    find_element(store, base, part, array, index)
 }
 
 /// Where an element of the array at a spot is, by its index.
@@ -251,10 +284,37 @@ fn find_element(
     element(part, spot, value)
 }
 
-/// What an expression gives, or the number of its trap.
+/// What an expression gives, or the number of its trap. What programs have most is asked for first, without the locals of
+/// all that [`evaluate_any`] does.
 #[cycle(expressions)]
 #[inline(never)]
 fn evaluate(store: &mut Store, base: u32, expr: &FlatExpr) -> Numbered<i64>
+    requires { FewValues (expr_seen expr.now) }
+    ensures value { Gives same (eval (flat base) (expr_seen expr.now) (state_of store.old)) (narrowed result) (state_of store.new) }
+    ensures kept { Keeps store.old store.new }
+{
+    match expr {
+        FlatExpr::Read(place) => eval_read(store, base, place),
+        FlatExpr::Local(local) => read_local(store, base, *local),
+        FlatExpr::StepLocal(op, local) => step_local(store, base, op, local),
+        FlatExpr::AssignLocal(local, inner) => assign_local(store, base, local, inner),
+        FlatExpr::BinaryConst(op, kind, left, right) => {
+            eval_with_const(store, base, op, kind, left, right)
+        }
+        FlatExpr::BinaryLocal(op, kind, left, right) => {
+            eval_on_local(store, base, op, kind, left, right)
+        }
+        FlatExpr::BinaryLocalConst(op, kind, left, right) => {
+            eval_local_const(store, base, op, kind, left, right)
+        }
+        _ => evaluate_any(store, base, expr),
+    }
+}
+
+/// What any expression gives, as [`evaluate`] says.
+#[cycle(expressions)]
+#[inline(never)]
+fn evaluate_any(store: &mut Store, base: u32, expr: &FlatExpr) -> Numbered<i64>
     requires { FewValues (expr_seen expr.now) }
     ensures value { Gives same (eval (flat base) (expr_seen expr.now) (state_of store.old)) (narrowed result) (state_of store.new) }
     ensures kept { Keeps store.old store.new }

@@ -29,8 +29,8 @@ find_element-returns-clause-value t c =
     step_behind (eval (flat c.args.base) (expr_seen c.args.index.now) (state_of c.args.store.now)) (indexed (flat c.args.base) (part_seen c.args.part) (spot_seen c.args.spot)) _ (state_of c.operand.new.store)
     (narrowed c.element.result) index (c.element.ensures (state_of c.operand.new.store))
 
-pub evaluate-eval_format-requires : goal.evaluate-eval_format-requires
-evaluate-eval_format-requires t c =
+pub evaluate_any-eval_format-requires : goal.evaluate_any-eval_format-requires
+evaluate_any-eval_format-requires t c =
     let pieces = c.in-Printf.pieces in
     let exprs = c.in-Printf.exprs in
     let old = ap expr_seen c.in-Printf.is ∙ expr_seen-Printf pieces exprs in
@@ -42,8 +42,8 @@ evaluate-eval_format-requires t c =
     let each = each_few (map expr_seen exprs.items) fits.1 in
     (search (rules, the_lemmas), (omega arith, subst (λ (es : List CodeExpr). All FewValues (map expr_seen es)) (sym c.deref-in-Printf-2.ensures.value) each))
 
-pub evaluate-returns-in-Printf-clause-value : goal.evaluate-returns-in-Printf-clause-value
-evaluate-returns-in-Printf-clause-value t c =
+pub evaluate_any-returns-in-Printf-clause-value : goal.evaluate_any-returns-in-Printf-clause-value
+evaluate_any-returns-in-Printf-clause-value t c =
     let pieces = c.in-Printf.pieces in
     let exprs = c.in-Printf.exprs in
     let tree =
