@@ -17,4 +17,5 @@ mod Callees
 mod Programs
 mod Pushed
 mod WayLemmas
+mod Choices
 mod Writes

@@ -1,12 +1,13 @@
 -- Where ways out lead, by numbers.
-use Rattle.std.specs.Prelude.{ℕ, ◌≡◌, ◌<◌, List, length, Option, Some, None, IfSome, IfNone, slice_index_or}
-use Rattle.csub_semantics.specs.Points.{ExitTree, next, on_true, on_false}
+use Rattle.std.specs.Prelude.{ℕ, ℤ, ◌≡◌, ◌≢◌, ◌<◌, List, length, All, Option, Some, None, IfSome, IfNone, slice_index_or}
+use Rattle.csub_semantics.specs.Points.{ExitTree, next, on_true, on_false, on_case, on_default}
 use Rattle.csub_semantics.specs.Syntax.{ProgramTree}
 use Rattle.csub_semantics.specs.Flows.{point_list, Edge, edge_list, flow_of}
 use Rattle.csub_semantics.specs.Numbers.{edge_at}
 use Rattle.flow_graph.specs.declared.graph.WayOut.{WayOut}
 use Rattle.csub_flat.specs.Sites.{place_of}
-use Rattle.csub_flat.specs.declared.ways.PlainWays.{PlainWays}
+use Rattle.csub_flat.specs.declared.ways.CaseWay.{CaseWay}
+use Rattle.csub_flat.specs.declared.ways.PointWays.{PointWays}
 
 -- the edge along x from the point with a number
 abbrev pub edge_along : ProgramTree → ℕ → ExitTree → Edge
@@ -29,13 +30,25 @@ pub record IsWay (P : ProgramTree) (n : ℕ) (x : ExitTree) (way : Option WayOut
   pub some : IfSome way (LeadsTo P n x)
   pub none : IfNone way (LeadsNowhere P n x)
 
--- the ways out of the point with a number, but for those of a `switch`
-pub record AreWaysOut (P : ProgramTree) (n : ℕ) (ways : PlainWays) : Type 0 where
+-- the case values of the switch at the point with a number
+abbrev pub cases_of : ProgramTree → ℕ → List ℤ
+cases_of P n = (flow_of P).cases (place_of P n).function (place_of P n).point
+
+-- a table of the cases of the point with a number: each row leads as its case does, and where no row has a value there is
+-- no such case
+pub record AreCases (P : ProgramTree) (n : ℕ) (rows : List CaseWay) : Type 0 where
+  pub each : All (λ r. LeadsTo P n (on_case r.value) r.way) rows
+  pub none : (v : ℤ) → All (λ r. r.value ≢ v) rows → LeadsNowhere P n (on_case v)
+
+-- the ways out of the point with a number; cases may be left to the graph
+pub record AreWaysOut (P : ProgramTree) (n : ℕ) (ways : PointWays) : Type 0 where
   pub onward : IsWay P n next ways.next
   pub if_true : IsWay P n on_true ways.on_true
   pub if_false : IsWay P n on_false ways.on_false
+  pub otherwise : IsWay P n (on_default (cases_of P n)) ways.otherwise
+  pub cases : IfSome ways.cases (λ rows. AreCases P n rows.items)
 
 -- those of each point
-pub record AreWays (P : ProgramTree) (ways : List PlainWays) : Type 0 where
+pub record AreWays (P : ProgramTree) (ways : List PointWays) : Type 0 where
   pub count : length ways ≡ length (point_list P)
-  pub each : (n : ℕ) (w : PlainWays) → n < length ways → w ≡ slice_index_or ways n w → AreWaysOut P n w
+  pub each : (n : ℕ) (w : PointWays) → n < length ways → w ≡ slice_index_or ways n w → AreWaysOut P n w

@@ -29,4 +29,4 @@ pub use flat::{
     FlatVariable, FlatWrite, Form,
 };
 pub use program::{FlatProgram, Sizes, first_slots, flatten_program};
-pub use ways::{PlainWays, way_along};
+pub use ways::{CaseWay, PointWays, way_along};

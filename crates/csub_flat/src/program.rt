@@ -20,7 +20,7 @@ use crate::frame::{Frame, frame_slots, list_frames};
 use crate::globals::{globals_size, number_globals};
 use crate::inits::flatten_begin;
 use crate::scope::Scope;
-use crate::ways::{PlainWays, list_ways};
+use crate::ways::{PointWays, list_ways};
 use csub_core::Program;
 use csub_semantics::{Answer, CallLabel, IntKind, Label, Text};
 use flow_graph::Graph;
@@ -42,7 +42,7 @@ pub struct FlatProgram {
     /// The labels, by the numbers of their points.
     pub labels: Vec<FlatLabel>,
     /// The ways out of the points, by their numbers.
-    pub ways: Vec<PlainWays>,
+    pub ways: Vec<PointWays>,
     /// How many slots a run takes.
     pub sizes: Sizes,
 }

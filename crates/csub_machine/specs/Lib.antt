@@ -1,5 +1,4 @@
 pub mod Moments
 pub mod Crossed
 pub mod Flat
-pub mod Ways
 pub mod Standings

@@ -14,6 +14,7 @@ pub enum Flat<'a> {
 }
 
 /// The copy.
+#[inline(always)]
 pub fn copy_in<'f>(flat: &'f Flat<'_>) -> &'f FlatProgram
     ensures { result.now ≡ flat_of flat.now }
 {

@@ -100,6 +100,7 @@ impl<'a> Machine<'a> {
     }
 
     /// One turn, which acts on one point and answers the status exactly where the run ends with it.
+    #[inline(always)]
     pub fn turn(&mut self) -> Option<Status>
         requires running { IsRunning self.old }
         requires few { self.old.done < 10000000 }

@@ -85,6 +85,7 @@ pub fn begin(
 }
 
 /// The edge with a number, if there is one, is crossed.
+#[inline(always)]
 fn cross(program: &Program, graph: &Graph, crossed: &mut EdgeRow, edge: Option<u32>)
     requires graph { IsGraphOf graph.now (program_tree program.now) }
     requires edge { IsOfProgram (program_tree program.now) edge }
@@ -97,6 +98,7 @@ fn cross(program: &Program, graph: &Graph, crossed: &mut EdgeRow, edge: Option<u
 }
 
 /// One turn.
+#[inline(always)]
 pub fn advance(
     program: &Program,
     graph: &Graph,

@@ -36,6 +36,7 @@ pub enum Turn {
 }
 
 /// The top frame goes on along a way out, with this result.
+#[inline(always)]
 fn leave_by(
     program: &Program,
     flat: &FlatProgram,
@@ -62,8 +63,16 @@ fn leave_by(
 }
 
 /// The top frame, which stands at a switch, goes on by a value; its result is kept.
-fn choose_by(program: &Program, graph: &Graph, top: &mut Frame, value: i64) -> Turn
+#[inline(always)]
+fn choose_by(
+    program: &Program,
+    graph: &Graph,
+    flat: &FlatProgram,
+    top: &mut Frame,
+    value: i64,
+) -> Turn
     requires graph { IsGraphOf graph.now (program_tree program.now) }
+    requires copies { IsFlatOf (program_tree program.now) flat.now }
     requires point { top.old.point < length (point_list (program_tree program.now)) }
     ensures moves { (below : List StandingFrame) (s : Held) → let P = program_tree program.now in let here = place_of P top.old.point in let x = exit_at ((flow_of P).cases here.function here.point) value in Crosses P (cross (frame_of P top.old) below x top.old.result s ((flow_of P).succ here.function here.point x)) result (record { frames = frame_of P top.new ∷ below; store = s }) }
     ensures point { top.new.point < length (point_list (program_tree program.now)) }
@@ -71,7 +80,7 @@ fn choose_by(program: &Program, graph: &Graph, top: &mut Frame, value: i64) -> T
     ensures function { (place_of (program_tree program.now) top.new.point).function ≡ (place_of (program_tree program.now) top.old.point).function }
     ensures base { top.new.base ≡ top.old.base }
 {
-    match way_at(program, graph, top.point, value) {
+    match way_at(program, graph, flat, top.point, value) {
         None => Turn::Lost,
         Some(way) => {
             top.point = way.to;
@@ -81,6 +90,7 @@ fn choose_by(program: &Program, graph: &Graph, top: &mut Frame, value: i64) -> T
 }
 
 /// A frame comes on top, for which there is room.
+#[inline(always)]
 fn push_frame(frames: &mut Frames, point: u32, base: u32)
     requires { length frames.old.below.items < 256 }
     ensures top { frames.new.top ≡ record { point = point; result = None; base = base } }
@@ -98,6 +108,7 @@ fn push_frame(frames: &mut Frames, point: u32, base: u32)
 }
 
 /// The frame of a call, now on top, goes on with the result of the callee.
+#[inline(always)]
 fn resume(
     program: &Program,
     flat: &FlatProgram,
@@ -124,6 +135,7 @@ fn resume(
 }
 
 /// One turn: the act of the top frame's label, and where control goes by it.
+#[inline(always)]
 pub fn take_turn(
     program: &Program,
     graph: &Graph,
@@ -147,7 +159,7 @@ pub fn take_turn(
         Err(trap) => Turn::Stops(Status::Trap(trap)),
         Ok(Outcome::Ends(status)) => Turn::Stops(status),
         Ok(Outcome::Leaves(exit, given)) => leave_by(program, flat, &mut frames.top, exit, given),
-        Ok(Outcome::Gives(value)) => choose_by(program, graph, &mut frames.top, value),
+        Ok(Outcome::Gives(value)) => { choose_by(program, graph, flat, &mut frames.top, value) }
         Ok(Outcome::Pushes(entry, begin)) => {
             push_frame(frames, entry, begin);
             Turn::Goes(None)

@@ -1,22 +1,22 @@
 //! Where the ways out of a point lead, in the words of runs.
-ghost use Rattle.std.specs.Prelude.{◌<◌, length, IfSome, IfNone};
-ghost use Rattle.csub_semantics.specs.Points.{on_default};
+ghost use Rattle.std.specs.Prelude.{ℕ, ◌<◌, length, IfSome, IfNone};
+ghost use Rattle.csub_semantics.specs.Points.{on_case};
 ghost use Rattle.csub_semantics.specs.Flows.{point_list};
 ghost use Rattle.csub_semantics.specs.Runs.{exit_at};
-ghost use Rattle.csub_semantics.specs.Syntax.{program_tree};
+ghost use Rattle.csub_semantics.specs.Syntax.{ProgramTree, program_tree};
 ghost use Rattle.flow_graph.specs.Graph.{IsGraphOf};
 ghost use Rattle.csub_flat.specs.Copies.{IsFlatOf};
-ghost use Rattle.csub_flat.specs.Ways.{LeadsNowhere, LeadsTo};
+ghost use Rattle.csub_flat.specs.Ways.{cases_of, LeadsNowhere, LeadsTo, AreCases, AreWaysOut};
 ghost use Rattle.csub_slots.specs.Seen.{exit_seen};
-ghost use Rattle.csub_machine.specs.Ways.{cases_of};
 
 use csub_core::Program;
-use csub_flat::{FlatProgram, way_along};
+use csub_flat::{CaseWay, FlatProgram, PointWays, way_along};
 use csub_semantics::ExitLabel;
 use csub_slots::act::PlainExit;
 use flow_graph::{Graph, WayOut};
 
 /// The way out of a point but for those of a `switch`; `None` where the point has none. It looks at one row of a table.
+#[inline(always)]
 pub fn way_by(program: &Program, flat: &FlatProgram, point: u32, exit: PlainExit) -> Option<WayOut>
     requires copies { IsFlatOf (program_tree program.now) flat.now }
     requires point { point < length (point_list (program_tree program.now)) }
@@ -31,34 +31,71 @@ pub fn way_by(program: &Program, flat: &FlatProgram, point: u32, exit: PlainExit
     }
 }
 
-/// The way out of a switch by its Default, which is the last of its ways out and so the first that is looked at; `None`
-/// where the point has none.
-fn default_way(program: &Program, graph: &Graph, point: u32) -> Option<WayOut>
-    requires graph { IsGraphOf graph.now (program_tree program.now) }
-    requires point { point < length (point_list (program_tree program.now)) }
-    ensures some { IfSome result (LeadsTo (program_tree program.now) point (on_default (cases_of (program_tree program.now) point))) }
-    ensures none { IfNone result (LeadsNowhere (program_tree program.now) point (on_default (cases_of (program_tree program.now) point))) }
+/// The way out of a point by the case of a value, in a table of its cases; `None` where none has the value.
+#[inline(always)]
+fn listed_case(rows: &[CaseWay], value: i64) -> Option<WayOut>
+    ensures some { (P : ProgramTree) (n : ℕ) → AreCases P n rows.now → IfSome result (LeadsTo P n (on_case value)) }
+    ensures none { (P : ProgramTree) (n : ℕ) → AreCases P n rows.now → IfNone result (LeadsNowhere P n (on_case value)) }
 {
-    let edges = graph.edges_of(point);
-    for edge in (edges.start..edges.end).rev() {
-        let ends = graph.edge_at(edge);
-        if let ExitLabel::Default(_) = ends.exit {
-            return Some(WayOut { edge, to: ends.to });
+    for row in rows {
+        if row.value == value {
+            return Some(row.way);
         }
     }
     None
 }
 
-/// The way out of a switch at a value, by its case or else by its Default; `None` where the point has none. It is found by
-/// a logarithm of the cases of the program.
-pub fn way_at(program: &Program, graph: &Graph, point: u32, value: i64) -> Option<WayOut>
+/// The same by the graph, which takes a logarithm of the cases of the program.
+#[inline(never)]
+fn searched_case(program: &Program, graph: &Graph, point: u32, value: i64) -> Option<WayOut>
     requires graph { IsGraphOf graph.now (program_tree program.now) }
+    requires point { point < length (point_list (program_tree program.now)) }
+    ensures some { IfSome result (LeadsTo (program_tree program.now) point (on_case value)) }
+    ensures none { IfNone result (LeadsNowhere (program_tree program.now) point (on_case value)) }
+{
+    way_along(program, graph, point, &ExitLabel::Case(value))
+}
+
+/// The way out of a point by the case of a value; `None` where none has the value. Few cases are looked through, many are
+/// searched.
+#[inline(always)]
+fn case_at(
+    program: &Program,
+    graph: &Graph,
+    ways: &PointWays,
+    point: u32,
+    value: i64,
+) -> Option<WayOut>
+    requires graph { IsGraphOf graph.now (program_tree program.now) }
+    requires point { point < length (point_list (program_tree program.now)) }
+    requires ways { AreWaysOut (program_tree program.now) point ways.now }
+    ensures some { IfSome result (LeadsTo (program_tree program.now) point (on_case value)) }
+    ensures none { IfNone result (LeadsNowhere (program_tree program.now) point (on_case value)) }
+{
+    match &ways.cases {
+        Some(rows) => listed_case(rows, value),
+        None => searched_case(program, graph, point, value),
+    }
+}
+
+/// The way out of a switch at a value, by its case or else by its Default; `None` where the point has none.
+#[inline(always)]
+pub fn way_at(
+    program: &Program,
+    graph: &Graph,
+    flat: &FlatProgram,
+    point: u32,
+    value: i64,
+) -> Option<WayOut>
+    requires graph { IsGraphOf graph.now (program_tree program.now) }
+    requires copies { IsFlatOf (program_tree program.now) flat.now }
     requires point { point < length (point_list (program_tree program.now)) }
     ensures some { IfSome result (LeadsTo (program_tree program.now) point (exit_at (cases_of (program_tree program.now) point) value)) }
     ensures none { IfNone result (LeadsNowhere (program_tree program.now) point (exit_at (cases_of (program_tree program.now) point) value)) }
 {
-    match way_along(program, graph, point, &ExitLabel::Case(value)) {
+    let row = &flat.ways[point as usize];
+    match case_at(program, graph, row, point, value) {
         Some(way) => Some(way),
-        None => default_way(program, graph, point),
+        None => row.otherwise,
     }
 }

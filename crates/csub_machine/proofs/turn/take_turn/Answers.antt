@@ -6,7 +6,7 @@ use Rattle.csub_semantics.specs.Flows.{flow_of}
 use Rattle.csub_semantics.specs.Acts.{Store as Held}
 use Rattle.csub_semantics.specs.Runs.{Frame as Standing, exit_at, cross}
 use Rattle.csub_flat.specs.Sites.{place_of}
-use Rattle.csub_machine.specs.Ways.{cases_of}
+use Rattle.csub_flat.specs.Ways.{cases_of}
 use Rattle.csub_machine.specs.Standings.{frame_of, Crosses}
 use Rattle.csub_semantics.specs.declared.status.Status.TheVariants.{Trap}
 use Rattle.csub_semantics.specs.Syntax.{program_tree}

@@ -2,8 +2,8 @@ use Rattle.std.proofs.Common.{◌≡◌, ◌≤◌, ℕ, Some}
 use Rattle.csub_semantics.specs.Syntax.{program_tree}
 use Rattle.flow_graph.specs.Graph.{source_at}
 use Rattle.csub_flat.specs.Sites.{place_of}
-use Rattle.csub_machine.proofs.Switches.{IsNoDefault}
-use Rattle.csub_machine.proofs.ways.default_way.Given as goal
+use Rattle.csub_flat.proofs.Choices.{IsNoDefault}
+use Rattle.csub_flat.proofs.ways.default_way.Given as goal
 
 -- no edge of the point from here on is a Default
 abbrev pub invariant-loop-edge : goal.invariant-loop-edge

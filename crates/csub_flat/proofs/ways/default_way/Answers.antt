@@ -9,8 +9,8 @@ use Rattle.flow_graph.specs.declared.graph.WayOut.{WayOut}
 use Rattle.flow_graph.proofs.LawsPlaces.{points_counted, edges_counted}
 use Rattle.csub_flat.specs.Sites.{place_of}
 use Rattle.csub_flat.proofs.LawsSites.{place_is}
-use Rattle.csub_machine.proofs.Switches.{leaving, default_leads, not_default, no_default}
-use Rattle.csub_machine.proofs.ways.default_way.Goals as goal
+use Rattle.csub_flat.proofs.Choices.{leaving, default_leads, not_default, no_default}
+use Rattle.csub_flat.proofs.ways.default_way.Goals as goal
 
 pub returns-in-Default-clause-some : goal.returns-in-Default-clause-some
 returns-in-Default-clause-some c =
