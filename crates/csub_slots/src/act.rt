@@ -1,15 +1,18 @@
 //! The acts of flat labels. Nothing here takes memory.
 ghost use Rattle.std.specs.Prelude.{◌≡◌, ◌+◌, ◌*◌, ◌<◌, ◌≤◌, ◌++◌, [], ◌∷◌, length, map, take, All, replicate, vec_len, vec_capacity};
 ghost use Rattle.csub_semantics.specs.declared.status.Status.TheVariants.{Exit};
+ghost use Rattle.csub_semantics.specs.Evaluation.{eval};
 ghost use Rattle.csub_semantics.specs.Memory.{low_byte};
+ghost use Rattle.csub_semantics.specs.Trees.{reading, variable};
 ghost use Rattle.csub_slots.specs.declared.act.Outcome.TheVariants.{Ends};
 ghost use Rattle.csub_slots.specs.Layout as layout;
-ghost use Rattle.csub_slots.specs.Acts.{flat_act, flat_call, flat_exit, flat_given_slot, flat_arguments, flat_entered, flat_result};
+ghost use Rattle.csub_slots.specs.Memory.{flat};
+ghost use Rattle.csub_slots.specs.Acts.{ends, flat_after, flat_act, flat_call, flat_exit, flat_given_slot, flat_arguments, flat_entered, flat_result};
 ghost use Rattle.csub_flat.specs.Seen.{variable_seen, given_seen, arg_seen, call_seen, label_seen};
 ghost use Rattle.csub_slots.specs.Seen.{slot_seen};
 ghost use Rattle.csub_slots.specs.States.{state_of, Gives, Acts, Keeps, FewInGiven, FitsMost};
 
-use crate::eval::{eval, eval_variable, locate, put_at, put_slot};
+use crate::eval::{eval, eval_operand, eval_variable, locate, put_at, put_slot};
 use crate::init::initialise;
 use crate::slot::Slot;
 use crate::spot::refer_to;
@@ -48,6 +51,7 @@ pub enum Outcome {
 }
 
 /// The act of a label for the top one of so many frames, whose slots begin at a base, and which has this result.
+#[inline(always)]
 pub fn act(
     store: &mut Store,
     label: &FlatLabel,
@@ -83,11 +87,11 @@ pub fn act(
             Ok(Outcome::Leaves(exit, answer))
         }
         FlatLabel::Switch(expr) => {
-            let value = eval(store, base, expr)?;
+            let value = eval_operand(store, base, expr)?;
             Ok(Outcome::Gives(value))
         }
         FlatLabel::Return(kind, expr) => {
-            let given = eval(store, base, expr)?;
+            let given = eval_operand(store, base, expr)?;
             Ok(Outcome::Leaves(PlainExit::Next, Some(convert(*kind, given))))
         }
         FlatLabel::Halt(expr) => {
@@ -99,14 +103,24 @@ pub fn act(
 }
 
 /// The end of the run with the low 8 bits of a value (C11 7.22.4.4).
+#[inline(always)]
 fn end_with(value: i64) -> Outcome
     ensures { result ≡ Ends (Exit (low_byte value)) }
 {
     Outcome::Ends(Status::Exit(value.rem_euclid(256) as u8))
 }
 
-/// The act at the end of a function.
+/// The end of the run with what the first temporary of `#start` holds.
 #[inline(never)]
+fn end_run(store: &Store, base: u32, first: FlatVariable) -> Result<Outcome, Trap>
+    ensures { Acts (flat_after (eval (flat base) (reading (variable (variable_seen first))) (state_of store.now)) (λ w t. ends (Exit (low_byte w)) t)) result (state_of store.now) }
+{
+    let value = eval_variable(store, base, first)?;
+    Ok(end_with(value))
+}
+
+/// The act at the end of a function.
+#[inline(always)]
 fn act_exit(
     store: &mut Store,
     rule: EndRule,
@@ -128,16 +142,14 @@ fn act_exit(
             None => Some(0),
             Some(value) => Some(value),
         },
-        EndRule::Start => {
-            let value = eval_variable(store, base, first)?;
-            return Ok(end_with(value));
-        }
+        EndRule::Start => return end_run(store, base, first),
     };
     leave(store, base);
     Ok(Outcome::Pops(given))
 }
 
 /// The slots from a base on go.
+#[inline(always)]
 fn leave(store: &mut Store, base: u32)
     ensures value { state_of store.new ≡ record (state_of store.old) { cells = take base (map slot_seen store.old.slots.items) } }
     ensures input { store.new.input.items ≡ store.old.input.items }
@@ -168,6 +180,7 @@ fn act_call(store: &mut Store, call: &FlatCall, count: u32, base: u32) -> Result
 }
 
 /// What the arguments of a call give to its parameters, from left to right, goes into the store's values.
+#[inline(always)]
 fn eval_args(store: &mut Store, base: u32, args: &[FlatArg]) -> Result<(), Trap>
     requires few { length (map arg_seen args.now) ≤ 16 }
     requires each { All (λ a. FewInGiven a.given) (map arg_seen args.now) }
@@ -185,6 +198,7 @@ fn eval_args(store: &mut Store, base: u32, args: &[FlatArg]) -> Result<(), Trap>
 }
 
 /// What an argument gives to its parameter.
+#[inline(always)]
 fn give(store: &mut Store, base: u32, given: &FlatGiven) -> Result<Slot, Trap>
     requires { FewInGiven (given_seen given.now) }
     ensures value { Gives slot_seen (flat_given_slot base (given_seen given.now) (state_of store.old)) result (state_of store.new) }
@@ -192,7 +206,7 @@ fn give(store: &mut Store, base: u32, given: &FlatGiven) -> Result<Slot, Trap>
 {
     match given {
         FlatGiven::Number(kind, expr) => {
-            let value = eval(store, base, expr)?;
+            let value = eval_operand(store, base, expr)?;
             Ok(Slot::Holding(convert(*kind, value)))
         }
         FlatGiven::Array(place) => {
@@ -203,6 +217,7 @@ fn give(store: &mut Store, base: u32, given: &FlatGiven) -> Result<Slot, Trap>
 }
 
 /// One more value, for which there is room.
+#[inline(always)]
 fn push_value(values: &mut Vec<Slot>, value: Slot)
     requires { vec_len values.old < vec_capacity values.old }
     ensures items { map slot_seen values.new.items ≡ map slot_seen values.old.items ++ slot_seen value ∷ [] }
@@ -213,6 +228,7 @@ fn push_value(values: &mut Vec<Slot>, value: Slot)
 }
 
 /// A frame comes on top of so many others, with the store's values in its parameters.
+#[inline(always)]
 fn enter(store: &mut Store, size: u32, args: &[FlatArg], count: u32)
     requires few { count < 256 }
     requires room { length store.old.slots.items ≤ store.old.sizes.globals + count * store.old.sizes.most }
@@ -227,6 +243,7 @@ fn enter(store: &mut Store, size: u32, args: &[FlatArg], count: u32)
 }
 
 /// More slots, for which there is room, and which are empty.
+#[inline(always)]
 pub fn grow(slots: &mut Vec<Slot>, size: usize)
     requires { vec_len slots.old + size ≤ vec_capacity slots.old }
     ensures items { map slot_seen slots.new.items ≡ map slot_seen slots.old.items ++ replicate size layout.empty }
@@ -237,6 +254,7 @@ pub fn grow(slots: &mut Vec<Slot>, size: usize)
 }
 
 /// Parameters get the store's values, in order.
+#[inline(always)]
 fn fill(store: &mut Store, base: usize, args: &[FlatArg])
     requires base { base ≤ length store.old.slots.items }
     requires small { base ≤ 4294967295 }
@@ -254,6 +272,7 @@ fn fill(store: &mut Store, base: usize, args: &[FlatArg])
 }
 
 /// A result goes into the slot of a temporary of the frame whose slots begin at a base, where there are both.
+#[inline(always)]
 pub fn put_result(store: &mut Store, base: u32, temp: Option<u32>, given: Option<i64>)
     ensures value { state_of store.new ≡ flat_result base temp given (state_of store.old) }
     ensures input { store.new.input.items ≡ store.old.input.items }

@@ -198,6 +198,17 @@ pub fn eval(store: &mut Store, base: u32, expr: &FlatExpr) -> Result<i64, Trap>
     narrow(given)
 }
 
+/// The same, where a constant and a variable need no call.
+#[inline(always)]
+pub fn eval_operand(store: &mut Store, base: u32, expr: &FlatExpr) -> Result<i64, Trap>
+    requires { FewValues (expr_seen expr.now) }
+    ensures value { Gives same (eval (flat base) (expr_seen expr.now) (state_of store.old)) result (state_of store.new) }
+    ensures kept { Keeps store.old store.new }
+{
+    let given = operand(store, base, expr);
+    narrow(given)
+}
+
 /// The variable that a place is, if it is one.
 #[inline(always)]
 fn variable_in(place: &FlatPlace) -> Option<&FlatVariable>
