@@ -1,6 +1,6 @@
 //! The machine.
 use crate::flat::{Flat, copy_in};
-use crate::run::{Run, advance, begin, settle};
+use crate::run::{Run, advance, advance_to, begin, settle};
 use csub_core::Program;
 use csub_flat::{FlatProgram, flatten_program};
 use csub_semantics::Status;
@@ -100,7 +100,6 @@ impl<'a> Machine<'a> {
     }
 
     /// One turn, which acts on one point and answers the status exactly where the run ends with it.
-    #[inline(always)]
     pub fn turn(&mut self) -> Option<Status>
         requires running { IsRunning self.old }
         requires few { self.old.done < 10000000 }
@@ -119,13 +118,32 @@ impl<'a> Machine<'a> {
         ensures done { self.new ≡ record self.old { done = budget } }
         ensures results { run_of (flow_of (program_tree self.old.program)) self.old.input budget ≡ Some (results_of result self.new) }
     {
-        for _turn in 0..budget {
-            if let Some(status) = self.turn() {
+        match self.go_on(budget) {
+            Some(status) => {
                 self.settle(budget);
-                return status;
+                status
             }
+            None => Status::Turns,
         }
-        Status::Turns
+    }
+
+    /// Turns up to a budget, or to the end of the run, whose status is given.
+    fn go_on(&mut self, budget: u32) -> Option<Status>
+        requires fresh { self.old.done ≡ 0 }
+        requires few { budget ≤ 10000000 }
+        ensures seen { self.new ≡ record self.old { done = self.new.done } }
+        ensures within { self.new.done ≤ budget }
+        ensures whole { IfNone result (self.new.done ≡ budget) }
+        ensures onward { IfNone result (IsRunning self.new) }
+        ensures status { result ≡ status_of self.new }
+    {
+        advance_to(
+            self.program,
+            self.graph,
+            copy_in(&self.flat),
+            &mut self.run,
+            budget,
+        )
     }
 
     /// More turns are asked for after the end of the run, and nothing changes.

@@ -136,6 +136,37 @@ pub fn advance(
     }
 }
 
+/// Turns up to a budget, or to the end of the run, whose status is given.
+pub fn advance_to(
+    program: &Program,
+    graph: &Graph,
+    flat: &FlatProgram,
+    run: &mut Run,
+    budget: u32,
+) -> Option<Status>
+    requires graph { IsGraphOf graph.now (program_tree program.now) }
+    requires copies { IsFlatOf (program_tree program.now) flat.now }
+    requires sizes { run.old.store.sizes ≡ flat.now.sizes }
+    requires at { IsAt (program_tree program.now) run.old }
+    requires running { IsRunningAt (moment_at (program_tree program.now) run.old) }
+    requires fresh { run.old.done ≡ 0 }
+    requires few { budget ≤ 10000000 }
+    ensures at { IsAt (program_tree program.now) run.new }
+    ensures input { run.new.store.input.items ≡ run.old.store.input.items }
+    ensures sizes { run.new.store.sizes ≡ flat.now.sizes }
+    ensures within { run.new.done ≤ budget }
+    ensures whole { IfNone result (run.new.done ≡ budget) }
+    ensures onward { IfNone result (IsRunningAt (moment_at (program_tree program.now) run.new)) }
+    ensures status { result ≡ status_at (moment_at (program_tree program.now) run.new) }
+{
+    for _turn in 0..budget {
+        if let Some(status) = advance(program, graph, flat, run) {
+            return Some(status);
+        }
+    }
+    None
+}
+
 /// More turns are asked for of a run that has ended, and nothing changes.
 pub fn settle(program: &Program, run: &mut Run, done: u32)
     requires at { IsAt (program_tree program.now) run.old }
