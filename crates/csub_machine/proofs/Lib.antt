@@ -5,3 +5,4 @@ mod WholeLemmas
 mod Switches
 mod Turns
 mod Moves
+mod Direct

@@ -1,5 +1,8 @@
 //! One turn of a run. Nothing here takes memory.
 ghost use Rattle.std.specs.Prelude.{◌≡◌, ◌<◌, ◌+◌, [], ◌∷◌, ◌++◌, length, map, List};
+ghost use Rattle.std.specs.Prelude.{pos, if◌then◌else◌};
+ghost use Rattle.std.specs.Ordering.{int_eq};
+ghost use Rattle.csub_semantics.specs.Points.{on_true, on_false};
 ghost use Rattle.csub_semantics.specs.Flows.{flow_of, point_list};
 ghost use Rattle.csub_semantics.specs.Runs.{Frame as StandingFrame, turn, exit_at, cross, pop};
 ghost use Rattle.csub_semantics.specs.Acts.{Store as Held};
@@ -20,7 +23,7 @@ use csub_core::Program;
 use csub_flat::{FlatLabel, FlatProgram};
 use csub_semantics::Status;
 use csub_slots::Store;
-use csub_slots::act::{Outcome, PlainExit, act, put_result};
+use csub_slots::act::{Outcome, PlainExit, act, eval, eval_operand, put_result};
 use flow_graph::Graph;
 use std::mem;
 
@@ -59,6 +62,18 @@ fn leave_by(
             top.result = given;
             Turn::Goes(Some(way.edge))
         }
+    }
+}
+
+/// The way out of a test by what it gave.
+#[inline(always)]
+fn exit_by(value: i64) -> PlainExit
+    ensures { exit_seen result ≡ (if int_eq value (pos 0) then on_false else on_true) }
+{
+    if value == 0 {
+        PlainExit::False
+    } else {
+        PlainExit::True
     }
 }
 
@@ -134,9 +149,9 @@ fn resume(
     leave_by(program, flat, top, PlainExit::Next, kept)
 }
 
-/// One turn: the act of the top frame's label, and where control goes by it.
-#[inline(always)]
-pub fn take_turn(
+/// One turn by the act of the top frame's label, whatever it is.
+#[inline(never)]
+fn take_any_turn(
     program: &Program,
     graph: &Graph,
     flat: &FlatProgram,
@@ -171,5 +186,44 @@ pub fn take_turn(
                 resume(program, flat, &mut frames.top, store, given)
             }
         },
+    }
+}
+
+/// One turn: the act of the top frame's label, and where control goes by it. What most turns do needs no outcome of an act.
+#[inline(always)]
+pub fn take_turn(
+    program: &Program,
+    graph: &Graph,
+    flat: &FlatProgram,
+    frames: &mut Frames,
+    store: &mut Store,
+) -> Turn
+    requires graph { IsGraphOf graph.now (program_tree program.now) }
+    requires copies { IsFlatOf (program_tree program.now) flat.now }
+    requires sizes { store.old.sizes ≡ flat.now.sizes }
+    requires frames { AreFrames (program_tree program.now) frames.old (length (map slot_seen store.old.slots.items)) }
+    ensures moves { (s : Held) → let P = program_tree program.now in Like (globals_of P) (live_of P frames.old) s (state_of store.old) → Moves P (turn (flow_of P) (standing_of P frames.old s)) result frames.new (state_of store.new) }
+    ensures edge { CrossesOfProgram (program_tree program.now) result }
+    ensures input { store.new.input.items ≡ store.old.input.items }
+    ensures sizes { store.new.sizes ≡ store.old.sizes }
+{
+    let label = &flat.labels[frames.top.point as usize];
+    let base = frames.top.base;
+    let kept = frames.top.result;
+    match label {
+        FlatLabel::Next => leave_by(program, flat, &mut frames.top, PlainExit::Next, kept),
+        FlatLabel::Eval(expr) => match eval(store, base, expr) {
+            Err(trap) => Turn::Stops(Status::Trap(trap)),
+            Ok(_) => leave_by(program, flat, &mut frames.top, PlainExit::Next, kept),
+        },
+        FlatLabel::Branch(expr) => match eval(store, base, expr) {
+            Err(trap) => Turn::Stops(Status::Trap(trap)),
+            Ok(value) => leave_by(program, flat, &mut frames.top, exit_by(value), kept),
+        },
+        FlatLabel::Switch(expr) => match eval_operand(store, base, expr) {
+            Err(trap) => Turn::Stops(Status::Trap(trap)),
+            Ok(value) => choose_by(program, graph, flat, &mut frames.top, value),
+        },
+        _ => take_any_turn(program, graph, flat, frames, store),
     }
 }

@@ -1,18 +1,16 @@
 //! The acts of flat labels. Nothing here takes memory.
 ghost use Rattle.std.specs.Prelude.{◌≡◌, ◌+◌, ◌*◌, ◌<◌, ◌≤◌, ◌++◌, [], ◌∷◌, length, map, take, All, replicate, vec_len, vec_capacity};
 ghost use Rattle.csub_semantics.specs.declared.status.Status.TheVariants.{Exit};
-ghost use Rattle.csub_semantics.specs.Evaluation.{eval};
 ghost use Rattle.csub_semantics.specs.Memory.{low_byte};
-ghost use Rattle.csub_semantics.specs.Trees.{reading, variable};
 ghost use Rattle.csub_slots.specs.declared.act.Outcome.TheVariants.{Ends};
 ghost use Rattle.csub_slots.specs.Layout as layout;
-ghost use Rattle.csub_slots.specs.Memory.{flat};
-ghost use Rattle.csub_slots.specs.Acts.{ends, flat_after, flat_act, flat_call, flat_exit, flat_given_slot, flat_arguments, flat_entered, flat_result};
+ghost use Rattle.csub_slots.specs.Acts.{flat_act, flat_call, flat_exit, flat_given_slot, flat_arguments, flat_entered, flat_result};
 ghost use Rattle.csub_flat.specs.Seen.{variable_seen, given_seen, arg_seen, call_seen, label_seen};
 ghost use Rattle.csub_slots.specs.Seen.{slot_seen};
 ghost use Rattle.csub_slots.specs.States.{state_of, Gives, Acts, Keeps, FewInGiven, FitsMost};
 
-use crate::eval::{eval, eval_operand, eval_variable, locate, put_at, put_slot};
+use crate::eval::{eval_variable, locate, put_at, put_slot};
+pub use crate::eval::{eval, eval_operand};
 use crate::init::initialise;
 use crate::slot::Slot;
 use crate::spot::refer_to;
@@ -110,15 +108,6 @@ fn end_with(value: i64) -> Outcome
     Outcome::Ends(Status::Exit(value.rem_euclid(256) as u8))
 }
 
-/// The end of the run with what the first temporary of `#start` holds.
-#[inline(never)]
-fn end_run(store: &Store, base: u32, first: FlatVariable) -> Result<Outcome, Trap>
-    ensures { Acts (flat_after (eval (flat base) (reading (variable (variable_seen first))) (state_of store.now)) (λ w t. ends (Exit (low_byte w)) t)) result (state_of store.now) }
-{
-    let value = eval_variable(store, base, first)?;
-    Ok(end_with(value))
-}
-
 /// The act at the end of a function.
 #[inline(always)]
 fn act_exit(
@@ -142,7 +131,10 @@ fn act_exit(
             None => Some(0),
             Some(value) => Some(value),
         },
-        EndRule::Start => return end_run(store, base, first),
+        EndRule::Start => {
+            let value = eval_variable(store, base, first)?;
+            return Ok(end_with(value));
+        }
     };
     leave(store, base);
     Ok(Outcome::Pops(given))
@@ -159,7 +151,7 @@ fn leave(store: &mut Store, base: u32)
 }
 
 /// The act of a call, where so many frames stand: its arguments, then a frame with its parameters.
-#[inline(never)]
+#[inline(always)]
 fn act_call(store: &mut Store, call: &FlatCall, count: u32, base: u32) -> Result<Outcome, Trap>
     requires few { count ≤ 256 }
     requires room { length store.old.slots.items ≤ store.old.sizes.globals + count * store.old.sizes.most }

@@ -171,6 +171,7 @@ fn eval_local_const(
 }
 
 /// The number that a variable holds for the frame at a base (C11 6.5.1).
+#[inline(never)]
 pub fn eval_variable(store: &Store, base: u32, named: FlatVariable) -> Result<i64, Trap>
     ensures { Gives same (eval (flat base) (reading (variable (variable_seen named))) (state_of store.now)) result (state_of store.now) }
 {
@@ -178,6 +179,7 @@ pub fn eval_variable(store: &Store, base: u32, named: FlatVariable) -> Result<i6
 }
 
 /// Where a place is for the frame at a base; an index comes behind the place that it stands on.
+#[inline(never)]
 pub fn locate(store: &mut Store, base: u32, place: &FlatPlace) -> Result<Spot, Trap>
     requires { FewAtPlace (place_seen place.now) }
     ensures value { Gives spot_seen (locate (flat base) (place_seen place.now) (state_of store.old)) result (state_of store.new) }

@@ -1,45 +1,74 @@
-use Rattle.std.proofs.Common.{ℤ, List, ◌∷◌, w64, ◌≡◌, ◌<◌, ◌≤◌, ◌+◌, ◌*◌, ℕ, ap, sym, subst, refl, length, rules, arith}
-use Rattle.std.proofs.lemmas.List.{length-map}
+use Rattle.std.proofs.Common.{ℤ, List, ◌∷◌, w64, ◌≡◌, ◌<◌, ◌+◌, ◌∙◌, ap, sym, subst, refl, pos, if◌then◌else◌, length, rules, arith}
+use Rattle.std.specs.Ordering.{int_eq}
 use Rattle.std.proofs.lemmas.Int.{to_z-of_z}
 use mir.Val.{SFits}
+use Rattle.csub_semantics.specs.Points.{ExitTree, next, on_true, on_false}
 use Rattle.csub_semantics.specs.Flows.{flow_of}
 use Rattle.csub_semantics.specs.Acts.{Store as Held}
 use Rattle.csub_semantics.specs.Runs.{Frame as Standing, exit_at, cross}
-use Rattle.csub_flat.specs.Sites.{place_of}
-use Rattle.csub_flat.specs.Ways.{cases_of}
-use Rattle.csub_machine.specs.Standings.{frame_of, Crosses}
 use Rattle.csub_semantics.specs.declared.status.Status.TheVariants.{Trap}
 use Rattle.csub_semantics.specs.Syntax.{program_tree}
-use Rattle.csub_flat.specs.declared.program.Sizes.{Sizes}
-use Rattle.csub_slots.specs.Seen.{slot_seen, exit_seen}
-use Rattle.csub_flat.specs.Seen.{label_seen}
-use Rattle.csub_slots.specs.States.{state_of, FitsMost}
+use Rattle.csub_flat.specs.Sites.{place_of}
+use Rattle.csub_flat.specs.Ways.{cases_of}
 use Rattle.csub_flat.specs.Copies.{IsCopyAt}
+use Rattle.csub_flat.specs.Seen.{expr_seen, label_seen}
+use Rattle.csub_flat.specs.declared.flat.FlatLabel.{FlatLabel}
+use Rattle.csub_slots.specs.Acts.{FlatOutcome, flat_act, leaves}
+use Rattle.csub_slots.specs.Seen.{exit_seen}
+use Rattle.csub_slots.specs.States.{state_of, FewValues, FitsMost}
 use Rattle.csub_slots.proofs.LawsBounds.{fits_most}
-use Rattle.csub_machine.proofs.Turns.{lives_room, can_act, ends_on, leaves_on, gives_on, pushes_on, pops_on}
+use Rattle.csub_machine.specs.Standings.{frame_of, Crosses}
+use Rattle.csub_machine.proofs.Turns.{can_act, ends_on, leaves_on, gives_on}
+use Rattle.csub_machine.proofs.Direct.{done, done_not, tested, tested_not, chosen, chosen_not}
 use Rattle.csub_machine.proofs.turn.take_turn.Goals as goal
 
-pub act-requires-clause-room : goal.act-requires-clause-room
-act-requires-clause-room c =
-    let P = program_tree c.args.program.now in
-    let below = c.args.frames.now.below in
-    let count : c.len.result ≡ length below.items = search rules in
-    let slots = length-map c.args.store.now.slots.items slot_seen in
-    let room = lives_room P c.args.flat.now.sizes.most c.requires.copies.most c.args.frames.now _ c.requires.frames in
-    let globals = c.requires.copies.globals in
-    let a : length c.args.store.now.slots.items ≤ c.args.flat.now.sizes.globals + (length below.items + 1) * c.args.flat.now.sizes.most = omega arith in
-    subst (λ (k : ℕ). length c.args.store.now.slots.items ≤ c.args.store.now.sizes.globals + (k + 1) * c.args.store.now.sizes.most) (sym count)
-    (subst (λ (z : Sizes). length c.args.store.now.slots.items ≤ z.globals + (length below.items + 1) * z.most) (sym c.requires.sizes) a)
-
-pub act-requires-clause-fits : goal.act-requires-clause-fits
-act-requires-clause-fits c =
+pub eval-requires : goal.eval-requires
+eval-requires c =
     let P = program_tree c.args.program.now in
     let n = c.args.frames.now.top.point in
     let copies = c.requires.copies in
     let count = copies.count in
     let inside : n < length c.args.flat.now.labels.items = omega (arith, c.requires.frames.top) in
     let k : IsCopyAt P n (label_seen c.index-label.result.now) = copies.copies n c.index-label.result.now inside c.index-label.ensures in
-    subst (λ (z : Sizes). FitsMost z.most (label_seen c.index-label.result.now)) (sym c.requires.sizes) (fits_most P k.function c.args.flat.now.sizes.most c.requires.graph.valid copies.most k.label (label_seen c.index-label.result.now) k.fits k.copy)
+    let fits : FitsMost c.args.flat.now.sizes.most (label_seen c.index-label.result.now) = fits_most P k.function c.args.flat.now.sizes.most c.requires.graph.valid copies.most k.label (label_seen c.index-label.result.now) k.fits k.copy in
+    subst (λ (l : FlatLabel). FitsMost c.args.flat.now.sizes.most (label_seen l)) c.in-Eval.is fits
+
+pub eval-requires-in-Branch : goal.eval-requires-in-Branch
+eval-requires-in-Branch c =
+    let P = program_tree c.args.program.now in
+    let n = c.args.frames.now.top.point in
+    let copies = c.requires.copies in
+    let count = copies.count in
+    let inside : n < length c.args.flat.now.labels.items = omega (arith, c.requires.frames.top) in
+    let k : IsCopyAt P n (label_seen c.index-label.result.now) = copies.copies n c.index-label.result.now inside c.index-label.ensures in
+    let fits : FitsMost c.args.flat.now.sizes.most (label_seen c.index-label.result.now) = fits_most P k.function c.args.flat.now.sizes.most c.requires.graph.valid copies.most k.label (label_seen c.index-label.result.now) k.fits k.copy in
+    subst (λ (l : FlatLabel). FitsMost c.args.flat.now.sizes.most (label_seen l)) c.in-Branch.is fits
+
+pub eval_operand-requires : goal.eval_operand-requires
+eval_operand-requires c =
+    let P = program_tree c.args.program.now in
+    let n = c.args.frames.now.top.point in
+    let copies = c.requires.copies in
+    let count = copies.count in
+    let inside : n < length c.args.flat.now.labels.items = omega (arith, c.requires.frames.top) in
+    let k : IsCopyAt P n (label_seen c.index-label.result.now) = copies.copies n c.index-label.result.now inside c.index-label.ensures in
+    let fits : FitsMost c.args.flat.now.sizes.most (label_seen c.index-label.result.now) = fits_most P k.function c.args.flat.now.sizes.most c.requires.graph.valid copies.most k.label (label_seen c.index-label.result.now) k.fits k.copy in
+    subst (λ (l : FlatLabel). FitsMost c.args.flat.now.sizes.most (label_seen l)) c.in-Switch.is fits
+
+pub returns-in-Next-clause-moves : goal.returns-in-Next-clause-moves
+returns-in-Next-clause-moves c s like =
+    let P = program_tree c.args.program.now in
+    let n = c.args.frames.now.top.point in
+    let copies = c.requires.copies in
+    let count = copies.count in
+    let inside : n < length c.args.flat.now.labels.items = omega (arith, c.requires.frames.top) in
+    let k : IsCopyAt P n (label_seen c.index-label.result.now) = copies.copies n c.index-label.result.now inside c.index-label.ensures in
+    let top = c.args.frames.now.top in
+    let cnt = length c.args.frames.now.below.items + 1 in
+    let same = ap (λ (l : FlatLabel). flat_act (label_seen l) cnt top.base top.result (state_of c.args.store.now)) c.in-Next.is in
+    let acts = same in
+    leaves_on P c.args.frames.now _ cnt c.requires.frames (can_act P c.requires.graph.valid c.args.flat.now copies c.args.frames.now _ c.requires.frames) (label_seen c.index-label.result.now) k s (state_of c.args.store.now) refl like next top.result (state_of c.args.store.now) acts
+    _ c.leave_by.result c.leave_by.ensures.moves refl c.leave_by.ensures.point c.leave_by.ensures.function c.leave_by.ensures.base
 
 pub returns-in-Err-clause-moves : goal.returns-in-Err-clause-moves
 returns-in-Err-clause-moves c s like =
@@ -49,72 +78,89 @@ returns-in-Err-clause-moves c s like =
     let count = copies.count in
     let inside : n < length c.args.flat.now.labels.items = omega (arith, c.requires.frames.top) in
     let k : IsCopyAt P n (label_seen c.index-label.result.now) = copies.copies n c.index-label.result.now inside c.index-label.ensures in
-    let counted : c.len.result ≡ length c.args.frames.now.below.items = search rules in
-    ends_on P c.args.frames.now _ (c.len.result + 1) c.requires.frames (can_act P c.requires.graph.valid c.args.flat.now copies c.args.frames.now _ c.requires.frames) (label_seen c.index-label.result.now) k s (state_of c.args.store.now) (ap (λ j. j + 1) counted) like (Trap c.in-Err.trap) (state_of c.act.new.store) c.in-Err.ensures.value
-
-pub returns-in-Ok-Ends-clause-moves : goal.returns-in-Ok-Ends-clause-moves
-returns-in-Ok-Ends-clause-moves c s like =
-    let P = program_tree c.args.program.now in
-    let n = c.args.frames.now.top.point in
-    let copies = c.requires.copies in
-    let count = copies.count in
-    let inside : n < length c.args.flat.now.labels.items = omega (arith, c.requires.frames.top) in
-    let k : IsCopyAt P n (label_seen c.index-label.result.now) = copies.copies n c.index-label.result.now inside c.index-label.ensures in
-    let counted : c.len.result ≡ length c.args.frames.now.below.items = search rules in
-    let acts = rw c.in-Ok-Ends.field-0-is at c.in-Ok-Ends.ensures.value in
-    ends_on P c.args.frames.now _ (c.len.result + 1) c.requires.frames (can_act P c.requires.graph.valid c.args.flat.now copies c.args.frames.now _ c.requires.frames) (label_seen c.index-label.result.now) k s (state_of c.args.store.now) (ap (λ j. j + 1) counted) like c.in-Ok-Ends.status (state_of c.act.new.store) acts
-
-pub returns-in-Ok-Leaves-clause-moves : goal.returns-in-Ok-Leaves-clause-moves
-returns-in-Ok-Leaves-clause-moves c s like =
-    let P = program_tree c.args.program.now in
-    let n = c.args.frames.now.top.point in
-    let copies = c.requires.copies in
-    let count = copies.count in
-    let inside : n < length c.args.flat.now.labels.items = omega (arith, c.requires.frames.top) in
-    let k : IsCopyAt P n (label_seen c.index-label.result.now) = copies.copies n c.index-label.result.now inside c.index-label.ensures in
-    let counted : c.len.result ≡ length c.args.frames.now.below.items = search rules in
-    let acts = rw c.in-Ok-Leaves.field-0-is at c.in-Ok-Leaves.ensures.value in
-    leaves_on P c.args.frames.now _ (c.len.result + 1) c.requires.frames (can_act P c.requires.graph.valid c.args.flat.now copies c.args.frames.now _ c.requires.frames) (label_seen c.index-label.result.now) k s (state_of c.args.store.now) (ap (λ j. j + 1) counted) like (exit_seen c.in-Ok-Leaves.exit) c.in-Ok-Leaves.given (state_of c.act.new.store) acts
-    _ c.leave_by.result c.leave_by.ensures.moves refl c.leave_by.ensures.point c.leave_by.ensures.function c.leave_by.ensures.base
-
-pub returns-in-Ok-Gives-clause-moves : goal.returns-in-Ok-Gives-clause-moves
-returns-in-Ok-Gives-clause-moves c s like =
-    let P = program_tree c.args.program.now in
-    let n = c.args.frames.now.top.point in
-    let copies = c.requires.copies in
-    let count = copies.count in
-    let inside : n < length c.args.flat.now.labels.items = omega (arith, c.requires.frames.top) in
-    let k : IsCopyAt P n (label_seen c.index-label.result.now) = copies.copies n c.index-label.result.now inside c.index-label.ensures in
-    let counted : c.len.result ≡ length c.args.frames.now.below.items = search rules in
-    let acts = rw c.in-Ok-Gives.field-0-is at c.in-Ok-Gives.ensures.value in
-    let fits : SFits w64 c.in-Ok-Gives.value = search rules in
     let top = c.args.frames.now.top in
-    let Moved : ℤ → Type 0 = λ v. (below : List Standing) (t : Held) → let x = exit_at (cases_of P n) v in Crosses P (cross (frame_of P top) below x top.result t ((flow_of P).succ (place_of P n).function (place_of P n).point x)) c.choose_by.result (record { frames = frame_of P c.choose_by.new.top ∷ below; store = t }) in
-    gives_on P c.args.frames.now _ (c.len.result + 1) c.requires.frames (can_act P c.requires.graph.valid c.args.flat.now copies c.args.frames.now _ c.requires.frames) (label_seen c.index-label.result.now) k s (state_of c.args.store.now) (ap (λ j. j + 1) counted) like c.in-Ok-Gives.value (state_of c.act.new.store) acts
-    _ c.choose_by.result (subst Moved (to_z-of_z w64 c.in-Ok-Gives.value fits) c.choose_by.ensures.moves) refl c.choose_by.ensures.point c.choose_by.ensures.function c.choose_by.ensures.base
+    let cnt = length c.args.frames.now.below.items + 1 in
+    let same = ap (λ (l : FlatLabel). flat_act (label_seen l) cnt top.base top.result (state_of c.args.store.now)) c.in-Eval.is in
+    let acts = same ∙ done_not (expr_seen c.in-Eval.expr) cnt top.base top.result (state_of c.args.store.now) (state_of c.eval.new.store) c.in-Err.trap c.in-Err.ensures.value in
+    ends_on P c.args.frames.now _ cnt c.requires.frames (can_act P c.requires.graph.valid c.args.flat.now copies c.args.frames.now _ c.requires.frames) (label_seen c.index-label.result.now) k s (state_of c.args.store.now) refl like (Trap c.in-Err.trap) (state_of c.eval.new.store) acts
 
-pub returns-in-Ok-Pushes-clause-moves : goal.returns-in-Ok-Pushes-clause-moves
-returns-in-Ok-Pushes-clause-moves c s like =
+pub returns-in-Ok-clause-moves : goal.returns-in-Ok-clause-moves
+returns-in-Ok-clause-moves c s like =
     let P = program_tree c.args.program.now in
     let n = c.args.frames.now.top.point in
     let copies = c.requires.copies in
     let count = copies.count in
     let inside : n < length c.args.flat.now.labels.items = omega (arith, c.requires.frames.top) in
     let k : IsCopyAt P n (label_seen c.index-label.result.now) = copies.copies n c.index-label.result.now inside c.index-label.ensures in
-    let counted : c.len.result ≡ length c.args.frames.now.below.items = search rules in
-    let acts = rw c.in-Ok-Pushes.field-0-is at c.in-Ok-Pushes.ensures.value in
-    pushes_on P c.args.frames.now _ (c.len.result + 1) c.requires.frames (can_act P c.requires.graph.valid c.args.flat.now copies c.args.frames.now _ c.requires.frames) (label_seen c.index-label.result.now) k s (state_of c.args.store.now) (ap (λ j. j + 1) counted) like c.in-Ok-Pushes.entry c.in-Ok-Pushes.begin (state_of c.act.new.store) acts
-    c.push_frame.new.frames c.push_frame.ensures.top c.push_frame.ensures.below
+    let top = c.args.frames.now.top in
+    let cnt = length c.args.frames.now.below.items + 1 in
+    let same = ap (λ (l : FlatLabel). flat_act (label_seen l) cnt top.base top.result (state_of c.args.store.now)) c.in-Eval.is in
+    let acts = same ∙ done (expr_seen c.in-Eval.expr) cnt top.base top.result (state_of c.args.store.now) (state_of c.eval.new.store) _ c.in-Ok.ensures.value in
+    leaves_on P c.args.frames.now _ cnt c.requires.frames (can_act P c.requires.graph.valid c.args.flat.now copies c.args.frames.now _ c.requires.frames) (label_seen c.index-label.result.now) k s (state_of c.args.store.now) refl like next top.result (state_of c.eval.new.store) acts
+    _ c.leave_by-in-Ok.result c.leave_by-in-Ok.ensures.moves refl c.leave_by-in-Ok.ensures.point c.leave_by-in-Ok.ensures.function c.leave_by-in-Ok.ensures.base
 
-pub returns-in-Some-clause-moves : goal.returns-in-Some-clause-moves
-returns-in-Some-clause-moves c s like =
+pub returns-in-Err-eval-clause-moves : goal.returns-in-Err-eval-clause-moves
+returns-in-Err-eval-clause-moves c s like =
     let P = program_tree c.args.program.now in
     let n = c.args.frames.now.top.point in
     let copies = c.requires.copies in
     let count = copies.count in
     let inside : n < length c.args.flat.now.labels.items = omega (arith, c.requires.frames.top) in
     let k : IsCopyAt P n (label_seen c.index-label.result.now) = copies.copies n c.index-label.result.now inside c.index-label.ensures in
-    let counted : c.len.result ≡ length c.args.frames.now.below.items = search rules in
-    let acts = rw c.in-Ok-Pops.field-0-is at c.in-Ok-Pops.ensures.value in
-    pops_on P c.args.frames.now _ (c.len.result + 1) c.requires.frames (can_act P c.requires.graph.valid c.args.flat.now copies c.args.frames.now _ c.requires.frames) (label_seen c.index-label.result.now) k s (state_of c.args.store.now) (ap (λ j. j + 1) counted) like c.in-Ok-Pops.given (state_of c.act.new.store) acts
-    c.in-Some.frame c.pop.new.self.items c.in-Some.ensures.items _ c.resume.result (state_of c.resume.new.store) c.resume.ensures.moves refl c.resume.ensures.point c.resume.ensures.base
+    let top = c.args.frames.now.top in
+    let cnt = length c.args.frames.now.below.items + 1 in
+    let same = ap (λ (l : FlatLabel). flat_act (label_seen l) cnt top.base top.result (state_of c.args.store.now)) c.in-Branch.is in
+    let acts = same ∙ tested_not (expr_seen c.in-Branch.expr) cnt top.base top.result (state_of c.args.store.now) (state_of c.eval-in-Branch.new.store) c.in-Err-eval.trap c.in-Err-eval.ensures.value in
+    ends_on P c.args.frames.now _ cnt c.requires.frames (can_act P c.requires.graph.valid c.args.flat.now copies c.args.frames.now _ c.requires.frames) (label_seen c.index-label.result.now) k s (state_of c.args.store.now) refl like (Trap c.in-Err-eval.trap) (state_of c.eval-in-Branch.new.store) acts
+
+pub returns-in-Ok-eval-clause-moves : goal.returns-in-Ok-eval-clause-moves
+returns-in-Ok-eval-clause-moves c s like =
+    let P = program_tree c.args.program.now in
+    let n = c.args.frames.now.top.point in
+    let copies = c.requires.copies in
+    let count = copies.count in
+    let inside : n < length c.args.flat.now.labels.items = omega (arith, c.requires.frames.top) in
+    let k : IsCopyAt P n (label_seen c.index-label.result.now) = copies.copies n c.index-label.result.now inside c.index-label.ensures in
+    let top = c.args.frames.now.top in
+    let cnt = length c.args.frames.now.below.items + 1 in
+    let same = ap (λ (l : FlatLabel). flat_act (label_seen l) cnt top.base top.result (state_of c.args.store.now)) c.in-Branch.is in
+    let v = c.in-Ok-eval.value in
+    let fits : SFits w64 v = search rules in
+    let along : exit_seen c.exit_by.result ≡ (if int_eq v (pos 0) then on_false else on_true) = subst (λ (w : ℤ). exit_seen c.exit_by.result ≡ (if int_eq w (pos 0) then on_false else on_true)) (to_z-of_z w64 v fits) c.exit_by.ensures in
+    let acts =
+    same ∙ tested (expr_seen c.in-Branch.expr) cnt top.base top.result (state_of c.args.store.now) (state_of c.eval-in-Branch.new.store) v c.in-Ok-eval.ensures.value
+    ∙ ap (λ (x : ExitTree). leaves x top.result (state_of c.eval-in-Branch.new.store)) (sym along) in
+    leaves_on P c.args.frames.now _ cnt c.requires.frames (can_act P c.requires.graph.valid c.args.flat.now copies c.args.frames.now _ c.requires.frames) (label_seen c.index-label.result.now) k s (state_of c.args.store.now) refl like (exit_seen c.exit_by.result) top.result (state_of c.eval-in-Branch.new.store) acts
+    _ c.leave_by-in-Ok-eval.result c.leave_by-in-Ok-eval.ensures.moves refl c.leave_by-in-Ok-eval.ensures.point c.leave_by-in-Ok-eval.ensures.function c.leave_by-in-Ok-eval.ensures.base
+
+pub returns-in-Err-eval_operand-clause-moves : goal.returns-in-Err-eval_operand-clause-moves
+returns-in-Err-eval_operand-clause-moves c s like =
+    let P = program_tree c.args.program.now in
+    let n = c.args.frames.now.top.point in
+    let copies = c.requires.copies in
+    let count = copies.count in
+    let inside : n < length c.args.flat.now.labels.items = omega (arith, c.requires.frames.top) in
+    let k : IsCopyAt P n (label_seen c.index-label.result.now) = copies.copies n c.index-label.result.now inside c.index-label.ensures in
+    let top = c.args.frames.now.top in
+    let cnt = length c.args.frames.now.below.items + 1 in
+    let same = ap (λ (l : FlatLabel). flat_act (label_seen l) cnt top.base top.result (state_of c.args.store.now)) c.in-Switch.is in
+    let acts = same ∙ chosen_not (expr_seen c.in-Switch.expr) cnt top.base top.result (state_of c.args.store.now) (state_of c.eval_operand.new.store) c.in-Err-eval_operand.trap c.in-Err-eval_operand.ensures.value in
+    ends_on P c.args.frames.now _ cnt c.requires.frames (can_act P c.requires.graph.valid c.args.flat.now copies c.args.frames.now _ c.requires.frames) (label_seen c.index-label.result.now) k s (state_of c.args.store.now) refl like (Trap c.in-Err-eval_operand.trap) (state_of c.eval_operand.new.store) acts
+
+pub returns-in-Ok-eval_operand-clause-moves : goal.returns-in-Ok-eval_operand-clause-moves
+returns-in-Ok-eval_operand-clause-moves c s like =
+    let P = program_tree c.args.program.now in
+    let n = c.args.frames.now.top.point in
+    let copies = c.requires.copies in
+    let count = copies.count in
+    let inside : n < length c.args.flat.now.labels.items = omega (arith, c.requires.frames.top) in
+    let k : IsCopyAt P n (label_seen c.index-label.result.now) = copies.copies n c.index-label.result.now inside c.index-label.ensures in
+    let top = c.args.frames.now.top in
+    let cnt = length c.args.frames.now.below.items + 1 in
+    let same = ap (λ (l : FlatLabel). flat_act (label_seen l) cnt top.base top.result (state_of c.args.store.now)) c.in-Switch.is in
+    let v = c.in-Ok-eval_operand.value in
+    let fits : SFits w64 v = search rules in
+    let Moved : ℤ → Type 0 = λ w. (below : List Standing) (t : Held) → let x = exit_at (cases_of P n) w in Crosses P (cross (frame_of P top) below x top.result t ((flow_of P).succ (place_of P n).function (place_of P n).point x)) c.choose_by.result (record { frames = frame_of P c.choose_by.new.top ∷ below; store = t }) in
+    let acts = same ∙ chosen (expr_seen c.in-Switch.expr) cnt top.base top.result (state_of c.args.store.now) (state_of c.eval_operand.new.store) v c.in-Ok-eval_operand.ensures.value in
+    gives_on P c.args.frames.now _ cnt c.requires.frames (can_act P c.requires.graph.valid c.args.flat.now copies c.args.frames.now _ c.requires.frames) (label_seen c.index-label.result.now) k s (state_of c.args.store.now) refl like v (state_of c.eval_operand.new.store) acts
+    _ c.choose_by.result (subst Moved (to_z-of_z w64 v fits) c.choose_by.ensures.moves) refl c.choose_by.ensures.point c.choose_by.ensures.function c.choose_by.ensures.base

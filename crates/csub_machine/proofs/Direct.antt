@@ -1,0 +1,29 @@
+-- The acts of labels that a turn does without an outcome.
+use Rattle.std.proofs.Common.{◌≡◌, ℕ, ℤ, pos, Option, if◌then◌else◌, ap}
+use Rattle.std.specs.Ordering.{int_eq}
+use Rattle.csub_semantics.specs.declared.status.Status.TheVariants.{Trap}
+use Rattle.csub_semantics.specs.Memory.{Answer, value, trapped}
+use Rattle.csub_semantics.specs.Evaluation.{eval}
+use Rattle.csub_semantics.specs.Points.{next, on_true, on_false}
+use Rattle.csub_flat.specs.Trees.{FlatExpr, does, tests, chooses}
+use Rattle.csub_slots.specs.Memory.{flat}
+use Rattle.csub_slots.specs.Acts.{FlatStore, FlatOutcome, flat_after, flat_act, leaves, gives, ends}
+
+module _ (e : FlatExpr) (n base : ℕ) (r : Option ℤ) (s t : FlatStore) where
+  pub done : (v : ℤ) → eval (flat base) e s ≡ value v t → flat_act (does e) n base r s ≡ leaves next r t
+  done v h = ap (λ (x : Answer ℤ FlatStore). flat_after x (λ w u. leaves next r u)) h
+
+  pub tested : (v : ℤ) → eval (flat base) e s ≡ value v t → flat_act (tests e) n base r s ≡ leaves (if int_eq v (pos 0) then on_false else on_true) r t
+  tested v h = ap (λ (x : Answer ℤ FlatStore). flat_after x (λ w u. leaves (if int_eq w (pos 0) then on_false else on_true) r u)) h
+
+  pub chosen : (v : ℤ) → eval (flat base) e s ≡ value v t → flat_act (chooses e) n base r s ≡ gives v t
+  chosen v h = ap (λ (x : Answer ℤ FlatStore). flat_after x gives) h
+
+  pub done_not : (q : _) → eval (flat base) e s ≡ trapped q t → flat_act (does e) n base r s ≡ ends (Trap q) t
+  done_not q h = ap (λ (x : Answer ℤ FlatStore). flat_after x (λ w u. leaves next r u)) h
+
+  pub tested_not : (q : _) → eval (flat base) e s ≡ trapped q t → flat_act (tests e) n base r s ≡ ends (Trap q) t
+  tested_not q h = ap (λ (x : Answer ℤ FlatStore). flat_after x (λ w u. leaves (if int_eq w (pos 0) then on_false else on_true) r u)) h
+
+  pub chosen_not : (q : _) → eval (flat base) e s ≡ trapped q t → flat_act (chooses e) n base r s ≡ ends (Trap q) t
+  chosen_not q h = ap (λ (x : Answer ℤ FlatStore). flat_after x gives) h
