@@ -1,11 +1,12 @@
 -- The acts of labels that a turn does without an outcome.
-use Rattle.std.proofs.Common.{◌≡◌, ℕ, ℤ, pos, Option, if◌then◌else◌, ap}
+use Rattle.std.proofs.Common.{◌≡◌, ℕ, ℤ, pos, Option, Some, if◌then◌else◌, ap}
 use Rattle.std.specs.Ordering.{int_eq}
+use Rattle.csub_types.specs.Kinds.{convert}
 use Rattle.csub_semantics.specs.declared.status.Status.TheVariants.{Trap}
-use Rattle.csub_semantics.specs.Memory.{Answer, value, trapped}
+use Rattle.csub_semantics.specs.Memory.{Answer, value, trapped, then_do}
 use Rattle.csub_semantics.specs.Evaluation.{eval}
 use Rattle.csub_semantics.specs.Points.{next, on_true, on_false}
-use Rattle.csub_flat.specs.Trees.{FlatExpr, does, tests, chooses}
+use Rattle.csub_flat.specs.Trees.{FlatExpr, does, tests, chooses, answers}
 use Rattle.csub_slots.specs.Memory.{flat}
 use Rattle.csub_slots.specs.Acts.{FlatStore, FlatOutcome, flat_after, flat_act, leaves, gives, ends}
 
@@ -27,3 +28,18 @@ module _ (e : FlatExpr) (n base : ℕ) (r : Option ℤ) (s t : FlatStore) where
 
   pub chosen_not : (q : _) → eval (flat base) e s ≡ trapped q t → flat_act (chooses e) n base r s ≡ ends (Trap q) t
   chosen_not q h = ap (λ (x : Answer ℤ FlatStore). flat_after x gives) h
+
+  -- what a return gives is converted to a kind
+  pub answered : (k : _) (v : ℤ) → then_do (eval (flat base) e s) (λ w u. value (convert k w) u) ≡ value v t → flat_act (answers k e) n base r s ≡ leaves next (Some v) t
+  answered k v h = pick (eval (flat base) e s) h
+    where
+      pick : (x : Answer ℤ FlatStore) → then_do x (λ w u. value (convert k w) u) ≡ value v t → flat_after x (λ w u. leaves next (Some (convert k w)) u) ≡ leaves next (Some v) t
+      pick (value w u) d = cc
+      pick (trapped q u) d = absurd (let f : ⊥ = cc in f)
+
+  pub answered_not : (k : _) (q : _) → then_do (eval (flat base) e s) (λ w u. value (convert k w) u) ≡ trapped q t → flat_act (answers k e) n base r s ≡ ends (Trap q) t
+  answered_not k q h = pick (eval (flat base) e s) h
+    where
+      pick : (x : Answer ℤ FlatStore) → then_do x (λ w u. value (convert k w) u) ≡ trapped q t → flat_after x (λ w u. leaves next (Some (convert k w)) u) ≡ ends (Trap q) t
+      pick (value w u) d = absurd (let f : ⊥ = cc in f)
+      pick (trapped p u) d = cc

@@ -23,7 +23,7 @@ use csub_core::Program;
 use csub_flat::{FlatLabel, FlatProgram};
 use csub_semantics::Status;
 use csub_slots::Store;
-use csub_slots::act::{Outcome, PlainExit, act, eval, eval_operand, put_result};
+use csub_slots::act::{Outcome, PlainExit, act, eval, eval_answer, eval_operand, put_result};
 use flow_graph::Graph;
 use std::mem;
 
@@ -223,6 +223,10 @@ pub fn take_turn(
         FlatLabel::Switch(expr) => match eval_operand(store, base, expr) {
             Err(trap) => Turn::Stops(Status::Trap(trap)),
             Ok(value) => choose_by(program, graph, flat, &mut frames.top, value),
+        },
+        FlatLabel::Return(kind, expr) => match eval_answer(store, base, *kind, expr) {
+            Err(trap) => Turn::Stops(Status::Trap(trap)),
+            Ok(given) => { leave_by(program, flat, &mut frames.top, PlainExit::Next, Some(given)) }
         },
         _ => take_any_turn(program, graph, flat, frames, store),
     }

@@ -1,13 +1,16 @@
 //! The acts of flat labels. Nothing here takes memory.
 ghost use Rattle.std.specs.Prelude.{◌≡◌, ◌+◌, ◌*◌, ◌<◌, ◌≤◌, ◌++◌, [], ◌∷◌, length, map, take, All, replicate, vec_len, vec_capacity};
 ghost use Rattle.csub_semantics.specs.declared.status.Status.TheVariants.{Exit};
-ghost use Rattle.csub_semantics.specs.Memory.{low_byte};
+ghost use Rattle.csub_types.specs.Kinds.{convert};
+ghost use Rattle.csub_semantics.specs.Evaluation.{eval};
+ghost use Rattle.csub_semantics.specs.Memory.{value, then_do, low_byte};
 ghost use Rattle.csub_slots.specs.declared.act.Outcome.TheVariants.{Ends};
 ghost use Rattle.csub_slots.specs.Layout as layout;
+ghost use Rattle.csub_slots.specs.Memory.{flat};
 ghost use Rattle.csub_slots.specs.Acts.{flat_act, flat_call, flat_exit, flat_given_slot, flat_arguments, flat_entered, flat_result};
-ghost use Rattle.csub_flat.specs.Seen.{variable_seen, given_seen, arg_seen, call_seen, label_seen};
+ghost use Rattle.csub_flat.specs.Seen.{variable_seen, expr_seen, given_seen, arg_seen, call_seen, label_seen};
 ghost use Rattle.csub_slots.specs.Seen.{slot_seen};
-ghost use Rattle.csub_slots.specs.States.{state_of, Gives, Acts, Keeps, FewInGiven, FitsMost};
+ghost use Rattle.csub_slots.specs.States.{state_of, Gives, same, Acts, Keeps, FewValues, FewInGiven, FitsMost};
 
 use crate::eval::{eval_variable, locate, put_at, put_slot};
 pub use crate::eval::{eval, eval_operand};
@@ -15,8 +18,8 @@ use crate::init::initialise;
 use crate::slot::Slot;
 use crate::spot::refer_to;
 use crate::store::Store;
-use csub_flat::{FlatArg, FlatCall, FlatGiven, FlatLabel, FlatVariable};
-use csub_semantics::{EndRule, Status, Trap};
+use csub_flat::{FlatArg, FlatCall, FlatExpr, FlatGiven, FlatLabel, FlatVariable};
+use csub_semantics::{EndRule, IntKind, Status, Trap};
 use csub_types::kind::convert;
 
 /// How many frames a run may have.
@@ -89,8 +92,8 @@ pub fn act(
             Ok(Outcome::Gives(value))
         }
         FlatLabel::Return(kind, expr) => {
-            let given = eval_operand(store, base, expr)?;
-            Ok(Outcome::Leaves(PlainExit::Next, Some(convert(*kind, given))))
+            let given = eval_answer(store, base, *kind, expr)?;
+            Ok(Outcome::Leaves(PlainExit::Next, Some(given)))
         }
         FlatLabel::Halt(expr) => {
             let value = eval(store, base, expr)?;
@@ -98,6 +101,22 @@ pub fn act(
         }
         FlatLabel::Call(call) => act_call(store, call, count, base),
     }
+}
+
+/// What a return gives for the frame at a base: a value, converted to a kind (C11 6.8.6.4).
+#[inline(always)]
+pub fn eval_answer(
+    store: &mut Store,
+    base: u32,
+    kind: IntKind,
+    expr: &FlatExpr,
+) -> Result<i64, Trap>
+    requires { FewValues (expr_seen expr.now) }
+    ensures value { Gives same (then_do (eval (flat base) (expr_seen expr.now) (state_of store.old)) (λ w u. value (convert kind w) u)) result (state_of store.new) }
+    ensures kept { Keeps store.old store.new }
+{
+    let given = eval_operand(store, base, expr)?;
+    Ok(convert(kind, given))
 }
 
 /// The end of the run with the low 8 bits of a value (C11 7.22.4.4).

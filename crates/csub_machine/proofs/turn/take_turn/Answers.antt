@@ -1,4 +1,4 @@
-use Rattle.std.proofs.Common.{ℤ, List, ◌∷◌, w64, ◌≡◌, ◌<◌, ◌+◌, ◌∙◌, ap, sym, subst, refl, pos, if◌then◌else◌, length, rules, arith}
+use Rattle.std.proofs.Common.{ℤ, List, ◌∷◌, w64, ◌≡◌, ◌<◌, ◌+◌, ◌∙◌, ap, sym, subst, refl, pos, Some, if◌then◌else◌, length, rules, arith}
 use Rattle.std.specs.Ordering.{int_eq}
 use Rattle.std.proofs.lemmas.Int.{to_z-of_z}
 use mir.Val.{SFits}
@@ -19,7 +19,7 @@ use Rattle.csub_slots.specs.States.{state_of, FewValues, FitsMost}
 use Rattle.csub_slots.proofs.LawsBounds.{fits_most}
 use Rattle.csub_machine.specs.Standings.{frame_of, Crosses}
 use Rattle.csub_machine.proofs.Turns.{can_act, ends_on, leaves_on, gives_on}
-use Rattle.csub_machine.proofs.Direct.{done, done_not, tested, tested_not, chosen, chosen_not}
+use Rattle.csub_machine.proofs.Direct.{done, done_not, tested, tested_not, chosen, chosen_not, answered, answered_not}
 use Rattle.csub_machine.proofs.turn.take_turn.Goals as goal
 
 pub eval-requires : goal.eval-requires
@@ -164,3 +164,46 @@ returns-in-Ok-eval_operand-clause-moves c s like =
     let acts = same ∙ chosen (expr_seen c.in-Switch.expr) cnt top.base top.result (state_of c.args.store.now) (state_of c.eval_operand.new.store) v c.in-Ok-eval_operand.ensures.value in
     gives_on P c.args.frames.now _ cnt c.requires.frames (can_act P c.requires.graph.valid c.args.flat.now copies c.args.frames.now _ c.requires.frames) (label_seen c.index-label.result.now) k s (state_of c.args.store.now) refl like v (state_of c.eval_operand.new.store) acts
     _ c.choose_by.result (subst Moved (to_z-of_z w64 v fits) c.choose_by.ensures.moves) refl c.choose_by.ensures.point c.choose_by.ensures.function c.choose_by.ensures.base
+
+pub eval_answer-requires : goal.eval_answer-requires
+eval_answer-requires c =
+    let P = program_tree c.args.program.now in
+    let n = c.args.frames.now.top.point in
+    let copies = c.requires.copies in
+    let count = copies.count in
+    let inside : n < length c.args.flat.now.labels.items = omega (arith, c.requires.frames.top) in
+    let k : IsCopyAt P n (label_seen c.index-label.result.now) = copies.copies n c.index-label.result.now inside c.index-label.ensures in
+    let fits : FitsMost c.args.flat.now.sizes.most (label_seen c.index-label.result.now) = fits_most P k.function c.args.flat.now.sizes.most c.requires.graph.valid copies.most k.label (label_seen c.index-label.result.now) k.fits k.copy in
+    subst (λ (l : FlatLabel). FitsMost c.args.flat.now.sizes.most (label_seen l)) c.in-Return.is fits
+
+pub returns-in-Err-eval_answer-clause-moves : goal.returns-in-Err-eval_answer-clause-moves
+returns-in-Err-eval_answer-clause-moves c s like =
+    let P = program_tree c.args.program.now in
+    let n = c.args.frames.now.top.point in
+    let copies = c.requires.copies in
+    let count = copies.count in
+    let inside : n < length c.args.flat.now.labels.items = omega (arith, c.requires.frames.top) in
+    let k : IsCopyAt P n (label_seen c.index-label.result.now) = copies.copies n c.index-label.result.now inside c.index-label.ensures in
+    let top = c.args.frames.now.top in
+    let cnt = length c.args.frames.now.below.items + 1 in
+    let same = ap (λ (l : FlatLabel). flat_act (label_seen l) cnt top.base top.result (state_of c.args.store.now)) c.in-Return.is in
+    let acts = same ∙ answered_not (expr_seen c.in-Return.expr) cnt top.base top.result (state_of c.args.store.now) (state_of c.eval_answer.new.store) c.in-Return.kind c.in-Err-eval_answer.trap c.in-Err-eval_answer.ensures.value in
+    ends_on P c.args.frames.now _ cnt c.requires.frames (can_act P c.requires.graph.valid c.args.flat.now copies c.args.frames.now _ c.requires.frames) (label_seen c.index-label.result.now) k s (state_of c.args.store.now) refl like (Trap c.in-Err-eval_answer.trap) (state_of c.eval_answer.new.store) acts
+
+pub returns-in-Ok-eval_answer-clause-moves : goal.returns-in-Ok-eval_answer-clause-moves
+returns-in-Ok-eval_answer-clause-moves c s like =
+    let P = program_tree c.args.program.now in
+    let n = c.args.frames.now.top.point in
+    let copies = c.requires.copies in
+    let count = copies.count in
+    let inside : n < length c.args.flat.now.labels.items = omega (arith, c.requires.frames.top) in
+    let k : IsCopyAt P n (label_seen c.index-label.result.now) = copies.copies n c.index-label.result.now inside c.index-label.ensures in
+    let top = c.args.frames.now.top in
+    let cnt = length c.args.frames.now.below.items + 1 in
+    let same = ap (λ (l : FlatLabel). flat_act (label_seen l) cnt top.base top.result (state_of c.args.store.now)) c.in-Return.is in
+    let v = c.in-Ok-eval_answer.given in
+    let fits : SFits w64 v = search rules in
+    let Moved : ℤ → Type 0 = λ w. (below : List Standing) (t : Held) → Crosses P (cross (frame_of P top) below next (Some w) t ((flow_of P).succ (place_of P n).function (place_of P n).point next)) c.leave_by-in-Ok-eval_answer.result (record { frames = frame_of P c.leave_by-in-Ok-eval_answer.new.top ∷ below; store = t }) in
+    let acts = same ∙ answered (expr_seen c.in-Return.expr) cnt top.base top.result (state_of c.args.store.now) (state_of c.eval_answer.new.store) c.in-Return.kind v c.in-Ok-eval_answer.ensures.value in
+    leaves_on P c.args.frames.now _ cnt c.requires.frames (can_act P c.requires.graph.valid c.args.flat.now copies c.args.frames.now _ c.requires.frames) (label_seen c.index-label.result.now) k s (state_of c.args.store.now) refl like next (Some v) (state_of c.eval_answer.new.store) acts
+    _ c.leave_by-in-Ok-eval_answer.result (subst Moved (to_z-of_z w64 v fits) c.leave_by-in-Ok-eval_answer.ensures.moves) refl c.leave_by-in-Ok-eval_answer.ensures.point c.leave_by-in-Ok-eval_answer.ensures.function c.leave_by-in-Ok-eval_answer.ensures.base
