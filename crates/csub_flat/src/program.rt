@@ -37,7 +37,6 @@ pub struct Sizes {
 }
 
 /// The flat copy of a program: a label and the ways out for each point, and how many slots a run takes.
-#[derive(Drop)]
 pub struct FlatProgram {
     /// The labels, by the numbers of their points.
     pub labels: Vec<FlatLabel>,
@@ -45,6 +44,16 @@ pub struct FlatProgram {
     pub ways: Vec<PointWays>,
     /// How many slots a run takes.
     pub sizes: Sizes,
+}
+
+impl Drop for FlatProgram {
+    fn drop(self) {
+        let FlatProgram {
+            labels: _,
+            ways: _,
+            sizes: _,
+        } = self;
+    }
 }
 
 /// The slot of the temporary that takes a result.

@@ -22,11 +22,20 @@ use std::marker::Model;
 use std::sync::ledger::Ledger;
 
 /// Labels with their numbers, which are given from 0 on. Contracts see the list of the labels.
-#[derive(Drop)]
 pub struct LabelBook {
     alloc: Global,
     tables: Tables,
     codes: IndexSet<Vec<u64>>,
+}
+
+impl Drop for LabelBook {
+    fn drop(self) {
+        let LabelBook {
+            alloc: _,
+            tables: _,
+            codes: _,
+        } = self;
+    }
 }
 
 impl Model for LabelBook {
