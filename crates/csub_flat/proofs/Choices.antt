@@ -14,7 +14,7 @@ use Rattle.program_laws.proofs.LawsFlows.{is_flow, edges_numbered}
 use Rattle.flow_graph.specs.Graph.{source_at}
 use Rattle.flow_graph.specs.declared.graph.WayOut.{WayOut}
 use Rattle.csub_flat.specs.Sites.{site_or, place_of}
-use Rattle.csub_flat.specs.Ways.{edge_along, cases_of, LeadsTo, LeadsNowhere, AreCases}
+use Rattle.csub_flat.specs.Ways.{edge_along, cases_of, LeadsTo, LeadsNowhere}
 use Rattle.csub_flat.specs.declared.ways.CaseWay.{CaseWay}
 use Rattle.csub_flat.proofs.LawsSites.{place_is}
 

@@ -4,7 +4,7 @@ use Rattle.std.specs.Option.{option_map, option_and_then, IfNone, IfSome}
 use Rattle.csub_objects.specs.Types.{Name}
 use Rattle.csub_semantics.specs.Syntax.{ProgramTree}
 use Rattle.csub_semantics.specs.Points.{PointTree, ExitTree}
-use Rattle.csub_semantics.specs.Flows.{Edge, point_list, edge_list, flow_of}
+use Rattle.csub_semantics.specs.Flows.{point_list, edge_list, flow_of}
 use Rattle.csub_semantics.specs.Numbers.{Site, site, site_at, edge_at}
 use Rattle.flow_graph.specs.Graph.{Tables, IsGraphOf, point_count, edge_count}
 use Rattle.flow_graph.specs.declared.graph.WayOut.{WayOut}

@@ -8,7 +8,7 @@ use Rattle.csub_semantics.specs.Evaluation.{eval}
 use Rattle.csub_semantics.specs.Points.{next, on_true, on_false}
 use Rattle.csub_flat.specs.Trees.{FlatExpr, does, tests, chooses, answers}
 use Rattle.csub_slots.specs.Memory.{flat}
-use Rattle.csub_slots.specs.Acts.{FlatStore, FlatOutcome, flat_after, flat_act, leaves, gives, ends}
+use Rattle.csub_slots.specs.Acts.{FlatStore, flat_after, flat_act, leaves, gives, ends}
 
 module _ (e : FlatExpr) (n base : ℕ) (r : Option ℤ) (s t : FlatStore) where
   pub done : (v : ℤ) → eval (flat base) e s ≡ value v t → flat_act (does e) n base r s ≡ leaves next r t

@@ -1,4 +1,4 @@
-use Rattle.std.proofs.Common.{◌≡◌, ◌≤◌, ◌∙◌, ◌++◌, ◌∷◌, [], List, map, length, length-append, arith, ap, sym, subst}
+use Rattle.std.proofs.Common.{◌≤◌, ◌∙◌, ◌∷◌, [], List, map, length, length-append, arith, ap, sym, subst}
 use Rattle.csub_semantics.specs.Types.{global_tree}
 use Rattle.csub_semantics.specs.Syntax.{program_tree}
 use Rattle.csub_flat.specs.Seen.{label_seen}

@@ -1,11 +1,10 @@
-use Rattle.std.proofs.Common.{◌≡◌, ◌<◌, ◌+◌, ◌∙◌, ◌++◌, ◌∷◌, [], ℕ, ℤ, List, All, length, Some, sym, ap, subst, Vec, Global, w64, rules, arith}
+use Rattle.std.proofs.Common.{◌≡◌, ◌<◌, ◌+◌, ◌∙◌, ◌++◌, ◌∷◌, [], ℤ, All, length, Some, sym, ap, subst, Vec, Global, w64, rules, arith}
 use mir.Val.{SFits}
 use Rattle.std.proofs.lemmas.Int.{to_z-of_z}
 use Rattle.std.proofs.lemmas.List.Elements.{All-push}
 use Rattle.csub_semantics.specs.Points.{exit_tree, on_case}
 use Rattle.csub_semantics.specs.Syntax.{program_tree}
-use Rattle.csub_semantics.specs.Flows.{Edge, point_list, edge_list}
-use Rattle.csub_semantics.specs.Numbers.{edge_at}
+use Rattle.csub_semantics.specs.Flows.{point_list, edge_list}
 use Rattle.flow_graph.specs.Graph.{source_at}
 use Rattle.flow_graph.specs.declared.graph.WayOut.{WayOut}
 use Rattle.flow_graph.proofs.LawsPlaces.{points_counted, edges_counted}

@@ -1,4 +1,4 @@
-use Rattle.std.proofs.Common.{◌≡◌, ◌++◌, ◌∷◌, [], length, length-append, arith, ap}
+use Rattle.std.proofs.Common.{◌∷◌, [], length, length-append, arith, ap}
 use Rattle.csub_semantics.specs.Syntax.{program_tree}
 use Rattle.csub_flat.specs.Ways.{AreWaysOut}
 use Rattle.csub_flat.proofs.Pushed.{pushed}

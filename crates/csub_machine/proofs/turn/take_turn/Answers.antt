@@ -13,9 +13,9 @@ use Rattle.csub_flat.specs.Ways.{cases_of}
 use Rattle.csub_flat.specs.Copies.{IsCopyAt}
 use Rattle.csub_flat.specs.Seen.{expr_seen, label_seen}
 use Rattle.csub_flat.specs.declared.flat.FlatLabel.{FlatLabel}
-use Rattle.csub_slots.specs.Acts.{FlatOutcome, flat_act, leaves}
+use Rattle.csub_slots.specs.Acts.{flat_act, leaves}
 use Rattle.csub_slots.specs.Seen.{exit_seen}
-use Rattle.csub_slots.specs.States.{state_of, FewValues, FitsMost}
+use Rattle.csub_slots.specs.States.{state_of, FitsMost}
 use Rattle.csub_slots.proofs.LawsBounds.{fits_most}
 use Rattle.csub_machine.specs.Standings.{frame_of, Crosses}
 use Rattle.csub_machine.proofs.Turns.{can_act, ends_on, leaves_on, gives_on}

@@ -1,6 +1,5 @@
-use Rattle.std.proofs.Common.{◌∙◌, ap, sym}
-use Rattle.csub_machine.specs.Moments.{Seen}
-use Rattle.csub_machine.proofs.WholeLemmas.{asked, whole_ended}
+use Rattle.std.proofs.Common.{◌∙◌, sym}
+use Rattle.csub_machine.proofs.WholeLemmas.{whole_ended}
 use Rattle.csub_machine.proofs.machine.Machine.run.Goals as goal
 
 pub returns-in-Some-clause-results : goal.returns-in-Some-clause-results
