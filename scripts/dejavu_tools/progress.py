@@ -33,7 +33,7 @@ class Progress:
     def begin(self) -> None:
         """Says what has to be proved."""
         count = len(self.libraries)
-        what = f"{count} crates, which takes most of an hour on four processors"
+        what = f"{count} crates, which takes half an hour to an hour on four processors"
         if UNKNOWN in self.state.values():
             what = f"what changed of {count} crates and what stands on it"
         say(f"dejavu: the program has to be built: proving {what}")
