@@ -1,7 +1,5 @@
 //! Faults of the files and of the output.
-use crate::files::{
-    ASSIGNED_SELECTION, EMPTY_HISTORY, FILES, files_of, owned_words, shelf_of, text_of,
-};
+use crate::files::{ASSIGNED, ASSIGNED_HISTORY, OTHER_BYTE, files_of, shelf_of, text_of, words_of};
 use dejavu_cli::{Status8, dejavu};
 use dv_outside::{FailingShelf, FailingSink, MemorySink, OpenGate};
 use std::alloc::Global;
@@ -9,14 +7,30 @@ use std::process::Abort;
 use std::test::Fail;
 use std::thread::Threads;
 
+/// The files that the words name.
+const FILES: &[(&str, &str)] = &[
+    ("empty", "int main(void) { }"),
+    ("one", "dejavu suite 1\ntest E 9 -\n"),
+    ("old", ASSIGNED),
+    ("new", OTHER_BYTE),
+    ("history", ASSIGNED_HISTORY),
+];
+
+/// What `record` writes of the first two.
+const EMPTY_HISTORY: &str =
+    "dejavu history 3\nsource 24243bfac9f6afa167d0b0fe14c3ac8b5b4e34d974861164ca11dfab4601216b\nedges 3\ntests 1\ntest E\nbudget 9\ninput -\nstatus exit 0\nturns 5\noutput -\ncrossed 07\nend 04369fb62ca113b872f362f482ef8eb348e2de27dcd9acf452f498304eecfa46\n";
+
+/// What `select` writes of the others.
+const SELECTION: &str = "left A\nrun B edge 5\nselected 1 of 2\n";
+
 /// The answer and the text of a command whose shelf fails at one call.
 fn answer_with_fault<R: Threads + Sync>(
     rt: &R,
     alloc: Global,
-    words: &[&str],
+    words: &str,
     call: u32,
 ) -> Result<(Status8, String), Fail> {
-    let words = owned_words(alloc, words)?;
+    let words = words_of(alloc, words)?;
     let mut shelf = FailingShelf::new(alloc, files_of(alloc, FILES)?, [call].to_vec(alloc)?);
     let mut out = MemorySink::new(alloc, 1000, 7)?;
     let status = dejavu(rt, alloc, &words, &mut shelf, &mut out, &OpenGate);
@@ -27,26 +41,25 @@ fn answer_with_fault<R: Threads + Sync>(
 fn fault_agrees<R: Threads + Abort + Sync>(
     rt: &R,
     alloc: Global,
-    words: &[&str],
+    words: &str,
     call: u32,
     (status, text): (Status8, &str),
 ) -> Result<(), Fail> {
     let (got, told) = answer_with_fault(rt, alloc, words, call)?;
     assert!(rt;
         got == status && told.as_str() == text,
-        "{words:?} gave {got:?} and {told}"
+        "{words} gave {got:?} and {told}"
     );
     Ok(())
 }
 
+const RECORD: &str = "record empty one";
+
 /// A selection of one test of two.
-const SELECT: &[&str] = &["select", "assigned", "other byte", "assigned history"];
+const SELECT: &str = "select old new history";
 
 /// Words, how many files they name, and the text where no call fails.
-const FILES_OF: &[(&[&str], u32, &str)] = &[
-    (&["record", "empty", "one"], 2, EMPTY_HISTORY),
-    (SELECT, 3, ASSIGNED_SELECTION),
-];
+const FILES_OF: &[(&str, u32, &str)] = &[(RECORD, 2, EMPTY_HISTORY), (SELECT, 3, SELECTION)];
 
 #[test]
 fn a_fault_at_any_of_the_files_is_a_read_fault(rt: HostRuntime) -> Result<(), Fail> {
@@ -65,11 +78,11 @@ fn a_fault_at_any_of_the_files_is_a_read_fault(rt: HostRuntime) -> Result<(), Fa
 fn answer_cut<R: Threads + Sync>(
     rt: &R,
     alloc: Global,
-    words: &[&str],
+    words: &str,
     call: u32,
 ) -> Result<(Status8, String), Fail> {
-    let words = owned_words(alloc, words)?;
-    let mut shelf = shelf_of(alloc, FILES)?;
+    let words = words_of(alloc, words)?;
+    let mut shelf = shelf_of(alloc, files_of(alloc, FILES)?)?;
     let mut out = FailingSink::new(alloc, 1000, 4, call)?;
     let status = dejavu(rt, alloc, &words, &mut shelf, &mut out, &OpenGate);
     Ok((status, text_of(alloc, out.bytes())?))
@@ -79,23 +92,20 @@ fn answer_cut<R: Threads + Sync>(
 fn cut_agrees<R: Threads + Abort + Sync>(
     rt: &R,
     alloc: Global,
-    words: &[&str],
+    words: &str,
     call: u32,
     beginning: &str,
 ) -> Result<(), Fail> {
     let (status, told) = answer_cut(rt, alloc, words, call)?;
     assert!(rt;
         status == Status8::WriteFault && told.as_str() == beginning,
-        "{words:?} gave {status:?} and {told}"
+        "{words} gave {status:?} and {told}"
     );
     Ok(())
 }
 
 /// Words, how many calls take the text of their command, and the text. The history has 240 bytes, and the selection 36.
-const CALLS: &[(&[&str], usize, &str)] = &[
-    (&["record", "empty", "one"], 60, EMPTY_HISTORY),
-    (SELECT, 9, ASSIGNED_SELECTION),
-];
+const CALLS: &[(&str, usize, &str)] = &[(RECORD, 60, EMPTY_HISTORY), (SELECT, 9, SELECTION)];
 
 #[test]
 fn a_fault_of_the_output_at_any_call_leaves_a_beginning_of_the_text(
@@ -113,7 +123,7 @@ fn a_fault_of_the_output_at_any_call_leaves_a_beginning_of_the_text(
 }
 
 /// Words, the call that fails, and what was taken before.
-const BEGINNINGS: &[(&[&str], u32, &str)] = &[(SELECT, 3, "left A\nr"), (&[], 2, "refu")];
+const BEGINNINGS: &[(&str, u32, &str)] = &[(SELECT, 3, "left A\nr"), ("", 2, "refu")];
 
 #[test]
 fn a_fault_of_the_output_leaves_a_beginning_of_the_text_or_the_line(

@@ -1,23 +1,25 @@
 //! What is told of generated pairs of sources.
-use crate::files::{answer_about, answers_agree};
+use crate::files::{Counter, answer_counted};
+use crate::script::script_agrees;
 use dejavu_cli::Status8;
 use std::alloc::Global;
 use std::process::Abort;
 use std::test::Fail;
 use std::thread::Threads;
 
-const SMALL: &[(&[&str], Status8, &str)] = &[
-    (
-        &["gen", "1", "1"],
-        Status8::Done,
-        "gen seed 1 size 1\nfunctions 2 points 16 edges 14 tests 4\ndangerous 1 selected 2 differ 2\n",
-    ),
-    (
-        &["gen", "2", "2"],
-        Status8::Done,
-        "gen seed 2 size 2\nfunctions 3 points 24 edges 22 tests 8\ndangerous 1 selected 8 differ 8\n",
-    ),
-];
+const SMALL: &str = "
+$ gen 1 1
+Done
+gen seed 1 size 1
+functions 2 points 16 edges 14 tests 4
+dangerous 1 selected 2 differ 2
+
+$ gen 2 2
+Done
+gen seed 2 size 2
+functions 3 points 24 edges 22 tests 8
+dangerous 1 selected 8 differ 8
+";
 
 // The old source has N functions and a `main` that calls each of them once. `#start` has three points and two edges. Each of
 // the N has its entry, its test, an assignment on either side, its `return` and its exit: 6 points, and 6 edges, since two leave
@@ -27,20 +29,20 @@ const SMALL: &[(&[&str], Status8, &str)] = &[
 // first pair, 95 and 1, which aren't greater than 149, and all 8 in the second.
 #[test]
 fn a_small_pair_is_measured(rt: HostRuntime) -> Result<(), Fail> {
-    answers_agree(&rt, rt.alloc(), &[], SMALL)
+    script_agrees(&rt, rt.alloc(), SMALL)
 }
 
 /// The text on what is made of a seed and a size begins so.
 fn generated_begins<R: Threads + Abort + Sync>(
     rt: &R,
     alloc: Global,
-    (seed, size): (&str, &str),
+    words: &str,
     beginning: &str,
 ) -> Result<(), Fail> {
-    let (status, text) = answer_about(rt, alloc, &[], &["gen", seed, size])?;
+    let (status, text) = answer_counted(rt, alloc, &Vec::new(alloc), words, &Counter::new())?;
     assert!(rt;
         status == Status8::Done && text.as_str().starts_with(beginning),
-        "{seed} {size} gave {text}"
+        "{words} gave {text}"
     );
     Ok(())
 }
@@ -49,10 +51,11 @@ fn generated_begins<R: Threads + Abort + Sync>(
 fn pairs_of_many_seeds_and_sizes_are_accepted(rt: HostRuntime) -> Result<(), Fail> {
     let largest =
         "gen seed 7 size 400\nfunctions 401 points 3208 edges 3206 tests 1600\ndangerous 1 ";
-    generated_begins(&rt, rt.alloc(), ("7", "400"), largest)?;
+    generated_begins(&rt, rt.alloc(), "gen 7 400", largest)?;
     for seed in ["0", "3", "1000", "65535"] {
         for size in ["1", "5", "40"] {
-            generated_begins(&rt, rt.alloc(), (seed, size), "gen seed ")?;
+            let words = format!(in rt.alloc(); "gen {seed} {size}")?;
+            generated_begins(&rt, rt.alloc(), words.as_str(), "gen seed ")?;
         }
     }
     Ok(())

@@ -5,6 +5,8 @@
 #[cfg(test)]
 mod carried;
 #[cfg(test)]
+mod causes;
+#[cfg(test)]
 mod claims;
 #[cfg(test)]
 mod entries;
@@ -25,11 +27,9 @@ mod migrations;
 #[cfg(test)]
 mod orders;
 #[cfg(test)]
-mod record;
-#[cfg(test)]
 mod reruns;
 #[cfg(test)]
-mod select;
+mod script;
 #[cfg(test)]
 mod selections;
 #[cfg(test)]
@@ -40,5 +40,7 @@ mod suites;
 mod usage;
 #[cfg(test)]
 mod walks;
+#[cfg(test)]
+mod word_counter;
 #[cfg(test)]
 mod workers;

@@ -1,6 +1,5 @@
 //! Any number of workers records the same history, and two of them are at work at the same time.
-use crate::files::{ASSIGNED, COUNTED, TWO, answer_about, answer_counted, recorded};
-use crate::orders::{DEEP, OTHER_CONDITION};
+use crate::files::{ASSIGNED, COUNTED, TWO, answer_counted, done, files_of, recorded};
 use dejavu_cli::Status8;
 use dv_outside::Gate;
 use sample_sources::WORD_COUNTER;
@@ -9,22 +8,6 @@ use std::process::Abort;
 use std::sync::atomic::{AtomicU64, Ordering};
 use std::test::Fail;
 use std::thread::Threads;
-
-/// The history by so many workers.
-fn history<R: Threads + Sync>(
-    rt: &R,
-    alloc: Global,
-    source: &str,
-    suite: &str,
-    workers: &str,
-) -> Result<String, Fail> {
-    let files = [("source", source), ("suite", suite)];
-    let words = ["record", "--workers", workers, "source", "suite"];
-    match answer_about(rt, alloc, &files, &words)? {
-        (Status8::Done, history) => Ok(history),
-        _ => Err("refused".into()),
-    }
-}
 
 /// Sources and suites.
 const RECORDED: &[(&str, &str)] = &[
@@ -36,9 +19,11 @@ const RECORDED: &[(&str, &str)] = &[
 #[test]
 fn any_number_of_workers_records_the_same(rt: HostRuntime) -> Result<(), Fail> {
     for &(source, suite) in RECORDED {
-        let one = history(&rt, rt.alloc(), source, suite, "1")?;
+        let files = [("source", source), ("suite", suite)];
+        let one = done(&rt, rt.alloc(), &files, "record --workers 1 source suite")?;
         for workers in ["2", "3", "64"] {
-            let more = history(&rt, rt.alloc(), source, suite, workers)?;
+            let words = format!(in rt.alloc(); "record --workers {workers} source suite")?;
+            let more = done(&rt, rt.alloc(), &files, words.as_str())?;
             assert!(rt; one.as_str() == more.as_str(), "{workers} workers");
         }
     }
@@ -100,12 +85,12 @@ fn two_workers_meet<R: Threads + Abort + Sync>(
     rt: &R,
     alloc: Global,
     texts: &[(&str, &str)],
-    words: &[&str],
+    words: &str,
     (first, second): (usize, usize),
     passed: u64,
 ) -> Result<(), Fail> {
     let gate = Marks::new(first, second);
-    let (status, _) = answer_counted(rt, alloc, texts, words, &gate)?;
+    let (status, _) = answer_counted(rt, alloc, &files_of(alloc, texts)?, words, &gate)?;
     let counts = (
         gate.passed.load(Ordering::SeqCst),
         gate.seen.load(Ordering::SeqCst),
@@ -117,24 +102,30 @@ fn two_workers_meet<R: Threads + Abort + Sync>(
 // Of two tests each worker has one; of twelve the first has those from 0 on and the second those from 6 on.
 #[test]
 fn two_workers_run_at_the_same_time(rt: HostRuntime) -> Result<(), Fail> {
-    let words = ["record", "source", "suite", "--workers=2"];
+    let words = "record source suite --workers=2";
     let files = [("source", ASSIGNED), ("suite", TWO)];
-    two_workers_meet(&rt, rt.alloc(), &files, &words, (0, 1), 2)?;
+    two_workers_meet(&rt, rt.alloc(), &files, words, (0, 1), 2)?;
     let files = [("source", WORD_COUNTER), ("suite", COUNTED)];
-    two_workers_meet(&rt, rt.alloc(), &files, &words, (0, 6), 12)
+    two_workers_meet(&rt, rt.alloc(), &files, words, (0, 6), 12)
 }
+
+const DEEP: &str =
+    "int f(int n) { if (n == 0) { return 1; } return f(n - 1); } int main(void) { if (getchar() == 65) { return f(3); } return 0; }";
+
+/// The same, with another condition in `main`.
+const OTHER_CONDITION: &str =
+    "int f(int n) { if (n == 0) { return 1; } return f(n - 1); } int main(void) { if (getchar() + 0 == 65) { return f(3); } return 0; }";
 
 // Both tests are selected. Each worker counts one of them for the first place, and one counts the other test again for the
 // second place.
 #[test]
 fn two_workers_count_at_the_same_time(rt: HostRuntime) -> Result<(), Fail> {
-    let alloc = rt.alloc();
-    let history = recorded(&rt, alloc, DEEP, TWO)?;
+    let history = recorded(&rt, rt.alloc(), DEEP, TWO)?;
     let files = [
         ("old", DEEP),
         ("new", OTHER_CONDITION),
         ("history", history.as_str()),
     ];
-    let words = ["order", "old", "new", "history", "--workers=2"];
-    two_workers_meet(&rt, alloc, &files, &words, (0, 1), 3)
+    let words = "order old new history --workers=2";
+    two_workers_meet(&rt, rt.alloc(), &files, words, (0, 1), 3)
 }
