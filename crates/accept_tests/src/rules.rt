@@ -1,5 +1,5 @@
 //! The first rule that a source breaks, by the rules of C11 and of the language, with the place and the text there.
-use crate::running::{answer, error_of};
+use crate::running::{answer, error_of, is_row};
 use csub_accept::SourceError;
 use std::alloc::Global;
 use std::process::Abort;
@@ -67,11 +67,6 @@ fn row_agrees(
     let found = found(rt, alloc, (before, head, rest, behind))?;
     assert!(rt; found.as_str().trim_end() == expected, "{row} gave {found}");
     Ok(())
-}
-
-/// Whether a line of a table is a row: it is none where it is empty or begins as a comment does.
-fn is_row(line: &str) -> bool {
-    !line.is_empty() && !line.starts_with("//")
 }
 
 /// Each row of a table, which has one in a line, agrees.

@@ -59,45 +59,78 @@ pub fn runs_agree(rt: &impl Abort, alloc: Global, rows: &[(&str, &str, &str)]) -
     Ok(())
 }
 
-/// A body of `main` behind items has these runs.
+/// Whether a line of a table is a row: it is none where it is empty or begins as a comment does.
+pub fn is_row(line: &str) -> bool {
+    !line.is_empty() && !line.starts_with("//")
+}
+
+/// A body of `main` behind items has this run.
 fn body_agrees(
     rt: &impl Abort,
     alloc: Global,
-    items: &str,
-    body: &str,
-    runs: &[Run<'_>],
+    (items, body): (&str, &str),
+    run: Run<'_>,
 ) -> Result<(), Fail> {
     let source = format!(in alloc; "{items} int main(void) {{ {body} }}")?;
-    for run in runs {
-        run_agrees(rt, alloc, source.as_str(), *run)?;
-    }
-    Ok(())
+    run_agrees(rt, alloc, source.as_str(), run)
 }
 
-/// Each table has items, and bodies of `main` that stand behind them, each with what its run without input shows.
-pub fn bodies_agree(
+/// A line `BODY => EXPECTED` tells the run of a body without input.
+fn untraced_agrees(rt: &impl Abort, alloc: Global, items: &str, line: &str) -> Result<(), Fail> {
+    let (body, expected) = line.split_once(" => ").ok_or("no row")?;
+    body_agrees(rt, alloc, (items, body), (b"", BUDGET, expected))
+}
+
+/// A line `INPUT" BUDGET => EXPECTED` tells a run of a body.
+fn traced_agrees(
     rt: &impl Abort,
     alloc: Global,
-    tables: &[(&str, &[(&str, &str)])],
+    source: (&str, &str),
+    line: &str,
 ) -> Result<(), Fail> {
-    for (items, rows) in tables {
-        for (body, expected) in *rows {
-            body_agrees(rt, alloc, items, body, &[(b"", BUDGET, *expected)])?;
+    let (run, expected) = line.split_once(" => ").ok_or("no row")?;
+    let (input, budget) = run.split_once("\" ").ok_or("no input")?;
+    let budget = budget.parse::<u32>().map_err(|_| "no budget")?;
+    let expected = expected.strip_suffix("none").unwrap_or(expected);
+    body_agrees(rt, alloc, source, (input.as_bytes(), budget, expected))
+}
+
+/// The first line of a text.
+pub fn first_line(text: &str) -> &str {
+    match text.split_once('\n') {
+        Some((line, _)) => line,
+        None => text,
+    }
+}
+
+/// The lines behind the first one, with the items that stand before their bodies, agree; the first one is the body of the runs.
+fn part_agrees(rt: &impl Abort, alloc: Global, items: &str, part: &str) -> Result<(), Fail> {
+    let body = first_line(part);
+    for line in part.lines().skip(1) {
+        if let Some(run) = line.strip_prefix("\"") {
+            traced_agrees(rt, alloc, (items, body), run)?;
+        } else if is_row(line) {
+            untraced_agrees(rt, alloc, items, line)?;
         }
     }
     Ok(())
 }
 
-/// The same of bodies with several runs.
-pub fn traced_agree(
-    rt: &impl Abort,
-    alloc: Global,
-    tables: &[(&str, &[(&str, &[(&[u8], u32, &str)])])],
-) -> Result<(), Fail> {
-    for (items, rows) in tables {
-        for (body, runs) in *rows {
-            body_agrees(rt, alloc, items, body, runs)?;
-        }
+/// The lines of a table, the first of which has the items.
+fn table_agrees(rt: &impl Abort, alloc: Global, table: &str) -> Result<(), Fail> {
+    let items = first_line(table);
+    for part in table.split("\nmain:") {
+        part_agrees(rt, alloc, items, part)?;
+    }
+    Ok(())
+}
+
+/// Runs in tables. `with: ITEMS` is what stands before `main` in the sources of the lines behind it. `BODY => EXPECTED` is a body of
+/// `main`, and what its run without input shows. `main: BODY` is one whose runs follow: `"INPUT" BUDGET => EXPECTED`, where `none`
+/// stands for no edges.
+pub fn bodies_agree(rt: &impl Abort, alloc: Global, tables: &str) -> Result<(), Fail> {
+    for table in tables.split("\nwith:") {
+        table_agrees(rt, alloc, table)?;
     }
     Ok(())
 }

@@ -1,33 +1,37 @@
-//! Whether programs are valid.
+//! Tables of programs, each said to be valid or not.
 use program_words::accepts;
 use std::alloc::Global;
 use std::process::Abort;
 use std::test::Fail;
 
-/// Each row has a text, and whether it is a valid program.
-pub fn agree(rt: &impl Abort, alloc: Global, rows: &[(&str, bool)]) -> Result<(), Fail> {
-    for (text, accepted) in rows {
-        assert!(rt; accepts(alloc, text)? == *accepted, "{text}");
+/// Each row of a table is a valid program or none, as it says.
+///
+/// A row is a line with words, which stand in place of the two dots of the line `with:` before it. It is valid behind a line
+/// `valid:`, and not behind a line `invalid:`. A line that begins with `#` says what the rows below it show.
+pub fn rows_agree(rt: &impl Abort, alloc: Global, table: &str) -> Result<(), Fail> {
+    let mut around = ("", "");
+    let mut is_valid = false;
+    for line in table.lines() {
+        if let Some(with) = line.strip_prefix("with: ") {
+            around = with.split_once("..").ok_or("no dots")?;
+        } else if line == "valid:" || line == "invalid:" {
+            is_valid = line == "valid:";
+        } else if !line.is_empty() && !line.starts_with('#') {
+            row_agrees(rt, alloc, around, line, is_valid)?;
+        }
     }
     Ok(())
 }
 
-/// Each row has a text between two others, and whether all three are a valid program.
-pub fn agree_inside(
+/// A row between what stands around it is a valid program or none, as is said.
+fn row_agrees(
     rt: &impl Abort,
     alloc: Global,
-    before: &str,
-    rows: &[(&str, bool)],
-    behind: &str,
+    (before, behind): (&str, &str),
+    row: &str,
+    is_valid: bool,
 ) -> Result<(), Fail> {
-    for (inner, accepted) in rows {
-        let text = format!(in alloc; "{before} {inner} {behind}")?;
-        assert!(rt; accepts(alloc, text.as_str())? == *accepted, "{inner}");
-    }
+    let text = format!(in alloc; "{before}{row}{behind}")?;
+    assert!(rt; accepts(alloc, text.as_str())? == is_valid, "{text}");
     Ok(())
-}
-
-/// Each row has statements, and whether they may be those of `main`.
-pub fn bodies_agree(rt: &impl Abort, alloc: Global, rows: &[(&str, bool)]) -> Result<(), Fail> {
-    agree_inside(rt, alloc, "start main {", rows, "}")
 }

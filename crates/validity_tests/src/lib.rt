@@ -7,16 +7,12 @@ mod accepting;
 #[cfg(test)]
 mod arrays;
 #[cfg(test)]
+mod functions;
+#[cfg(test)]
 mod globals;
 #[cfg(test)]
 mod jumps;
 #[cfg(test)]
 mod lists;
 #[cfg(test)]
-mod parts;
-#[cfg(test)]
 mod places;
-#[cfg(test)]
-mod tags;
-#[cfg(test)]
-mod validity;

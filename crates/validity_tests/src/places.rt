@@ -1,108 +1,69 @@
-//! Which places a program may name.
-use crate::accepting::agree_inside;
-use std::alloc::Global;
-use std::process::Abort;
+//! Which places a program may name, and that structs with one tag are alike (C11 6.7.2.3p1).
+use crate::accepting::rows_agree;
 use std::test::Fail;
 
-/// Each row has an expression, and whether `main` may evaluate it beside `int g[2][3];`.
-fn agree_beside_table(rt: &impl Abort, alloc: Global, rows: &[(&str, bool)]) -> Result<(), Fail> {
-    let behind = "} static:g:0:0:0:0:0:0 array:2 array:3 int";
-    agree_inside(rt, alloc, "start main { line eval", rows, behind)
-}
+const ROWS: &str = r#"
+# An element of an element of `int g[2][3]` is a number. The index may be any number, since whether it is below the length is
+# seen when it is evaluated.
+with: start main { line eval .. } static:g:0:0:0:0:0:0 array:2 array:3 int
+valid:
+    read element element global:g array:2 array:3 int 7 2
 
-// The index may be any number, since whether it is below the length is seen when it is evaluated.
-#[test]
-fn an_element_of_an_element_is_a_number(rt: HostRuntime) -> Result<(), Fail> {
-    agree_beside_table(
-        &rt,
-        rt.alloc(),
-        &[(
-            "read element element global:g array:2 array:3 int 7 2",
-            true,
-        )],
-    )
-}
+# A row of the table is no number, and a number has no elements.
+invalid:
+    read element global:g array:2 array:3 int 0
+    read global:g array:2 array:3 int
+    read element element element global:g array:2 array:3 int 0 0 0
 
-#[test]
-fn a_row_of_a_table_is_no_number(rt: HostRuntime) -> Result<(), Fail> {
-    agree_beside_table(
-        &rt,
-        rt.alloc(),
-        &[
-            ("read element global:g array:2 array:3 int 0", false),
-            ("read global:g array:2 array:3 int", false),
-        ],
-    )
-}
+# An index names declared objects alone: `h` is declared nowhere.
+invalid:
+    read element element global:g array:2 array:3 int read global:h int 0
 
-#[test]
-fn a_number_has_no_elements(rt: HostRuntime) -> Result<(), Fail> {
-    agree_beside_table(
-        &rt,
-        rt.alloc(),
-        &[(
-            "read element element element global:g array:2 array:3 int 0 0 0",
-            false,
-        )],
-    )
-}
+# An element of `struct pair g[2]` has the members that are declared.
+with: start main { line eval .. } static:g:0:0:0:0 array:2 struct:pair:2 member:x int member:y char
+valid:
+    putchar read dot:x element global:g array:2 struct:pair:2 member:x int member:y char 0
+    putchar read dot:y element global:g array:2 struct:pair:2 member:x int member:y char 0
+invalid:
+    putchar read dot:z element global:g array:2 struct:pair:2 member:x int member:y char 0
 
-// `h` is declared nowhere.
-#[test]
-fn an_index_names_declared_objects_alone(rt: HostRuntime) -> Result<(), Fail> {
-    agree_beside_table(
-        &rt,
-        rt.alloc(),
-        &[(
-            "read element element global:g array:2 array:3 int read global:h int 0",
-            false,
-        )],
-    )
-}
+# An array of structs has no members.
+invalid:
+    read dot:x global:g array:2 struct:pair:2 member:x int member:y char
 
-/// Each row has the words of an expression before and behind the place `g`, an object of the type `struct pair [2]`, and
-/// whether `main` may evaluate it.
-fn agree_beside_pairs(
-    rt: &impl Abort,
-    alloc: Global,
-    rows: &[(&str, &str, bool)],
-) -> Result<(), Fail> {
-    let pairs = "array:2 struct:pair:2 member:x int member:y char";
-    let behind = format!(in alloc; "}} static:g:0:0:0:0 {pairs}")?;
-    for (before, index, accepted) in rows {
-        let value = format!(in alloc; "{before} global:g {pairs}{index}")?;
-        let rows = [(value.as_str(), *accepted)];
-        agree_inside(rt, alloc, "start main { line eval", &rows, behind.as_str())?;
-    }
-    Ok(())
-}
+# A struct is not assigned to.
+valid:
+    set dot:x element global:g array:2 struct:pair:2 member:x int member:y char 0 1
+invalid:
+    set element global:g array:2 struct:pair:2 member:x int member:y char 0 1
+
+# Structs of one tag have the same members.
+with: start main { } static:g:0 struct:s:1 member:x int .. static:k:0 int
+valid:
+    static:h:0 struct:s:1 member:x int
+    static:h:0 struct:t:1 member:y char
+invalid:
+    static:h:0 struct:s:1 member:x char
+    static:h:0 struct:s:1 member:y int
+
+# So do structs inside types.
+with: start main { } static:g:0 array:1 struct:s:1 member:x int .. static:k:0 int
+valid:
+    static:h:0 struct:t:1 member:inner struct:s:1 member:x int
+invalid:
+    static:h:0 struct:t:1 member:inner struct:s:1 member:x char
+
+# So do those of functions and of file scope.
+with: start main { } function:work:void:0 .. { } static:g:0 struct:s:1 member:x int
+valid:
+    object:l:1 struct:s:1 member:x int
+    member:p loose struct:s:1 member:x int
+invalid:
+    object:l:1 struct:s:1 member:x char
+    member:p loose struct:s:1 member:x char
+"#;
 
 #[test]
-fn a_struct_has_the_members_that_it_declares(rt: HostRuntime) -> Result<(), Fail> {
-    agree_beside_pairs(
-        &rt,
-        rt.alloc(),
-        &[
-            ("putchar read dot:x element", " 0", true),
-            ("putchar read dot:y element", " 0", true),
-            ("putchar read dot:z element", " 0", false),
-        ],
-    )
-}
-
-#[test]
-fn an_array_of_structs_has_no_members(rt: HostRuntime) -> Result<(), Fail> {
-    agree_beside_pairs(&rt, rt.alloc(), &[("read dot:x", "", false)])
-}
-
-#[test]
-fn a_struct_is_not_assigned_to(rt: HostRuntime) -> Result<(), Fail> {
-    agree_beside_pairs(
-        &rt,
-        rt.alloc(),
-        &[
-            ("set dot:x element", " 0 1", true),
-            ("set element", " 0 1", false),
-        ],
-    )
+fn places_are_those_of_declared_types(rt: HostRuntime) -> Result<(), Fail> {
+    rows_agree(&rt, rt.alloc(), ROWS)
 }
