@@ -10,7 +10,7 @@ use Rattle.csub_types.specs.declared.kind.IntKind.{IntKind}
 use Rattle.csub_objects.specs.Types.{Name, TypeTree, number_type, array_type, struct_type, loose_type, MemberTrees, no_member, more_members, members_of}
 use Rattle.csub_objects.specs.Meaning.{type_tree, member_tree}
 use Rattle.csub_objects.specs.declared.types.Member.{Member}
-use Rattle.label_code.specs.Codes.{kind_number, name_code, type_code, members_code, numbered}
+use Rattle.label_code.specs.Codes.{name_code, type_code, members_code, numbered}
 use Rattle.edge_label.specs.Known.{AreOfTags, AreStructs}
 use Rattle.edge_label.specs.declared.structs.TagNumbers.{TagNumbers}
 use Rattle.edge_label.specs.Numbers.{HasEachOnce}
@@ -185,17 +185,17 @@ AppendsFirst structs all left old now =
 pub first_none : (structs : Table) (all : MemberTrees) (old : List ℕ) → AppendsFirst structs all all old old
 first_none structs all old new grown ns short = (ns, refl, short)
 
-pub first_more : (structs next : Table) (all left rest : MemberTrees) (x a : Name) (t : TypeTree) (old mid one named now : List ℕ) → left ≡ more_members x t rest
-    → AppendsFirst structs all left old mid → Extends structs next → one ≡ mid ++ 1 ∷ [] → named ≡ one ++ name_code a → a ≡ x → AppendsType next t named now → AppendsFirst next all rest old now
-first_more structs next all left rest x a t old mid one named now is before grows first second same h new grown ns rest_short =
+pub first_more : (structs next : Table) (all left rest : MemberTrees) (x a : Name) (t : TypeTree) (old mid named now : List ℕ) → left ≡ more_members x t rest
+    → AppendsFirst structs all left old mid → Extends structs next → named ≡ mid ++ 1 ∷ name_code a → a ≡ x → AppendsType next t named now → AppendsFirst next all rest old now
+first_more structs next all left rest x a t old mid named now is before grows begun same h new grown ns rest_short =
     let u = h.0 in
     let all_grown : Extends structs new = (grows.0 ++ grown.0, grown.1 ∙ ap (λ l. l ++ grown.0) grows.1 ∙ append_assoc structs grows.0 grown.0) in
     let left_short : AreShort new (more_members x t rest) (more_members x u ns) = (u, ns, refl, short_stays next new grown t u h.2, rest_short) in
     let whole = before new all_grown (more_members x u ns) (subst (λ ms. AreShort new ms (more_members x u ns)) (sym is) left_short) in
-    let begins : named ≡ (mid ++ 1 ∷ []) ++ name_code x = second ∙ ap (λ name. one ++ name_code name) same ∙ ap (λ l. l ++ name_code x) first in
+    let begins : named ≡ mid ++ 1 ∷ name_code x = begun ∙ ap (λ name. mid ++ 1 ∷ name_code name) same in
     let codes : now ++ members_code ns ≡ mid ++ members_code (more_members x u ns) =
-    ap (λ l. l ++ members_code ns) (h.1 ∙ ap (λ l. l ++ type_code u) begins) ∙ append_assoc ((mid ++ 1 ∷ []) ++ name_code x) (type_code u) (members_code ns)
-    ∙ append_assoc (mid ++ 1 ∷ []) (name_code x) (type_code u ++ members_code ns) ∙ append_assoc mid (1 ∷ []) (name_code x ++ (type_code u ++ members_code ns)) in
+    ap (λ l. l ++ members_code ns) (h.1 ∙ ap (λ l. l ++ type_code u) begins) ∙ append_assoc (mid ++ 1 ∷ name_code x) (type_code u) (members_code ns)
+    ∙ append_assoc mid (1 ∷ name_code x) (type_code u ++ members_code ns) in
     (whole.0, codes ∙ whole.1, whole.2)
 
 pub first_all : (structs : Table) (all left : MemberTrees) (old now new : List ℕ) → left ≡ no_member → AppendsFirst structs all left old now → new ≡ now ++ 0 ∷ [] → AppendsMembers structs all old new
@@ -217,21 +217,15 @@ tagged_at by_tag (d ∷ ms) (suc i) m within is tagged = tagged_at by_tag ms i m
 
 -- a type behind what was there
 module _ (structs : Table) (t : TypeTree) (old now new : List ℕ) where
-  pub number_appended : (k : IntKind) → t ≡ number_type k → now ≡ old ++ 0 ∷ [] → new ≡ now ++ kind_number k ∷ [] → AppendsType structs t old new
-  number_appended k is first last = (
-    number_type k,
-    last ∙ ap (λ l. l ++ kind_number k ∷ []) first ∙ append_assoc old (0 ∷ []) (kind_number k ∷ []),
-    subst (λ x. IsShort structs x (number_type k)) (sym is) refl,
-  )
+  pub number_appended : (k : IntKind) → t ≡ number_type k → new ≡ old ++ type_code (number_type k) → AppendsType structs t old new
+  number_appended k is last = (number_type k, last, subst (λ x. IsShort structs x (number_type k)) (sym is) refl)
 
-  pub array_appended : (e : TypeTree) (n m : ℕ) (mid : List ℕ) → t ≡ array_type e n → mid ≡ old ++ 1 ∷ [] → now ≡ mid ++ m ∷ [] → m ≡ n → AppendsType structs e now new → AppendsType structs t old new
-  array_appended e n m mid is first second same h =
-      let begins : now ≡ old ++ 1 ∷ n ∷ [] =
-      second ∙ ap (λ k. mid ++ k ∷ []) same ∙ ap (λ l. l ++ n ∷ []) first ∙ append_assoc old (1 ∷ []) (n ∷ []) in (
-        array_type h.0 n,
-        h.1 ∙ ap (λ l. l ++ type_code h.0) begins ∙ append_assoc old (1 ∷ n ∷ []) (type_code h.0),
-        subst (λ x. IsShort structs x (array_type h.0 n)) (sym is) (h.0, refl, h.2),
-      )
+  pub array_appended : (e : TypeTree) (n : ℕ) → t ≡ array_type e n → now ≡ old ++ 1 ∷ n ∷ [] → AppendsType structs e now new → AppendsType structs t old new
+  array_appended e n is begins h = (
+    array_type h.0 n,
+    h.1 ∙ ap (λ l. l ++ type_code h.0) begins ∙ append_assoc old (1 ∷ n ∷ []) (type_code h.0),
+    subst (λ x. IsShort structs x (array_type h.0 n)) (sym is) (h.0, refl, h.2),
+  )
 
   pub loose_appended : (e : TypeTree) → t ≡ loose_type e → now ≡ old ++ 3 ∷ [] → AppendsType structs e now new → AppendsType structs t old new
   loose_appended e is first h = (
@@ -275,4 +269,12 @@ pub tag_put : (structs : Table) (by_tag : Tags) (tags new : TagNumbers) (tag : N
 tag_put structs by_tag tags new tag ms s are declared has same puts = record {
   table = are.table;
   numbers = λ trusted. tag_added structs by_tag tags.by_tag.entries new.by_tag.entries tag s ms (are.numbers (subst IsTrue same trusted)) (declared trusted) has puts;
+}
+
+-- the same numbers by the same tags
+pub structs_same : (structs : Table) (by_tag : Tags) (tags new : TagNumbers) → AreStructs by_tag structs tags → new.by_tag.entries ≡ tags.by_tag.entries → new.trusted ≡ tags.trusted
+    → AreStructs by_tag structs new
+structs_same structs by_tag tags new are entries trust = record {
+  table = are.table;
+  numbers = λ trusted. subst (AreOfTags structs by_tag) (sym entries) (are.numbers (subst IsTrue trust trusted));
 }

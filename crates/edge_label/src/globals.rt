@@ -39,10 +39,7 @@ pub fn number_globals<'a>(
     ensures sound { AreTables tables.old → AreTables tables.new }
     ensures grows { Extend tables.old tables.new }
 {
-    let mut tags = TagNumbers {
-        trusted,
-        by_tag: HashMap::new(alloc),
-    };
+    let mut tags = TagNumbers::new(alloc, trusted);
     let mut numbers = GlobalNumbers {
         by_name: HashMap::new(alloc),
     };

@@ -15,7 +15,6 @@ use crate::table::{CodeTable, Tables};
 use csub_semantics::{Label, Owner};
 use label_code::{TypeUse, push_name, push_numbered, uses_of};
 use std::alloc::{AllocError, Global};
-use std::collections::HashMap;
 
 /// A label with the numbers of its types, from left to right.
 #[derive(Drop)]
@@ -117,10 +116,7 @@ fn number_use(alloc: Global, tables: &mut Tables, used: TypeUse<'_>) -> Result<u
     ensures sound { AreTables tables.old → AreTables tables.new }
     ensures grows { Extend tables.old tables.new }
 {
-    let mut tags = TagNumbers {
-        trusted: false,
-        by_tag: HashMap::new(alloc),
-    };
+    let mut tags = TagNumbers::new(alloc, false);
     number_type(alloc, tables, &mut tags, used)
 }
 
@@ -264,10 +260,7 @@ pub fn number_all_types<'a>(
     let mut known = TypeNumbers {
         names: CodeTable::new(alloc),
         numbers: Vec::new(alloc),
-        tags: TagNumbers {
-            trusted: true,
-            by_tag: HashMap::new(alloc),
-        },
+        tags: TagNumbers::new(alloc, true),
     };
     type_labels(alloc, tables, &mut known, labels)
 }

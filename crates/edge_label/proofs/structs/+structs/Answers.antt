@@ -1,31 +1,30 @@
-use Rattle.std.proofs.Common.{◌≡◌, ◌∙◌, ◌++◌, ◌∷◌, [], IsTrue, map, drop, refl, sym, ap, ap₂, subst, arith}
+use Rattle.std.proofs.Common.{◌≡◌, ◌∙◌, IsTrue, map, drop, refl, sym, ap, ap₂, subst, arith}
 use Rattle.std.proofs.lemmas.List.{drop_all}
 use Rattle.std.proofs.lemmas.Result.{IfOk-weaker, on_ok_weaker}
 use Rattle.csub_objects.specs.Codes.{type_size}
 use Rattle.csub_objects.specs.Meaning.{type_tree, member_tree}
 use Rattle.csub_objects.specs.Types.{array_type, struct_type, loose_type, members_of}
 use Rattle.csub_objects.proofs.LawsMembers.{member_falls}
-use Rattle.label_code.specs.Codes.{name_code}
 use Rattle.edge_label.specs.Uses.{IsTagged}
-use Rattle.edge_label.specs.declared.structs.TagNumbers.{TagNumbers}
-use Rattle.edge_label.proofs.StructLemmas.{first_none, number_appended, array_appended, loose_appended, struct_appended, struct_numbered, structs_numbered, known_struct, tag_put, first_more, first_all, left_more, tagged_at}
+use Rattle.edge_label.proofs.StructLemmas.{first_none, number_appended, array_appended, loose_appended, struct_appended, struct_numbered, structs_numbered, structs_same, known_struct, tag_put, first_more, first_all, left_more, tagged_at}
 use Rattle.edge_label.proofs.TableLemmas.{Extends-refl, Extends-added, Extends-trans}
 use Rattle.edge_label.proofs.structs.+structs.Goals as goal
 
-pub push_short-returns-in_ok-push-in-Num-2-clause-short : goal.push_short-returns-in_ok-push-in-Num-2-clause-short
-push_short-returns-in_ok-push-in-Num-2-clause-short t c = λ by_tag tagged structs.
-    number_appended c.args.structs.now (type_tree c.args.ctype.now) c.args.out.now.items c.push.new.self.items c.push-in-Num.new.self.items c.in-Num.kind (ap type_tree c.in-Num.is)
-    c.in_ok-push-in-Num.ensures.items (c.in_ok-push-in-Num-2.ensures.items ∙ ap (λ n. c.push.new.self.items ++ n ∷ []) c.kind_number.ensures)
+pub push_short-returns-in-Num-clause-short : goal.push_short-returns-in-Num-clause-short
+push_short-returns-in-Num-clause-short t c =
+    on_ok_weaker c.push_number.result
+    (λ last by_tag tagged structs. number_appended c.args.structs.now (type_tree c.args.ctype.now) c.args.out.now.items c.args.out.now.items c.push_number.new.out.items c.in-Num.kind
+    (ap type_tree c.in-Num.is) last)
+    c.push_number.ensures
 
-pub push_short-returns-in_ok-push-in-Array-2-clause-short : goal.push_short-returns-in_ok-push-in-Array-2-clause-short
-push_short-returns-in_ok-push-in-Array-2-clause-short t c =
+pub push_short-returns-in_ok-begin_array-in-Array-clause-short : goal.push_short-returns-in_ok-begin_array-in-Array-clause-short
+push_short-returns-in_ok-begin_array-in-Array-clause-short t c =
     let n = c.in-Array.length in
     let e = type_tree c.ctype.result.now in
     let is : type_tree c.args.ctype.now ≡ array_type e n = ap type_tree c.in-Array.is ∙ ap (λ x. array_type x n) (sym c.ctype.ensures) in
     on_ok_weaker c.push_short.result
-    (λ short by_tag tagged structs. array_appended c.push_short.new.structs (type_tree c.args.ctype.now) c.args.out.now.items c.push-in-Array-2.new.self.items c.push_short.new.out.items e n c.from.result c.push-in-Array.new.self.items is
-    c.in_ok-push-in-Array.ensures.items c.in_ok-push-in-Array-2.ensures.items c.from.ensures
-    (short by_tag (λ trusted. subst (IsTagged by_tag) is (tagged trusted)) structs))
+    (λ short by_tag tagged structs. array_appended c.push_short.new.structs (type_tree c.args.ctype.now) c.args.out.now.items c.begin_array.new.out.items c.push_short.new.out.items e n is
+    c.in_ok-begin_array-in-Array.ensures (short by_tag (λ trusted. subst (IsTagged by_tag) is (tagged trusted)) structs))
     c.push_short.ensures.short
 
 pub push_short-returns-in_ok-number-in-Struct-clause-short : goal.push_short-returns-in_ok-number-in-Struct-clause-short
@@ -45,7 +44,7 @@ push_short-returns-in_ok-push-in-Loose-clause-short t c =
     let e = type_tree c.ctype-in-Loose.result.now in
     let is : type_tree c.args.ctype.now ≡ loose_type e = ap type_tree c.in-Loose.is ∙ ap loose_type (sym c.ctype-in-Loose.ensures) in
     on_ok_weaker c.push_short-in-Loose.result
-    (λ short by_tag tagged structs. loose_appended c.push_short-in-Loose.new.structs (type_tree c.args.ctype.now) c.args.out.now.items c.push-in-Loose.new.self.items c.push_short-in-Loose.new.out.items e is
+    (λ short by_tag tagged structs. loose_appended c.push_short-in-Loose.new.structs (type_tree c.args.ctype.now) c.args.out.now.items c.push.new.self.items c.push_short-in-Loose.new.out.items e is
     c.in_ok-push-in-Loose.ensures.items (short by_tag (λ trusted. subst (IsTagged by_tag) is (tagged trusted)) structs))
     c.push_short-in-Loose.ensures.short
 
@@ -70,9 +69,9 @@ push_short_members-loop-member-preserved t c =
       short = λ by_tag tagged structs.
           let its : IsTrue c.loop-member.tags.trusted → IsTagged by_tag (type_tree member.ctype) = λ trusted. tagged_at by_tag c.args.members.now i member c.loop-member-test.true c.member-item.is (tagged (subst IsTrue c.loop-member.invariant.trusted trusted)) in
           let h = c.in_ok-push_short.ensures.short by_tag its (c.loop-member.invariant.structs by_tag tagged structs) in
-          first_more c.loop-member.structs c.push_short.new.structs all _ _ member.name c.bytes.result.now (type_tree member.ctype) c.args.out.now.items c.loop-member.out.items c.push.new.self.items
-          c.push_name.new.out.items c.push_short.new.out.items (left_more c.args.members.now i member c.loop-member-test.true c.member-item.is) (c.loop-member.invariant.short by_tag tagged structs)
-          c.in_ok-push_short.ensures.grows c.in_ok-push.ensures.items c.in_ok-push_name.ensures c.bytes.ensures h;
+          first_more c.loop-member.structs c.push_short.new.structs all _ _ member.name c.bytes.result.now (type_tree member.ctype) c.args.out.now.items c.loop-member.out.items
+          c.begin_member.new.out.items c.push_short.new.out.items (left_more c.args.members.now i member c.loop-member-test.true c.member-item.is) (c.loop-member.invariant.short by_tag tagged structs)
+          c.in_ok-push_short.ensures.grows c.in_ok-begin_member.ensures c.bytes.ensures h;
       structs = λ by_tag tagged structs.
           let its : IsTrue c.loop-member.tags.trusted → IsTagged by_tag (type_tree member.ctype) = λ trusted. tagged_at by_tag c.args.members.now i member c.loop-member-test.true c.member-item.is (tagged (subst IsTrue c.loop-member.invariant.trusted trusted)) in
           c.in_ok-push_short.ensures.structs by_tag its (c.loop-member.invariant.structs by_tag tagged structs);
@@ -84,7 +83,7 @@ pub push_short_members-returns-clause-short : goal.push_short_members-returns-cl
 push_short_members-returns-clause-short t c = λ by_tag tagged structs.
     let left = ap (λ ms. members_of (map member_tree ms)) (drop_all c.loop-member.member-index c.args.members.now c.loop-member-test.false) in
     first_all c.loop-member.structs (members_of (map member_tree c.args.members.now)) (members_of (map member_tree (drop c.loop-member.member-index c.args.members.now)))
-    c.args.out.now.items c.loop-member.out.items c.push-2.new.self.items left (c.loop-member.invariant.short by_tag tagged structs) c.in_ok-push-2.ensures.items
+    c.args.out.now.items c.loop-member.out.items c.push.new.self.items left (c.loop-member.invariant.short by_tag tagged structs) c.in_ok-push.ensures.items
 
 pub find_struct-returns-in-Some-clause-number : goal.find_struct-returns-in-Some-clause-number
 find_struct-returns-in-Some-clause-number t c = λ by_tag tagged structs.
@@ -92,64 +91,50 @@ find_struct-returns-in-Some-clause-number t c = λ by_tag tagged structs.
 
 pub find_struct-returns-clause-structs : goal.find_struct-returns-clause-structs
 find_struct-returns-clause-structs t c = λ by_tag tagged structs.
-    let found = c.number_struct.new.tags in
-    let new : TagNumbers = record { trusted = found.trusted; by_tag = c.insert.new.self } in
     let before = c.in_ok-number.ensures.structs by_tag (λ trusted. (tagged trusted).1) structs in
     let has = c.in_ok-number.ensures.number by_tag (λ trusted. (tagged trusted).1) structs in
-    tag_put c.number_struct.new.structs by_tag found new c.args.tag.now (members_of (map member_tree c.args.members.now)) c.in_ok-number.number before
-    (λ trusted. (tagged (subst IsTrue c.in_ok-number.ensures.trusted trusted)).0) has refl
-    (λ name. c.in_ok-insert.ensures.updates.0 (record { ref_ptr = c.args.tag.ref_ptr; now = name }))
+    let trust = c.keep_number.ensures.trusted in
+    tag_put c.number_struct.new.structs by_tag c.number_struct.new.tags c.keep_number.new.tags c.args.tag.now (members_of (map member_tree c.args.members.now)) c.in_ok-number.number before
+    (λ trusted. (tagged (subst IsTrue (trust ∙ c.in_ok-number.ensures.trusted) trusted)).0) has trust c.in_ok-keep_number.ensures.kept
+
+pub find_struct-returns-in_err-keep_number-clause-structs : goal.find_struct-returns-in_err-keep_number-clause-structs
+find_struct-returns-in_err-keep_number-clause-structs t c = λ by_tag tagged structs.
+    structs_same c.number_struct.new.structs by_tag c.number_struct.new.tags c.keep_number.new.tags
+    (c.in_ok-number.ensures.structs by_tag (λ trusted. (tagged trusted).1) structs) c.in_err-keep_number.ensures.same c.keep_number.ensures.trusted
 
 pub number_struct-returns-clause-number : goal.number_struct-returns-clause-number
 number_struct-returns-clause-number t c =
-    let begins = c.in_ok-push_name.ensures ∙ ap (λ l. l ++ name_code c.args.tag.now) (c.in_ok-push.ensures.items ∙ ap (λ l. l ++ 2 ∷ []) c.new-code.ensures.items) in
     IfOk-weaker c.number.result _ _
-    (λ n at by_tag tagged structs. struct_numbered c.push_short_members.new.structs c.number.new.self c.args.tag.now (members_of (map member_tree c.args.members.now)) c.push_name.new.out.items
-    c.push_short_members.new.out.items begins (c.in_ok-push_short_members.ensures.short by_tag tagged structs) c.number.ensures.adds n at)
+    (λ n at by_tag tagged structs. struct_numbered c.push_short_members.new.structs c.number.new.self c.args.tag.now (members_of (map member_tree c.args.members.now)) c.in_ok-code.code.items
+    c.push_short_members.new.out.items c.in_ok-code.ensures (c.in_ok-push_short_members.ensures.short by_tag tagged structs) c.number.ensures.adds n at)
     c.number.ensures.number
 
 pub number_struct-returns-clause-structs : goal.number_struct-returns-clause-structs
 number_struct-returns-clause-structs t c = λ by_tag tagged structs.
-    let begins = c.in_ok-push_name.ensures ∙ ap (λ l. l ++ name_code c.args.tag.now) (c.in_ok-push.ensures.items ∙ ap (λ l. l ++ 2 ∷ []) c.new-code.ensures.items) in
-    structs_numbered c.push_short_members.new.structs c.number.new.self c.args.tag.now (members_of (map member_tree c.args.members.now)) c.push_name.new.out.items
-    c.push_short_members.new.out.items begins (c.in_ok-push_short_members.ensures.short by_tag tagged structs) c.number.ensures.adds by_tag c.push_short_members.new.tags
+    structs_numbered c.push_short_members.new.structs c.number.new.self c.args.tag.now (members_of (map member_tree c.args.members.now)) c.in_ok-code.code.items
+    c.push_short_members.new.out.items c.in_ok-code.ensures (c.in_ok-push_short_members.ensures.short by_tag tagged structs) c.number.ensures.adds by_tag c.push_short_members.new.tags
     (c.in_ok-push_short_members.ensures.structs by_tag tagged structs) c.number.ensures.once
 
-pub push_short-returns-in_err-push-in-Num-clause-grows : goal.push_short-returns-in_err-push-in-Num-clause-grows
-push_short-returns-in_err-push-in-Num-clause-grows t c = Extends-refl c.args.structs.now
-
-pub push_short-returns-in_err-push-in-Num-2-clause-grows : goal.push_short-returns-in_err-push-in-Num-2-clause-grows
-push_short-returns-in_err-push-in-Num-2-clause-grows t c = Extends-refl c.args.structs.now
-
-pub push_short-returns-in_err-push-in-Array-clause-grows : goal.push_short-returns-in_err-push-in-Array-clause-grows
-push_short-returns-in_err-push-in-Array-clause-grows t c = Extends-refl c.args.structs.now
-
-pub push_short-returns-in_err-push-in-Array-2-clause-grows : goal.push_short-returns-in_err-push-in-Array-2-clause-grows
-push_short-returns-in_err-push-in-Array-2-clause-grows t c = Extends-refl c.args.structs.now
+pub push_short-returns-in_err-begin_array-in-Array-clause-grows : goal.push_short-returns-in_err-begin_array-in-Array-clause-grows
+push_short-returns-in_err-begin_array-in-Array-clause-grows t c = Extends-refl c.args.structs.now
 
 pub push_short-returns-in_err-push-in-Loose-clause-grows : goal.push_short-returns-in_err-push-in-Loose-clause-grows
 push_short-returns-in_err-push-in-Loose-clause-grows t c = Extends-refl c.args.structs.now
 
-pub push_short-returns-in_ok-push-in-Num-2-clause-grows : goal.push_short-returns-in_ok-push-in-Num-2-clause-grows
-push_short-returns-in_ok-push-in-Num-2-clause-grows t c = Extends-refl c.args.structs.now
+pub push_short-returns-in-Num-clause-grows : goal.push_short-returns-in-Num-clause-grows
+push_short-returns-in-Num-clause-grows t c = Extends-refl c.args.structs.now
 
 pub find_struct-returns-in-Some-clause-grows : goal.find_struct-returns-in-Some-clause-grows
 find_struct-returns-in-Some-clause-grows t c = Extends-refl c.args.structs.now
 
-pub number_struct-returns-in_err-push-clause-grows : goal.number_struct-returns-in_err-push-clause-grows
-number_struct-returns-in_err-push-clause-grows t c = Extends-refl c.args.structs.now
+pub number_struct-returns-in_err-code-clause-grows : goal.number_struct-returns-in_err-code-clause-grows
+number_struct-returns-in_err-code-clause-grows t c = Extends-refl c.args.structs.now
 
-pub number_struct-returns-in_err-push_name-clause-grows : goal.number_struct-returns-in_err-push_name-clause-grows
-number_struct-returns-in_err-push_name-clause-grows t c = Extends-refl c.args.structs.now
+pub push_short_members-returns-in_err-begin_member-clause-grows : goal.push_short_members-returns-in_err-begin_member-clause-grows
+push_short_members-returns-in_err-begin_member-clause-grows t c = c.loop-member.invariant.grows
 
 pub push_short_members-returns-in_err-push-clause-grows : goal.push_short_members-returns-in_err-push-clause-grows
 push_short_members-returns-in_err-push-clause-grows t c = c.loop-member.invariant.grows
-
-pub push_short_members-returns-in_err-push_name-clause-grows : goal.push_short_members-returns-in_err-push_name-clause-grows
-push_short_members-returns-in_err-push_name-clause-grows t c = c.loop-member.invariant.grows
-
-pub push_short_members-returns-in_err-push-2-clause-grows : goal.push_short_members-returns-in_err-push-2-clause-grows
-push_short_members-returns-in_err-push-2-clause-grows t c = c.loop-member.invariant.grows
 
 pub push_short_members-returns-clause-grows : goal.push_short_members-returns-clause-grows
 push_short_members-returns-clause-grows t c = c.loop-member.invariant.grows

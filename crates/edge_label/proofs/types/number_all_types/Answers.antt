@@ -1,4 +1,4 @@
-use Rattle.std.proofs.Common.{true, subst₂, sym}
+use Rattle.std.proofs.Common.{subst₂, sym}
 use Rattle.std.proofs.lemmas.Result.{IfOk-weaker}
 use Rattle.edge_label.specs.declared.structs.TagNumbers.{TagNumbers}
 use Rattle.edge_label.specs.Known.{AreStructs, AreKnown}
@@ -9,10 +9,10 @@ use Rattle.edge_label.proofs.types.number_all_types.Goals.{After-drop-known-6}
 
 -- no tag is known at first
 abbrev tags : After-drop-known-6 → TagNumbers
-tags c = record { trusted = true; by_tag = c.new-3.result }
+tags c = c.new-3.result
 
 structs : (c : After-drop-known-6) → AreTables c.args.tables.now → AreStructs c.requires.declared.0.by_tag c.args.tables.now.structs (tags c)
-structs c sound = no_tags c.args.tables.now.structs c.requires.declared.0.by_tag (tags c) c.new-3.ensures.empty sound.structs
+structs c sound = no_tags c.args.tables.now.structs c.requires.declared.0.by_tag (tags c) c.new-3.ensures.none sound.structs
 
 pub returns-clause-typed : goal.returns-clause-typed
 returns-clause-typed c =
