@@ -150,3 +150,12 @@ entry_is version text r1 r2 r3 rest entry test same one two three results =
     lines_cons text (value_line (codes "test") entry.test.name) r1 rest (drop 1 (entry_lines version entry)) (one ∙ ap (λ (t : TestParts). value_line (codes "test") t.name ++ 10 ∷ r1) (sym same))
     (lines_cons r1 (value_line (codes "budget") (decimal entry.test.budget)) r2 rest (drop 2 (entry_lines version entry)) (two ∙ ap (λ (t : TestParts). value_line (codes "budget") (decimal t.budget) ++ 10 ∷ r2) (sym same))
     (lines_cons r2 (value_line (codes "input") (bytes_or_dash entry.test.input)) r3 rest (drop 3 (entry_lines version entry)) (three ∙ ap (λ (t : TestParts). value_line (codes "input") (bytes_or_dash t.input) ++ 10 ∷ r3) (sym same)) results))
+
+-- and of what its run gave
+pub results_are : (version : Version) (text r1 r2 r3 rest : List ℕ) (entry : EntryParts) → text ≡ line_of_words (codes "status" ∷ status_words entry.status) ++ 10 ∷ r1 → r1 ≡ value_line (codes "turns") (decimal entry.turns) ++ 10 ∷ r2
+    → r2 ≡ value_line (codes "output") (bytes_or_dash entry.output) ++ 10 ∷ r3 → r3 ≡ crossed_line version entry.crossed ++ 10 ∷ rest → text ≡ text_of_lines (drop 3 (entry_lines version entry)) ++ rest
+results_are version text r1 r2 r3 rest entry four five six seven =
+    lines_cons text (line_of_words (codes "status" ∷ status_words entry.status)) r1 rest (drop 4 (entry_lines version entry)) four
+    (lines_cons r1 (value_line (codes "turns") (decimal entry.turns)) r2 rest (drop 5 (entry_lines version entry)) five
+    (lines_cons r2 (value_line (codes "output") (bytes_or_dash entry.output)) r3 rest (drop 6 (entry_lines version entry)) six
+    (lines_cons r3 (crossed_line version entry.crossed) rest rest [] seven refl)))

@@ -4,7 +4,7 @@ use Rattle.std.specs.Fmt.{decimal}
 use Rattle.std.specs.List.{All, AllPairs, Contains, flat_map, slice_get}
 use Rattle.std.proofs.Math.Seq.{get_or-append_seam}
 use Rattle.std.proofs.lemmas.Fmt.{decimal_injective}
-use Rattle.std.proofs.lemmas.List.{get_or_append_left, get_or_default, length-map, map-append}
+use Rattle.std.proofs.lemmas.List.{drop_more, get_or_append_left, get_or_default, length-map, map-append}
 use Rattle.std.proofs.lemmas.List.Concat.{flat_map-append}
 use Rattle.std.proofs.lemmas.List.Quantifiers.{all_pairs_push}
 use Rattle.std.proofs.lemmas.List.Elements.{All-head, All-tail}
@@ -13,6 +13,7 @@ use Rattle.csub_core.specs.Valid.{most_edges}
 use Rattle.line_text.specs.Lines.{text_of_lines, HasLine}
 use Rattle.test_suite.specs.Suites.{most_tests}
 use Rattle.test_history.specs.declared.version.Version.{Version}
+use Rattle.test_history.specs.declared.version.Version.TheVariants.{Third}
 use Rattle.test_history.specs.Causes.{IsOfOther}
 use Rattle.test_history.specs.declared.fault.Fault.{Fault}
 use Rattle.test_history.specs.declared.fault.Fault.TheVariants.{Broken, Memory}
@@ -254,3 +255,15 @@ before_is version text digest r1 rest edges tests entries head cut count =
     head.is ∙ ap (λ r. text_of_lines (head_lines version digest edges tests) ++ r) cut
     ∙ sym (append_assoc (text_of_lines (head_lines version digest edges tests)) (text_of_lines (flat_map (entry_lines version) entries)) rest)
     ∙ ap (λ n. (text_of_lines (head_lines version digest edges n) ++ text_of_lines (flat_map (entry_lines version) entries)) ++ rest) (sym count)
+
+-- a text to which the entries before a place are written, and the one that stands there
+pub entry_written : (old new : List ℕ) (entries : List EntryParts) (place : ℕ) (entry : EntryParts) → place < length entries → entry ≡ get_or entries place entry → new ≡ old ++ text_of_lines (entry_lines Third entry)
+    → new ++ text_of_lines (flat_map (entry_lines Third) (drop (place + 1) entries)) ≡ old ++ text_of_lines (flat_map (entry_lines Third) (drop place entries))
+entry_written old new entries place entry within is put =
+    let later = flat_map (entry_lines Third) (drop (place + 1) entries) in
+    let left : drop place entries ≡ entry ∷ drop (place + 1) entries = drop_more entries place entry within ∙ ap (λ e. e ∷ drop (place + 1) entries) (sym is) in
+    let joined : text_of_lines (entry_lines Third entry) ++ text_of_lines later ≡ text_of_lines (entry_lines Third entry ++ later) =
+    ap (λ rest. text_of_lines (entry_lines Third entry) ++ rest) (sym (append-nil (text_of_lines later)))
+    ∙ sym (lines_append (entry_lines Third entry) later []) ∙ append-nil (text_of_lines (entry_lines Third entry ++ later)) in
+    ap (λ text. text ++ text_of_lines later) put ∙ append_assoc old (text_of_lines (entry_lines Third entry)) (text_of_lines later)
+    ∙ ap (λ rest. old ++ rest) (joined ∙ ap (λ es. text_of_lines (flat_map (entry_lines Third) es)) (sym left))

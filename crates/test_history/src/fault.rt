@@ -1,15 +1,12 @@
 //! Why lines are refused.
 use std::alloc::AllocError;
-use thiserror::Error;
 
 /// Why the lines at hand are refused.
-#[derive(Clone, Copy, Debug, Error)]
+#[derive(Clone, Copy)]
 pub enum Fault {
     /// The first that breaks a rule, counted from 1 at the first line at hand, and the least such rule.
-    #[error("line {0} breaks rule {1}")]
     Broken(u8, u8),
     /// Memory ran out.
-    #[error("out of memory")]
     Memory,
 }
 

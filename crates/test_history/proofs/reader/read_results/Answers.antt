@@ -1,6 +1,7 @@
 use Rattle.std.proofs.Common.{◌≡◌, ◌≤◌, ◌∙◌, ℕ, codes, subst, arith}
 use Rattle.line_text.specs.Values.{HasNumber}
-use Rattle.test_history.proofs.EntryLemmas.{no_status, no_turns, no_output, no_crossed, status_line, turns_line, output_line}
+use Rattle.test_history.specs.Histories.{EntryParts}
+use Rattle.test_history.proofs.EntryLemmas.{no_status, no_turns, no_output, no_crossed, status_line, turns_line, output_line, results_are}
 use Rattle.test_history.proofs.reader.read_results.Goals as goal
 
 pub returns-in_default-clause-fault : goal.returns-in_default-clause-fault
@@ -39,3 +40,18 @@ returns-clause-good c =
       row = crossed.0;
       bytes = record { input = c.requires.bytes; status = c.in-Some.ensures.0; output = output.0 };
     })
+
+pub returns-clause-rest : goal.returns-clause-rest
+returns-clause-rest c =
+    let output = rw c.in-Some-2.is at c.in_ok-output.ensures in
+    let crossed = rw c.in-Some-3.is at c.in_ok-crossed.ensures in
+    let entry : EntryParts = record {
+      test = c.args.test;
+      status = c.in-Some.status;
+      turns = c.in-Some-read_number_line.turns;
+      output = c.in-Some-2.output.items;
+      crossed = c.in-Some-3.crossed;
+    } in
+    rw c.new-entry.ensures
+    (results_are c.args.version c.args.text.now c.in-Some.rest.now c.in-Some-read_number_line.rest.now c.in-Some-2.rest.now c.in-Some-3.rest.now entry c.in-Some.ensures.1
+    c.in-Some-read_number_line.ensures.1 output.2 crossed.1)
