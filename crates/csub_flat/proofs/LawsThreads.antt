@@ -10,6 +10,7 @@ use Rattle.csub_flat.specs.contracts.flat.FlatGiven as FlatGiven
 use Rattle.csub_flat.specs.contracts.flat.FlatLabel as FlatLabel
 use Rattle.csub_flat.specs.contracts.flat.FlatPlace as FlatPlace
 use Rattle.csub_flat.specs.contracts.flat.FlatWrite as FlatWrite
+use Rattle.csub_flat.specs.contracts.program.FlatPoint as FlatPoint
 use Rattle.csub_flat.specs.contracts.program.FlatProgram as FlatProgram
 
 FlatExpr-sync : IsSync FlatExpr.the_field.row
@@ -33,5 +34,8 @@ FlatWrite-sync = search (FlatExpr-sync, crosses, sendable) depth 60
 FlatLabel-sync : IsSync FlatLabel.the_field.row
 FlatLabel-sync = search (FlatExpr-sync, FlatWrite-sync, FlatCall-sync, crosses, sendable) depth 60
 
+FlatPoint-sync : IsSync FlatPoint.the_field.row
+FlatPoint-sync = search (FlatLabel-sync, maps, crosses, sendable) depth 60
+
 pub FlatProgram-sync : IsSync FlatProgram.the_row
-FlatProgram-sync = search (FlatLabel-sync, maps, crosses, sendable) depth 60
+FlatProgram-sync = search (FlatPoint-sync, maps, crosses, sendable) depth 60

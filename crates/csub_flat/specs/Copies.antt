@@ -8,14 +8,14 @@ use Rattle.csub_semantics.specs.Labels.{AnswerTree, CallTree}
 use Rattle.csub_semantics.specs.Syntax.{FunctionTree, ProgramTree}
 use Rattle.csub_semantics.specs.Flows.{point_list, function_of}
 use Rattle.csub_flat.specs.Sites.{place_of, HasLabel, IsEntry}
-use Rattle.csub_flat.specs.Ways.{AreWays}
+use Rattle.csub_flat.specs.Ways.{AreWaysOut}
 use Rattle.csub_flat.specs.Frames.{objects_size, frame_size, globals_of}
 use Rattle.csub_flat.specs.Trees.{FlatCall, FlatLabel, goes_on, leaves_by, does, begins, tests, chooses, answers, enters_callee}
 use Rattle.csub_flat.specs.Trees as the
 use Rattle.csub_flat.specs.Flatten.{flat_variable, variable_slot, flattened, flat_writes, paired, temp_slot}
 use Rattle.csub_flat.specs.Fits.{FitsLabel}
 use Rattle.csub_flat.specs.Seen.{label_seen}
-use Rattle.csub_flat.specs.declared.flat.FlatLabel.{FlatLabel as Label}
+use Rattle.csub_flat.specs.declared.program.FlatPoint.{FlatPoint}
 use Rattle.csub_flat.specs.declared.program.FlatProgram.{FlatProgram}
 
 -- the copy of a call, where the callee is known
@@ -62,11 +62,15 @@ first_in (f ∷ rest) = frame_size f
 abbrev pub first_size : ProgramTree → ℕ
 first_size P = first_in P.functions
 
--- a copy and the ways out for each point, the count of the globals' slots, and no frame larger than the greatest
+-- the point with a number: the copy of its label, and its ways out
+pub record IsPointAt (P : ProgramTree) (n : ℕ) (m : FlatPoint) : Type 0 where
+  pub copy : IsCopyAt P n (label_seen m.label)
+  pub ways : AreWaysOut P n m.ways
+
+-- each point, the count of the globals' slots, and no frame larger than the greatest
 pub record IsFlatOf (P : ProgramTree) (flat : FlatProgram) : Type 0 where
-  pub count : length flat.labels.items ≡ length (point_list P)
-  pub copies : (n : ℕ) (m : Label) → n < length flat.labels.items → m ≡ slice_index_or flat.labels.items n m → IsCopyAt P n (label_seen m)
-  pub ways : AreWays P flat.ways.items
+  pub count : length flat.points.items ≡ length (point_list P)
+  pub each : (n : ℕ) (m : FlatPoint) → n < length flat.points.items → m ≡ slice_index_or flat.points.items n m → IsPointAt P n m
   pub globals : flat.sizes.globals ≡ objects_size (globals_of P)
   pub most : All (λ f. frame_size f ≤ flat.sizes.most) P.functions
   pub few : flat.sizes.globals ≤ 65536

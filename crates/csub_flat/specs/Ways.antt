@@ -1,5 +1,5 @@
 -- Where ways out lead, by numbers.
-use Rattle.std.specs.Prelude.{ℕ, ℤ, ◌≡◌, ◌≢◌, ◌<◌, List, length, All, Option, Some, None, IfSome, IfNone, slice_index_or}
+use Rattle.std.specs.Prelude.{ℕ, ℤ, ◌≡◌, ◌≢◌, ◌<◌, List, length, All, Option, Some, None, IfSome, IfNone}
 use Rattle.csub_semantics.specs.Points.{ExitTree, next, on_true, on_false, on_case, on_default}
 use Rattle.csub_semantics.specs.Syntax.{ProgramTree}
 use Rattle.csub_semantics.specs.Flows.{point_list, Edge, edge_list, flow_of}
@@ -47,8 +47,3 @@ pub record AreWaysOut (P : ProgramTree) (n : ℕ) (ways : PointWays) : Type 0 wh
   pub if_false : IsWay P n on_false ways.on_false
   pub otherwise : IsWay P n (on_default (cases_of P n)) ways.otherwise
   pub cases : IfSome ways.cases (λ rows. AreCases P n rows.items)
-
--- those of each point
-pub record AreWays (P : ProgramTree) (ways : List PointWays) : Type 0 where
-  pub count : length ways ≡ length (point_list P)
-  pub each : (n : ℕ) (w : PointWays) → n < length ways → w ≡ slice_index_or ways n w → AreWaysOut P n w

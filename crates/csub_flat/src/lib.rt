@@ -28,5 +28,5 @@ pub use flat::{
     FlatArg, FlatCall, FlatConst, FlatExpr, FlatGiven, FlatLabel, FlatLocal, FlatPart, FlatPlace,
     FlatVariable, FlatWrite, Form,
 };
-pub use program::{FlatProgram, Sizes, first_slots, flatten_program};
+pub use program::{FlatPoint, FlatProgram, Sizes, first_slots, flatten_program};
 pub use ways::{CaseWay, PointWays, way_along};

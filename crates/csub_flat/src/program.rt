@@ -11,7 +11,7 @@ ghost use Rattle.csub_flat.specs.Objects.{AreFramesOf};
 ghost use Rattle.csub_flat.specs.Scopes.{program_at, function_at};
 ghost use Rattle.csub_flat.specs.Fits.{FitsCall, FitsLabel};
 ghost use Rattle.csub_flat.specs.Flatten.{temp_slot};
-ghost use Rattle.csub_flat.specs.Copies.{IsFlat, IsFlatCall, IsCopyAt, IsFlatOf, first_size};
+ghost use Rattle.csub_flat.specs.Copies.{IsFlat, IsFlatCall, IsCopyAt, IsPointAt, IsFlatOf, first_size};
 ghost use Rattle.csub_flat.specs.Seen.{call_seen, label_seen};
 
 use crate::flat::{FlatCall, FlatLabel};
@@ -20,7 +20,7 @@ use crate::frame::{Frame, frame_slots, list_frames};
 use crate::globals::{globals_size, number_globals};
 use crate::inits::flatten_begin;
 use crate::scope::Scope;
-use crate::ways::{PointWays, list_ways};
+use crate::ways::{PointWays, ways_of};
 use csub_core::Program;
 use csub_semantics::{Answer, CallLabel, IntKind, Label, Text};
 use flow_graph::Graph;
@@ -36,12 +36,19 @@ pub struct Sizes {
     pub most: u32,
 }
 
-/// The flat copy of a program: a label and the ways out for each point, and how many slots a run takes.
+/// A point. What a turn looks at stands in one row.
+#[derive(Drop)]
+pub struct FlatPoint {
+    /// What is done there.
+    pub label: FlatLabel,
+    /// The ways out.
+    pub ways: PointWays,
+}
+
+/// The flat copy of a program: its points, and how many slots a run takes.
 pub struct FlatProgram {
-    /// The labels, by the numbers of their points.
-    pub labels: Vec<FlatLabel>,
-    /// The ways out of the points, by their numbers.
-    pub ways: Vec<PointWays>,
+    /// The points, by their numbers.
+    pub points: Vec<FlatPoint>,
     /// How many slots a run takes.
     pub sizes: Sizes,
 }
@@ -49,8 +56,7 @@ pub struct FlatProgram {
 impl Drop for FlatProgram {
     fn drop(self) {
         let FlatProgram {
-            labels: _,
-            ways: _,
+            points: _,
             sizes: _,
         } = self;
     }
@@ -156,6 +162,26 @@ fn flatten_point(
     flatten_label(alloc, graph, scope, graph.label_at(point))
 }
 
+/// A point with its ways out. An `Err` is want of memory.
+fn make_point(
+    alloc: Global,
+    program: &Program,
+    graph: &Graph,
+    slots: &BTreeMap<Text, u32>,
+    frames: &[Frame],
+    point: u32,
+) -> Result<FlatPoint, AllocError>
+    requires graph { IsGraphOf graph.now (program_tree program.now) }
+    requires slots { AreSlotsOf (globals_of (program_tree program.now)) slots.now }
+    requires frames { AreFramesOf (program_tree program.now).functions frames.now }
+    requires point { point < length (point_list (program_tree program.now)) }
+    ensures { IfOk result (IsPointAt (program_tree program.now) point) }
+{
+    let ways = ways_of(alloc, program, graph, point)?;
+    let label = flatten_point(alloc, program, graph, slots, frames, point)?;
+    Ok(FlatPoint { label, ways })
+}
+
 /// How many slots a frame of a program has at most.
 fn greatest_frame(program: &Program) -> u32
     ensures most { All (λ f. frame_size f ≤ result) (program_tree program.now).functions }
@@ -183,20 +209,15 @@ pub fn flatten_program(
     let globals = program.globals();
     let slots = number_globals(alloc, globals)?;
     let frames = list_frames(alloc, program)?;
-    let ways = list_ways(alloc, program, graph)?;
-    let mut labels = Vec::new(alloc);
+    let mut points = Vec::new(alloc);
     for point in 0..graph.points() {
-        labels.push(flatten_point(alloc, program, graph, &slots, &frames, point)?)?;
+        points.push(make_point(alloc, program, graph, &slots, &frames, point)?)?;
     }
     let sizes = Sizes {
         globals: globals_size(globals),
         most: greatest_frame(program),
     };
-    Ok(FlatProgram {
-        labels,
-        ways,
-        sizes,
-    })
+    Ok(FlatProgram { points, sizes })
 }
 
 /// How many slots a frame of the first function has.

@@ -4,7 +4,7 @@ ghost use Rattle.csub_semantics.specs.Points.{exit_tree, on_default};
 ghost use Rattle.csub_semantics.specs.Flows.{point_list};
 ghost use Rattle.csub_semantics.specs.Syntax.{program_tree};
 ghost use Rattle.flow_graph.specs.Graph.{IsGraphOf};
-ghost use Rattle.csub_flat.specs.Ways.{cases_of, LeadsNowhere, LeadsTo, AreCases, AreWaysOut, AreWays};
+ghost use Rattle.csub_flat.specs.Ways.{cases_of, LeadsNowhere, LeadsTo, AreCases, AreWaysOut};
 
 use csub_core::Program;
 use csub_semantics::ExitLabel;
@@ -95,7 +95,7 @@ fn list_cases(
 }
 
 /// The ways out of a point. An `Err` is want of memory.
-fn ways_of(
+pub fn ways_of(
     alloc: Global,
     program: &Program,
     graph: &Graph,
@@ -117,20 +117,4 @@ fn ways_of(
         otherwise,
         cases,
     })
-}
-
-/// The ways out of each point. An `Err` is want of memory.
-pub fn list_ways(
-    alloc: Global,
-    program: &Program,
-    graph: &Graph,
-) -> Result<Vec<PointWays>, AllocError>
-    requires graph { IsGraphOf graph.now (program_tree program.now) }
-    ensures { IfOk result (λ ways. AreWays (program_tree program.now) ways.items) }
-{
-    let mut ways = Vec::new(alloc);
-    for point in 0..graph.points() {
-        ways.push(ways_of(alloc, program, graph, point)?)?;
-    }
-    Ok(ways)
 }

@@ -24,7 +24,8 @@ use Rattle.csub_flat.specs.Fits.{FitsLabel, FitsTemp}
 use Rattle.csub_slots.specs.Acts.{FlatStore, FlatOutcome, leaves, gives, pushes, pops, ends, flat_act, flat_result}
 use Rattle.csub_flat.specs.Trees.{FlatCall, FlatLabel, enters_callee}
 use Rattle.csub_flat.specs.Flatten.{temp_slot}
-use Rattle.csub_flat.specs.Copies.{IsFlat, IsFlatCall, IsCopyAt, IsFlatOf}
+use Rattle.csub_flat.specs.Copies.{IsFlat, IsFlatCall, IsCopyAt, IsPointAt, IsFlatOf}
+use Rattle.csub_flat.specs.declared.program.FlatPoint.{FlatPoint}
 use Rattle.csub_flat.specs.declared.program.FlatProgram.{FlatProgram}
 use Rattle.csub_slots.specs.Like.{Like}
 use Rattle.csub_slots.proofs.LawsFrames.{result_stands}
@@ -36,6 +37,10 @@ use Rattle.csub_machine.specs.declared.frames.Frames.{Frames}
 use Rattle.csub_machine.specs.declared.turn.Turn.{Turn}
 use Rattle.csub_machine.specs.declared.turn.Turn.TheVariants.{Goes, Stops, Lost}
 use Rattle.csub_machine.specs.Standings.{function_or, live_function, live_below, live_of, frame_of, below_of, standing_of, AreBased, AreFrames, GoesTo, StopsWith, Moves, Crosses, Resumes}
+
+-- the row of a point in a flat copy
+pub row_at : (P : ProgramTree) (flat : FlatProgram) → IsFlatOf P flat → (n : ℕ) (m : FlatPoint) → n < length (point_list P) → m ≡ get_or flat.points.items n m → IsPointAt P n m
+row_at P flat copies n m inside is = let count = copies.count in copies.each n m (omega arith) is
 
 map_push : {X Y : Type 0} (g : X → Y) (xs : List X) (x : X) → map g (xs ++ x ∷ []) ≡ map g xs ++ g x ∷ []
 map_push g [] x = refl

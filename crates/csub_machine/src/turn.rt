@@ -15,15 +15,16 @@ ghost use Rattle.csub_slots.specs.Seen.{slot_seen, exit_seen};
 ghost use Rattle.csub_slots.specs.States.{state_of};
 ghost use Rattle.csub_slots.specs.Like.{Like};
 ghost use Rattle.csub_flat.specs.Copies.{IsFlatOf};
+ghost use Rattle.csub_flat.specs.Ways.{AreWaysOut};
 ghost use Rattle.csub_machine.specs.Standings.{frame_of, live_function, live_of, standing_of, AreFrames, Moves, Resumes, Crosses, CrossesOfProgram};
 
 use crate::frames::{Frame, Frames};
 use crate::ways::{way_at, way_by};
 use csub_core::Program;
-use csub_flat::{FlatLabel, FlatProgram};
+use csub_flat::{FlatLabel, FlatProgram, PointWays};
 use csub_semantics::Status;
 use csub_slots::Store;
-use csub_slots::act::{Outcome, PlainExit, act, eval, eval_answer, eval_operand, put_result};
+use csub_slots::act::{Outcome, PlainExit, act, eval_answer, eval_effect, eval_test, put_result};
 use flow_graph::Graph;
 use std::mem;
 
@@ -42,20 +43,20 @@ pub enum Turn {
 #[inline(always)]
 fn leave_by(
     program: &Program,
-    flat: &FlatProgram,
+    ways: &PointWays,
     top: &mut Frame,
     exit: PlainExit,
     given: Option<i64>,
 ) -> Turn
-    requires copies { IsFlatOf (program_tree program.now) flat.now }
     requires point { top.old.point < length (point_list (program_tree program.now)) }
+    requires ways { AreWaysOut (program_tree program.now) top.old.point ways.now }
     ensures moves { (below : List StandingFrame) (s : Held) → let P = program_tree program.now in let here = place_of P top.old.point in Crosses P (cross (frame_of P top.old) below (exit_seen exit) given s ((flow_of P).succ here.function here.point (exit_seen exit))) result (record { frames = frame_of P top.new ∷ below; store = s }) }
     ensures point { top.new.point < length (point_list (program_tree program.now)) }
     ensures edge { CrossesOfProgram (program_tree program.now) result }
     ensures function { (place_of (program_tree program.now) top.new.point).function ≡ (place_of (program_tree program.now) top.old.point).function }
     ensures base { top.new.base ≡ top.old.base }
 {
-    match way_by(program, flat, top.point, exit) {
+    match way_by(program, ways, top.point, exit) {
         None => Turn::Lost,
         Some(way) => {
             top.point = way.to;
@@ -82,20 +83,20 @@ fn exit_by(value: i64) -> PlainExit
 fn choose_by(
     program: &Program,
     graph: &Graph,
-    flat: &FlatProgram,
+    ways: &PointWays,
     top: &mut Frame,
     value: i64,
 ) -> Turn
     requires graph { IsGraphOf graph.now (program_tree program.now) }
-    requires copies { IsFlatOf (program_tree program.now) flat.now }
     requires point { top.old.point < length (point_list (program_tree program.now)) }
+    requires ways { AreWaysOut (program_tree program.now) top.old.point ways.now }
     ensures moves { (below : List StandingFrame) (s : Held) → let P = program_tree program.now in let here = place_of P top.old.point in let x = exit_at ((flow_of P).cases here.function here.point) value in Crosses P (cross (frame_of P top.old) below x top.old.result s ((flow_of P).succ here.function here.point x)) result (record { frames = frame_of P top.new ∷ below; store = s }) }
     ensures point { top.new.point < length (point_list (program_tree program.now)) }
     ensures edge { CrossesOfProgram (program_tree program.now) result }
     ensures function { (place_of (program_tree program.now) top.new.point).function ≡ (place_of (program_tree program.now) top.old.point).function }
     ensures base { top.new.base ≡ top.old.base }
 {
-    match way_at(program, graph, flat, top.point, value) {
+    match way_at(program, graph, ways, top.point, value) {
         None => Turn::Lost,
         Some(way) => {
             top.point = way.to;
@@ -141,12 +142,13 @@ fn resume(
     ensures input { store.new.input.items ≡ store.old.input.items }
     ensures sizes { store.new.sizes ≡ store.old.sizes }
 {
-    let FlatLabel::Call(call) = &flat.labels[top.point as usize] else {
+    let point = &flat.points[top.point as usize];
+    let FlatLabel::Call(call) = &point.label else {
         return Turn::Lost;
     };
     put_result(store, top.base, call.temp, given);
     let kept = top.result;
-    leave_by(program, flat, top, PlainExit::Next, kept)
+    leave_by(program, &point.ways, top, PlainExit::Next, kept)
 }
 
 /// One turn by the act of the top frame's label, whatever it is.
@@ -167,14 +169,15 @@ fn take_any_turn(
     ensures input { store.new.input.items ≡ store.old.input.items }
     ensures sizes { store.new.sizes ≡ store.old.sizes }
 {
-    let label = &flat.labels[frames.top.point as usize];
+    let point = &flat.points[frames.top.point as usize];
+    let ways = &point.ways;
     let count = frames.below.len() as u32 + 1;
     let base = frames.top.base;
-    match act(store, label, count, base, frames.top.result) {
+    match act(store, &point.label, count, base, frames.top.result) {
         Err(trap) => Turn::Stops(Status::Trap(trap)),
         Ok(Outcome::Ends(status)) => Turn::Stops(status),
-        Ok(Outcome::Leaves(exit, given)) => leave_by(program, flat, &mut frames.top, exit, given),
-        Ok(Outcome::Gives(value)) => { choose_by(program, graph, flat, &mut frames.top, value) }
+        Ok(Outcome::Leaves(exit, given)) => leave_by(program, ways, &mut frames.top, exit, given),
+        Ok(Outcome::Gives(value)) => { choose_by(program, graph, ways, &mut frames.top, value) }
         Ok(Outcome::Pushes(entry, begin)) => {
             push_frame(frames, entry, begin);
             Turn::Goes(None)
@@ -207,26 +210,27 @@ pub fn take_turn(
     ensures input { store.new.input.items ≡ store.old.input.items }
     ensures sizes { store.new.sizes ≡ store.old.sizes }
 {
-    let label = &flat.labels[frames.top.point as usize];
+    let point = &flat.points[frames.top.point as usize];
+    let ways = &point.ways;
     let base = frames.top.base;
     let kept = frames.top.result;
-    match label {
-        FlatLabel::Next => leave_by(program, flat, &mut frames.top, PlainExit::Next, kept),
-        FlatLabel::Eval(expr) => match eval(store, base, expr) {
+    match &point.label {
+        FlatLabel::Next => leave_by(program, ways, &mut frames.top, PlainExit::Next, kept),
+        FlatLabel::Eval(expr) => match eval_effect(store, base, expr) {
             Err(trap) => Turn::Stops(Status::Trap(trap)),
-            Ok(_) => leave_by(program, flat, &mut frames.top, PlainExit::Next, kept),
+            Ok(_) => leave_by(program, ways, &mut frames.top, PlainExit::Next, kept),
         },
-        FlatLabel::Branch(expr) => match eval(store, base, expr) {
+        FlatLabel::Branch(expr) => match eval_test(store, base, expr) {
             Err(trap) => Turn::Stops(Status::Trap(trap)),
-            Ok(value) => leave_by(program, flat, &mut frames.top, exit_by(value), kept),
+            Ok(value) => leave_by(program, ways, &mut frames.top, exit_by(value), kept),
         },
-        FlatLabel::Switch(expr) => match eval_operand(store, base, expr) {
+        FlatLabel::Switch(expr) => match eval_test(store, base, expr) {
             Err(trap) => Turn::Stops(Status::Trap(trap)),
-            Ok(value) => choose_by(program, graph, flat, &mut frames.top, value),
+            Ok(value) => choose_by(program, graph, ways, &mut frames.top, value),
         },
         FlatLabel::Return(kind, expr) => match eval_answer(store, base, *kind, expr) {
             Err(trap) => Turn::Stops(Status::Trap(trap)),
-            Ok(given) => { leave_by(program, flat, &mut frames.top, PlainExit::Next, Some(given)) }
+            Ok(given) => { leave_by(program, ways, &mut frames.top, PlainExit::Next, Some(given)) }
         },
         _ => take_any_turn(program, graph, flat, frames, store),
     }

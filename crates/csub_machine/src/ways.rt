@@ -5,25 +5,22 @@ ghost use Rattle.csub_semantics.specs.Flows.{point_list};
 ghost use Rattle.csub_semantics.specs.Runs.{exit_at};
 ghost use Rattle.csub_semantics.specs.Syntax.{ProgramTree, program_tree};
 ghost use Rattle.flow_graph.specs.Graph.{IsGraphOf};
-ghost use Rattle.csub_flat.specs.Copies.{IsFlatOf};
 ghost use Rattle.csub_flat.specs.Ways.{cases_of, LeadsNowhere, LeadsTo, AreCases, AreWaysOut};
 ghost use Rattle.csub_slots.specs.Seen.{exit_seen};
 
 use csub_core::Program;
-use csub_flat::{CaseWay, FlatProgram, PointWays, way_along};
+use csub_flat::{CaseWay, PointWays, way_along};
 use csub_semantics::ExitLabel;
 use csub_slots::act::PlainExit;
 use flow_graph::{Graph, WayOut};
 
-/// The way out of a point but for those of a `switch`; `None` where the point has none. It looks at one row of a table.
+/// The way out of a point by its ways out, but for those of a `switch`; `None` where the point has none.
 #[inline(always)]
-pub fn way_by(program: &Program, flat: &FlatProgram, point: u32, exit: PlainExit) -> Option<WayOut>
-    requires copies { IsFlatOf (program_tree program.now) flat.now }
-    requires point { point < length (point_list (program_tree program.now)) }
+pub fn way_by(program: &Program, ways: &PointWays, point: u32, exit: PlainExit) -> Option<WayOut>
+    requires ways { AreWaysOut (program_tree program.now) point ways.now }
     ensures some { IfSome result (LeadsTo (program_tree program.now) point (exit_seen exit)) }
     ensures none { IfNone result (LeadsNowhere (program_tree program.now) point (exit_seen exit)) }
 {
-    let ways = &flat.ways[point as usize];
     match exit {
         PlainExit::Next => ways.next,
         PlainExit::True => ways.on_true,
@@ -83,19 +80,18 @@ fn case_at(
 pub fn way_at(
     program: &Program,
     graph: &Graph,
-    flat: &FlatProgram,
+    ways: &PointWays,
     point: u32,
     value: i64,
 ) -> Option<WayOut>
     requires graph { IsGraphOf graph.now (program_tree program.now) }
-    requires copies { IsFlatOf (program_tree program.now) flat.now }
     requires point { point < length (point_list (program_tree program.now)) }
+    requires ways { AreWaysOut (program_tree program.now) point ways.now }
     ensures some { IfSome result (LeadsTo (program_tree program.now) point (exit_at (cases_of (program_tree program.now) point) value)) }
     ensures none { IfNone result (LeadsNowhere (program_tree program.now) point (exit_at (cases_of (program_tree program.now) point) value)) }
 {
-    let row = &flat.ways[point as usize];
-    match case_at(program, graph, row, point, value) {
+    match case_at(program, graph, ways, point, value) {
         Some(way) => Some(way),
-        None => row.otherwise,
+        None => ways.otherwise,
     }
 }

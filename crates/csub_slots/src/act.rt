@@ -12,8 +12,8 @@ ghost use Rattle.csub_flat.specs.Seen.{variable_seen, expr_seen, given_seen, arg
 ghost use Rattle.csub_slots.specs.Seen.{slot_seen};
 ghost use Rattle.csub_slots.specs.States.{state_of, Gives, same, Acts, Keeps, FewValues, FewInGiven, FitsMost};
 
-use crate::eval::{eval_variable, locate, put_at, put_slot};
-pub use crate::eval::{eval, eval_operand};
+pub use crate::direct::{eval_effect, eval_test};
+use crate::eval::{eval, eval_operand, eval_variable, locate, put_at, put_slot};
 use crate::init::initialise;
 use crate::slot::Slot;
 use crate::spot::refer_to;

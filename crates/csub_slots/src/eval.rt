@@ -33,7 +33,7 @@ const MOST_VALUES: usize = 8;
 
 /// An operation in a kind, to which its operands are converted first.
 #[inline(always)]
-fn compute(op: BinOp, kind: IntKind, left: i64, right: i64) -> Numbered<i64>
+pub fn compute(op: BinOp, kind: IntKind, left: i64, right: i64) -> Numbered<i64>
     ensures { narrowed result ≡ binary op (promote kind) (convert (promote kind) left) (right_operand op (promote kind) right) }
 {
     let promoted = promote(kind);
@@ -87,7 +87,7 @@ fn next_byte(store: &mut Store) -> i64
 
 /// The number at a spot, in the kind that is declared there; one that was never written is the trap `unset`.
 #[inline(always)]
-fn fetch(store: &Store, spot: Spot) -> Numbered<i64>
+pub fn fetch(store: &Store, spot: Spot) -> Numbered<i64>
     ensures { Gives same (fetch spots (spot_seen spot) (state_of store.now)) (narrowed result) (state_of store.now) }
 {
     match slot_at(store.slots.as_slice(), spot.slot) {
@@ -98,7 +98,7 @@ fn fetch(store: &Store, spot: Spot) -> Numbered<i64>
 
 /// A number goes to a spot, converted to the kind that is declared there, and is given so.
 #[inline(always)]
-fn put(store: &mut Store, spot: Spot, number: i64) -> i64
+pub fn put(store: &mut Store, spot: Spot, number: i64) -> i64
     ensures value { Gives same (the.store spots (spot_seen spot) number (state_of store.old)) (Ok result) (state_of store.new) }
     ensures kept { Keeps store.old store.new }
 {
@@ -109,7 +109,7 @@ fn put(store: &mut Store, spot: Spot, number: i64) -> i64
 
 /// What `++` and `--` give at a spot (C11 6.5.2.4 and 6.5.3.1).
 #[inline(always)]
-fn step(store: &mut Store, op: StepOp, spot: Spot) -> Numbered<i64>
+pub fn step(store: &mut Store, op: StepOp, spot: Spot) -> Numbered<i64>
     ensures value { Gives same (the.step spots op (spot_seen spot) (state_of store.old)) (narrowed result) (state_of store.new) }
     ensures kept { Keeps store.old store.new }
 {
@@ -137,7 +137,7 @@ fn read_variable(store: &Store, base: u32, named: FlatVariable) -> Numbered<i64>
 
 /// The number that a variable of the frame at a base holds.
 #[inline(always)]
-fn read_local(store: &Store, base: u32, local: FlatLocal) -> Numbered<i64>
+pub fn read_local(store: &Store, base: u32, local: FlatLocal) -> Numbered<i64>
     ensures { Gives same (eval (flat base) (reading (variable (local_seen local))) (state_of store.now)) (narrowed result) (state_of store.now) }
 {
     let spot = stand_local(base, local);
@@ -301,7 +301,7 @@ fn find_element(
 /// all that [`evaluate_any`] does.
 #[cycle(expressions)]
 #[inline(never)]
-fn evaluate(store: &mut Store, base: u32, expr: &FlatExpr) -> Numbered<i64>
+pub fn evaluate(store: &mut Store, base: u32, expr: &FlatExpr) -> Numbered<i64>
     requires { FewValues (expr_seen expr.now) }
     ensures value { Gives same (eval (flat base) (expr_seen expr.now) (state_of store.old)) (narrowed result) (state_of store.new) }
     ensures kept { Keeps store.old store.new }
@@ -383,7 +383,7 @@ fn evaluate_any(store: &mut Store, base: u32, expr: &FlatExpr) -> Numbered<i64>
 /// What an expression gives, as [`evaluate`] says; a constant and a variable need no call.
 #[cycle(expressions)]
 #[inline(always)]
-fn operand(store: &mut Store, base: u32, expr: &FlatExpr) -> Numbered<i64>
+pub fn operand(store: &mut Store, base: u32, expr: &FlatExpr) -> Numbered<i64>
     requires { FewValues (expr_seen expr.now) }
     ensures value { Gives same (eval (flat base) (expr_seen expr.now) (state_of store.old)) (narrowed result) (state_of store.new) }
     ensures kept { Keeps store.old store.new }

@@ -8,7 +8,8 @@
 //! - [`act::act`]: the outcome of a flat label and the store that is left are those of `specs/Acts`, for the frame whose slots
 //!   begin at a base. Expressions are evaluated by the definitions of `csub_semantics`, over the memory of slots
 //!   (`specs/Memory`).
-//! - [`act::eval`], [`act::eval_operand`]: what an expression gives, for a turn that needs no outcome.
+//! - [`act::eval_effect`], [`act::eval_test`], [`act::eval_answer`]: what an expression gives, for a turn that needs no
+//!   outcome.
 //! - [`act::put_result`]: a result goes into the slot of the call's temporary.
 //!
 //! A slot may refer to an array, as that of an array parameter does: it says where the array begins and how many elements
@@ -23,6 +24,7 @@
 
 pub mod act;
 mod begin;
+mod direct;
 mod eval;
 mod init;
 mod output;

@@ -1,8 +1,7 @@
 use Rattle.std.proofs.Common.{◌≤◌, ◌∙◌, ◌∷◌, [], List, map, length, length-append, arith, ap, sym, subst}
 use Rattle.csub_semantics.specs.Types.{global_tree}
 use Rattle.csub_semantics.specs.Syntax.{program_tree}
-use Rattle.csub_flat.specs.Seen.{label_seen}
-use Rattle.csub_flat.specs.Copies.{IsCopyAt}
+use Rattle.csub_flat.specs.Copies.{IsPointAt}
 use Rattle.csub_semantics.specs.declared.types.GlobalVar.{GlobalVar}
 use Rattle.csub_flat.specs.Frames.{objects_size, global_object}
 use Rattle.csub_flat.proofs.Programs.{few_globals}
@@ -14,10 +13,10 @@ number_globals-requires c = subst (λ (gs : List GlobalVar). objects_size (map g
 
 pub loop-point-preserved : goal.loop-point-preserved
 loop-point-preserved c = record {
-  count = let before = c.loop-point.invariant.count in omega (arith, before, ap length c.in_ok-push.ensures.items, length-append c.loop-point.labels.items (c.in_ok-flatten_point.field-0 ∷ []));
-  copies =
-      pushed (λ n m. IsCopyAt (program_tree c.args.program.now) n (label_seen m)) c.loop-point.labels.items c.push.new.self.items c.in_ok-flatten_point.field-0 c.loop-point.point
-      c.in_ok-push.ensures.items c.loop-point.invariant.count c.loop-point.invariant.copies c.in_ok-flatten_point.ensures;
+  count = let before = c.loop-point.invariant.count in omega (arith, before, ap length c.in_ok-push.ensures.items, length-append c.loop-point.points.items (c.in_ok-make_point.field-0 ∷ []));
+  each =
+      pushed (IsPointAt (program_tree c.args.program.now)) c.loop-point.points.items c.push.new.self.items c.in_ok-make_point.field-0 c.loop-point.point
+      c.in_ok-push.ensures.items c.loop-point.invariant.count c.loop-point.invariant.each c.in_ok-make_point.ensures;
 }
 
 pub globals_size-requires : goal.globals_size-requires
@@ -30,8 +29,7 @@ returns c =
     let P = program_tree c.args.program.now in
     record {
       count = let points = c.points-point-end.ensures.listed P c.requires.graph in let at = c.loop-point.invariant.count in omega arith;
-      copies = c.loop-point.invariant.copies;
-      ways = c.in_ok-ways.ensures;
+      each = c.loop-point.invariant.each;
       globals = c.globals_size.ensures ∙ same;
       most = c.greatest_frame.ensures.most;
       few = rw c.globals_size.ensures few;

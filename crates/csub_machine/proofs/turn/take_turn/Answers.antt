@@ -1,4 +1,4 @@
-use Rattle.std.proofs.Common.{ℤ, List, ◌∷◌, w64, ◌≡◌, ◌<◌, ◌+◌, ◌∙◌, ap, sym, subst, refl, pos, Some, if◌then◌else◌, length, rules, arith}
+use Rattle.std.proofs.Common.{ℤ, List, ◌∷◌, w64, ◌≡◌, ◌+◌, ◌∙◌, ap, sym, subst, refl, pos, Some, if◌then◌else◌, length, rules}
 use Rattle.std.specs.Ordering.{int_eq}
 use Rattle.std.proofs.lemmas.Int.{to_z-of_z}
 use mir.Val.{SFits}
@@ -10,7 +10,6 @@ use Rattle.csub_semantics.specs.declared.status.Status.TheVariants.{Trap}
 use Rattle.csub_semantics.specs.Syntax.{program_tree}
 use Rattle.csub_flat.specs.Sites.{place_of}
 use Rattle.csub_flat.specs.Ways.{cases_of}
-use Rattle.csub_flat.specs.Copies.{IsCopyAt}
 use Rattle.csub_flat.specs.Seen.{expr_seen, label_seen}
 use Rattle.csub_flat.specs.declared.flat.FlatLabel.{FlatLabel}
 use Rattle.csub_slots.specs.Acts.{flat_act, leaves}
@@ -18,41 +17,35 @@ use Rattle.csub_slots.specs.Seen.{exit_seen}
 use Rattle.csub_slots.specs.States.{state_of, FitsMost}
 use Rattle.csub_slots.proofs.LawsBounds.{fits_most}
 use Rattle.csub_machine.specs.Standings.{frame_of, Crosses}
-use Rattle.csub_machine.proofs.Turns.{can_act, ends_on, leaves_on, gives_on}
+use Rattle.csub_machine.proofs.Turns.{row_at, can_act, ends_on, leaves_on, gives_on}
 use Rattle.csub_machine.proofs.Direct.{done, done_not, tested, tested_not, chosen, chosen_not, answered, answered_not}
 use Rattle.csub_machine.proofs.turn.take_turn.Goals as goal
 
-pub eval-requires : goal.eval-requires
-eval-requires c =
+pub eval_effect-requires : goal.eval_effect-requires
+eval_effect-requires c =
     let P = program_tree c.args.program.now in
     let n = c.args.frames.now.top.point in
     let copies = c.requires.copies in
-    let count = copies.count in
-    let inside : n < length c.args.flat.now.labels.items = omega (arith, c.requires.frames.top) in
-    let k : IsCopyAt P n (label_seen c.index-label.result.now) = copies.copies n c.index-label.result.now inside c.index-label.ensures in
-    let fits : FitsMost c.args.flat.now.sizes.most (label_seen c.index-label.result.now) = fits_most P k.function c.args.flat.now.sizes.most c.requires.graph.valid copies.most k.label (label_seen c.index-label.result.now) k.fits k.copy in
+    let k = (row_at P c.args.flat.now copies n c.index-point.result.now c.requires.frames.top c.index-point.ensures).copy in
+    let fits : FitsMost c.args.flat.now.sizes.most (label_seen c.index-point.result.now.label) = fits_most P k.function c.args.flat.now.sizes.most c.requires.graph.valid copies.most k.label (label_seen c.index-point.result.now.label) k.fits k.copy in
     subst (λ (l : FlatLabel). FitsMost c.args.flat.now.sizes.most (label_seen l)) c.in-Eval.is fits
 
-pub eval-requires-in-Branch : goal.eval-requires-in-Branch
-eval-requires-in-Branch c =
+pub eval_test-requires : goal.eval_test-requires
+eval_test-requires c =
     let P = program_tree c.args.program.now in
     let n = c.args.frames.now.top.point in
     let copies = c.requires.copies in
-    let count = copies.count in
-    let inside : n < length c.args.flat.now.labels.items = omega (arith, c.requires.frames.top) in
-    let k : IsCopyAt P n (label_seen c.index-label.result.now) = copies.copies n c.index-label.result.now inside c.index-label.ensures in
-    let fits : FitsMost c.args.flat.now.sizes.most (label_seen c.index-label.result.now) = fits_most P k.function c.args.flat.now.sizes.most c.requires.graph.valid copies.most k.label (label_seen c.index-label.result.now) k.fits k.copy in
+    let k = (row_at P c.args.flat.now copies n c.index-point.result.now c.requires.frames.top c.index-point.ensures).copy in
+    let fits : FitsMost c.args.flat.now.sizes.most (label_seen c.index-point.result.now.label) = fits_most P k.function c.args.flat.now.sizes.most c.requires.graph.valid copies.most k.label (label_seen c.index-point.result.now.label) k.fits k.copy in
     subst (λ (l : FlatLabel). FitsMost c.args.flat.now.sizes.most (label_seen l)) c.in-Branch.is fits
 
-pub eval_operand-requires : goal.eval_operand-requires
-eval_operand-requires c =
+pub eval_test-requires-in-Switch : goal.eval_test-requires-in-Switch
+eval_test-requires-in-Switch c =
     let P = program_tree c.args.program.now in
     let n = c.args.frames.now.top.point in
     let copies = c.requires.copies in
-    let count = copies.count in
-    let inside : n < length c.args.flat.now.labels.items = omega (arith, c.requires.frames.top) in
-    let k : IsCopyAt P n (label_seen c.index-label.result.now) = copies.copies n c.index-label.result.now inside c.index-label.ensures in
-    let fits : FitsMost c.args.flat.now.sizes.most (label_seen c.index-label.result.now) = fits_most P k.function c.args.flat.now.sizes.most c.requires.graph.valid copies.most k.label (label_seen c.index-label.result.now) k.fits k.copy in
+    let k = (row_at P c.args.flat.now copies n c.index-point.result.now c.requires.frames.top c.index-point.ensures).copy in
+    let fits : FitsMost c.args.flat.now.sizes.most (label_seen c.index-point.result.now.label) = fits_most P k.function c.args.flat.now.sizes.most c.requires.graph.valid copies.most k.label (label_seen c.index-point.result.now.label) k.fits k.copy in
     subst (λ (l : FlatLabel). FitsMost c.args.flat.now.sizes.most (label_seen l)) c.in-Switch.is fits
 
 pub returns-in-Next-clause-moves : goal.returns-in-Next-clause-moves
@@ -60,14 +53,12 @@ returns-in-Next-clause-moves c s like =
     let P = program_tree c.args.program.now in
     let n = c.args.frames.now.top.point in
     let copies = c.requires.copies in
-    let count = copies.count in
-    let inside : n < length c.args.flat.now.labels.items = omega (arith, c.requires.frames.top) in
-    let k : IsCopyAt P n (label_seen c.index-label.result.now) = copies.copies n c.index-label.result.now inside c.index-label.ensures in
+    let k = (row_at P c.args.flat.now copies n c.index-point.result.now c.requires.frames.top c.index-point.ensures).copy in
     let top = c.args.frames.now.top in
     let cnt = length c.args.frames.now.below.items + 1 in
     let same = ap (λ (l : FlatLabel). flat_act (label_seen l) cnt top.base top.result (state_of c.args.store.now)) c.in-Next.is in
     let acts = same in
-    leaves_on P c.args.frames.now _ cnt c.requires.frames (can_act P c.requires.graph.valid c.args.flat.now copies c.args.frames.now _ c.requires.frames) (label_seen c.index-label.result.now) k s (state_of c.args.store.now) refl like next top.result (state_of c.args.store.now) acts
+    leaves_on P c.args.frames.now _ cnt c.requires.frames (can_act P c.requires.graph.valid c.args.flat.now copies c.args.frames.now _ c.requires.frames) (label_seen c.index-point.result.now.label) k s (state_of c.args.store.now) refl like next top.result (state_of c.args.store.now) acts
     _ c.leave_by.result c.leave_by.ensures.moves refl c.leave_by.ensures.point c.leave_by.ensures.function c.leave_by.ensures.base
 
 pub returns-in-Err-clause-moves : goal.returns-in-Err-clause-moves
@@ -75,94 +66,82 @@ returns-in-Err-clause-moves c s like =
     let P = program_tree c.args.program.now in
     let n = c.args.frames.now.top.point in
     let copies = c.requires.copies in
-    let count = copies.count in
-    let inside : n < length c.args.flat.now.labels.items = omega (arith, c.requires.frames.top) in
-    let k : IsCopyAt P n (label_seen c.index-label.result.now) = copies.copies n c.index-label.result.now inside c.index-label.ensures in
+    let k = (row_at P c.args.flat.now copies n c.index-point.result.now c.requires.frames.top c.index-point.ensures).copy in
     let top = c.args.frames.now.top in
     let cnt = length c.args.frames.now.below.items + 1 in
     let same = ap (λ (l : FlatLabel). flat_act (label_seen l) cnt top.base top.result (state_of c.args.store.now)) c.in-Eval.is in
-    let acts = same ∙ done_not (expr_seen c.in-Eval.expr) cnt top.base top.result (state_of c.args.store.now) (state_of c.eval.new.store) c.in-Err.trap c.in-Err.ensures.value in
-    ends_on P c.args.frames.now _ cnt c.requires.frames (can_act P c.requires.graph.valid c.args.flat.now copies c.args.frames.now _ c.requires.frames) (label_seen c.index-label.result.now) k s (state_of c.args.store.now) refl like (Trap c.in-Err.trap) (state_of c.eval.new.store) acts
+    let acts = same ∙ done_not (expr_seen c.in-Eval.expr) cnt top.base top.result (state_of c.args.store.now) (state_of c.eval_effect.new.store) c.in-Err.trap c.in-Err.ensures.value in
+    ends_on P c.args.frames.now _ cnt c.requires.frames (can_act P c.requires.graph.valid c.args.flat.now copies c.args.frames.now _ c.requires.frames) (label_seen c.index-point.result.now.label) k s (state_of c.args.store.now) refl like (Trap c.in-Err.trap) (state_of c.eval_effect.new.store) acts
 
 pub returns-in-Ok-clause-moves : goal.returns-in-Ok-clause-moves
 returns-in-Ok-clause-moves c s like =
     let P = program_tree c.args.program.now in
     let n = c.args.frames.now.top.point in
     let copies = c.requires.copies in
-    let count = copies.count in
-    let inside : n < length c.args.flat.now.labels.items = omega (arith, c.requires.frames.top) in
-    let k : IsCopyAt P n (label_seen c.index-label.result.now) = copies.copies n c.index-label.result.now inside c.index-label.ensures in
+    let k = (row_at P c.args.flat.now copies n c.index-point.result.now c.requires.frames.top c.index-point.ensures).copy in
     let top = c.args.frames.now.top in
     let cnt = length c.args.frames.now.below.items + 1 in
     let same = ap (λ (l : FlatLabel). flat_act (label_seen l) cnt top.base top.result (state_of c.args.store.now)) c.in-Eval.is in
-    let acts = same ∙ done (expr_seen c.in-Eval.expr) cnt top.base top.result (state_of c.args.store.now) (state_of c.eval.new.store) _ c.in-Ok.ensures.value in
-    leaves_on P c.args.frames.now _ cnt c.requires.frames (can_act P c.requires.graph.valid c.args.flat.now copies c.args.frames.now _ c.requires.frames) (label_seen c.index-label.result.now) k s (state_of c.args.store.now) refl like next top.result (state_of c.eval.new.store) acts
+    let acts = same ∙ done (expr_seen c.in-Eval.expr) cnt top.base top.result (state_of c.args.store.now) (state_of c.eval_effect.new.store) _ c.in-Ok.ensures.value in
+    leaves_on P c.args.frames.now _ cnt c.requires.frames (can_act P c.requires.graph.valid c.args.flat.now copies c.args.frames.now _ c.requires.frames) (label_seen c.index-point.result.now.label) k s (state_of c.args.store.now) refl like next top.result (state_of c.eval_effect.new.store) acts
     _ c.leave_by-in-Ok.result c.leave_by-in-Ok.ensures.moves refl c.leave_by-in-Ok.ensures.point c.leave_by-in-Ok.ensures.function c.leave_by-in-Ok.ensures.base
 
-pub returns-in-Err-eval-clause-moves : goal.returns-in-Err-eval-clause-moves
-returns-in-Err-eval-clause-moves c s like =
+pub returns-in-Err-eval_test-clause-moves : goal.returns-in-Err-eval_test-clause-moves
+returns-in-Err-eval_test-clause-moves c s like =
     let P = program_tree c.args.program.now in
     let n = c.args.frames.now.top.point in
     let copies = c.requires.copies in
-    let count = copies.count in
-    let inside : n < length c.args.flat.now.labels.items = omega (arith, c.requires.frames.top) in
-    let k : IsCopyAt P n (label_seen c.index-label.result.now) = copies.copies n c.index-label.result.now inside c.index-label.ensures in
+    let k = (row_at P c.args.flat.now copies n c.index-point.result.now c.requires.frames.top c.index-point.ensures).copy in
     let top = c.args.frames.now.top in
     let cnt = length c.args.frames.now.below.items + 1 in
     let same = ap (λ (l : FlatLabel). flat_act (label_seen l) cnt top.base top.result (state_of c.args.store.now)) c.in-Branch.is in
-    let acts = same ∙ tested_not (expr_seen c.in-Branch.expr) cnt top.base top.result (state_of c.args.store.now) (state_of c.eval-in-Branch.new.store) c.in-Err-eval.trap c.in-Err-eval.ensures.value in
-    ends_on P c.args.frames.now _ cnt c.requires.frames (can_act P c.requires.graph.valid c.args.flat.now copies c.args.frames.now _ c.requires.frames) (label_seen c.index-label.result.now) k s (state_of c.args.store.now) refl like (Trap c.in-Err-eval.trap) (state_of c.eval-in-Branch.new.store) acts
+    let acts = same ∙ tested_not (expr_seen c.in-Branch.expr) cnt top.base top.result (state_of c.args.store.now) (state_of c.eval_test.new.store) c.in-Err-eval_test.trap c.in-Err-eval_test.ensures.value in
+    ends_on P c.args.frames.now _ cnt c.requires.frames (can_act P c.requires.graph.valid c.args.flat.now copies c.args.frames.now _ c.requires.frames) (label_seen c.index-point.result.now.label) k s (state_of c.args.store.now) refl like (Trap c.in-Err-eval_test.trap) (state_of c.eval_test.new.store) acts
 
-pub returns-in-Ok-eval-clause-moves : goal.returns-in-Ok-eval-clause-moves
-returns-in-Ok-eval-clause-moves c s like =
+pub returns-in-Ok-eval_test-clause-moves : goal.returns-in-Ok-eval_test-clause-moves
+returns-in-Ok-eval_test-clause-moves c s like =
     let P = program_tree c.args.program.now in
     let n = c.args.frames.now.top.point in
     let copies = c.requires.copies in
-    let count = copies.count in
-    let inside : n < length c.args.flat.now.labels.items = omega (arith, c.requires.frames.top) in
-    let k : IsCopyAt P n (label_seen c.index-label.result.now) = copies.copies n c.index-label.result.now inside c.index-label.ensures in
+    let k = (row_at P c.args.flat.now copies n c.index-point.result.now c.requires.frames.top c.index-point.ensures).copy in
     let top = c.args.frames.now.top in
     let cnt = length c.args.frames.now.below.items + 1 in
     let same = ap (λ (l : FlatLabel). flat_act (label_seen l) cnt top.base top.result (state_of c.args.store.now)) c.in-Branch.is in
-    let v = c.in-Ok-eval.value in
+    let v = c.in-Ok-eval_test.value in
     let fits : SFits w64 v = search rules in
     let along : exit_seen c.exit_by.result ≡ (if int_eq v (pos 0) then on_false else on_true) = subst (λ (w : ℤ). exit_seen c.exit_by.result ≡ (if int_eq w (pos 0) then on_false else on_true)) (to_z-of_z w64 v fits) c.exit_by.ensures in
     let acts =
-    same ∙ tested (expr_seen c.in-Branch.expr) cnt top.base top.result (state_of c.args.store.now) (state_of c.eval-in-Branch.new.store) v c.in-Ok-eval.ensures.value
-    ∙ ap (λ (x : ExitTree). leaves x top.result (state_of c.eval-in-Branch.new.store)) (sym along) in
-    leaves_on P c.args.frames.now _ cnt c.requires.frames (can_act P c.requires.graph.valid c.args.flat.now copies c.args.frames.now _ c.requires.frames) (label_seen c.index-label.result.now) k s (state_of c.args.store.now) refl like (exit_seen c.exit_by.result) top.result (state_of c.eval-in-Branch.new.store) acts
-    _ c.leave_by-in-Ok-eval.result c.leave_by-in-Ok-eval.ensures.moves refl c.leave_by-in-Ok-eval.ensures.point c.leave_by-in-Ok-eval.ensures.function c.leave_by-in-Ok-eval.ensures.base
+    same ∙ tested (expr_seen c.in-Branch.expr) cnt top.base top.result (state_of c.args.store.now) (state_of c.eval_test.new.store) v c.in-Ok-eval_test.ensures.value
+    ∙ ap (λ (x : ExitTree). leaves x top.result (state_of c.eval_test.new.store)) (sym along) in
+    leaves_on P c.args.frames.now _ cnt c.requires.frames (can_act P c.requires.graph.valid c.args.flat.now copies c.args.frames.now _ c.requires.frames) (label_seen c.index-point.result.now.label) k s (state_of c.args.store.now) refl like (exit_seen c.exit_by.result) top.result (state_of c.eval_test.new.store) acts
+    _ c.leave_by-in-Ok-eval_test.result c.leave_by-in-Ok-eval_test.ensures.moves refl c.leave_by-in-Ok-eval_test.ensures.point c.leave_by-in-Ok-eval_test.ensures.function c.leave_by-in-Ok-eval_test.ensures.base
 
-pub returns-in-Err-eval_operand-clause-moves : goal.returns-in-Err-eval_operand-clause-moves
-returns-in-Err-eval_operand-clause-moves c s like =
+pub returns-in-Err-eval_test-2-clause-moves : goal.returns-in-Err-eval_test-2-clause-moves
+returns-in-Err-eval_test-2-clause-moves c s like =
     let P = program_tree c.args.program.now in
     let n = c.args.frames.now.top.point in
     let copies = c.requires.copies in
-    let count = copies.count in
-    let inside : n < length c.args.flat.now.labels.items = omega (arith, c.requires.frames.top) in
-    let k : IsCopyAt P n (label_seen c.index-label.result.now) = copies.copies n c.index-label.result.now inside c.index-label.ensures in
+    let k = (row_at P c.args.flat.now copies n c.index-point.result.now c.requires.frames.top c.index-point.ensures).copy in
     let top = c.args.frames.now.top in
     let cnt = length c.args.frames.now.below.items + 1 in
     let same = ap (λ (l : FlatLabel). flat_act (label_seen l) cnt top.base top.result (state_of c.args.store.now)) c.in-Switch.is in
-    let acts = same ∙ chosen_not (expr_seen c.in-Switch.expr) cnt top.base top.result (state_of c.args.store.now) (state_of c.eval_operand.new.store) c.in-Err-eval_operand.trap c.in-Err-eval_operand.ensures.value in
-    ends_on P c.args.frames.now _ cnt c.requires.frames (can_act P c.requires.graph.valid c.args.flat.now copies c.args.frames.now _ c.requires.frames) (label_seen c.index-label.result.now) k s (state_of c.args.store.now) refl like (Trap c.in-Err-eval_operand.trap) (state_of c.eval_operand.new.store) acts
+    let acts = same ∙ chosen_not (expr_seen c.in-Switch.expr) cnt top.base top.result (state_of c.args.store.now) (state_of c.eval_test-in-Switch.new.store) c.in-Err-eval_test-2.trap c.in-Err-eval_test-2.ensures.value in
+    ends_on P c.args.frames.now _ cnt c.requires.frames (can_act P c.requires.graph.valid c.args.flat.now copies c.args.frames.now _ c.requires.frames) (label_seen c.index-point.result.now.label) k s (state_of c.args.store.now) refl like (Trap c.in-Err-eval_test-2.trap) (state_of c.eval_test-in-Switch.new.store) acts
 
-pub returns-in-Ok-eval_operand-clause-moves : goal.returns-in-Ok-eval_operand-clause-moves
-returns-in-Ok-eval_operand-clause-moves c s like =
+pub returns-in-Ok-eval_test-2-clause-moves : goal.returns-in-Ok-eval_test-2-clause-moves
+returns-in-Ok-eval_test-2-clause-moves c s like =
     let P = program_tree c.args.program.now in
     let n = c.args.frames.now.top.point in
     let copies = c.requires.copies in
-    let count = copies.count in
-    let inside : n < length c.args.flat.now.labels.items = omega (arith, c.requires.frames.top) in
-    let k : IsCopyAt P n (label_seen c.index-label.result.now) = copies.copies n c.index-label.result.now inside c.index-label.ensures in
+    let k = (row_at P c.args.flat.now copies n c.index-point.result.now c.requires.frames.top c.index-point.ensures).copy in
     let top = c.args.frames.now.top in
     let cnt = length c.args.frames.now.below.items + 1 in
     let same = ap (λ (l : FlatLabel). flat_act (label_seen l) cnt top.base top.result (state_of c.args.store.now)) c.in-Switch.is in
-    let v = c.in-Ok-eval_operand.value in
+    let v = c.in-Ok-eval_test-2.value in
     let fits : SFits w64 v = search rules in
     let Moved : ℤ → Type 0 = λ w. (below : List Standing) (t : Held) → let x = exit_at (cases_of P n) w in Crosses P (cross (frame_of P top) below x top.result t ((flow_of P).succ (place_of P n).function (place_of P n).point x)) c.choose_by.result (record { frames = frame_of P c.choose_by.new.top ∷ below; store = t }) in
-    let acts = same ∙ chosen (expr_seen c.in-Switch.expr) cnt top.base top.result (state_of c.args.store.now) (state_of c.eval_operand.new.store) v c.in-Ok-eval_operand.ensures.value in
-    gives_on P c.args.frames.now _ cnt c.requires.frames (can_act P c.requires.graph.valid c.args.flat.now copies c.args.frames.now _ c.requires.frames) (label_seen c.index-label.result.now) k s (state_of c.args.store.now) refl like v (state_of c.eval_operand.new.store) acts
+    let acts = same ∙ chosen (expr_seen c.in-Switch.expr) cnt top.base top.result (state_of c.args.store.now) (state_of c.eval_test-in-Switch.new.store) v c.in-Ok-eval_test-2.ensures.value in
+    gives_on P c.args.frames.now _ cnt c.requires.frames (can_act P c.requires.graph.valid c.args.flat.now copies c.args.frames.now _ c.requires.frames) (label_seen c.index-point.result.now.label) k s (state_of c.args.store.now) refl like v (state_of c.eval_test-in-Switch.new.store) acts
     _ c.choose_by.result (subst Moved (to_z-of_z w64 v fits) c.choose_by.ensures.moves) refl c.choose_by.ensures.point c.choose_by.ensures.function c.choose_by.ensures.base
 
 pub eval_answer-requires : goal.eval_answer-requires
@@ -170,10 +149,8 @@ eval_answer-requires c =
     let P = program_tree c.args.program.now in
     let n = c.args.frames.now.top.point in
     let copies = c.requires.copies in
-    let count = copies.count in
-    let inside : n < length c.args.flat.now.labels.items = omega (arith, c.requires.frames.top) in
-    let k : IsCopyAt P n (label_seen c.index-label.result.now) = copies.copies n c.index-label.result.now inside c.index-label.ensures in
-    let fits : FitsMost c.args.flat.now.sizes.most (label_seen c.index-label.result.now) = fits_most P k.function c.args.flat.now.sizes.most c.requires.graph.valid copies.most k.label (label_seen c.index-label.result.now) k.fits k.copy in
+    let k = (row_at P c.args.flat.now copies n c.index-point.result.now c.requires.frames.top c.index-point.ensures).copy in
+    let fits : FitsMost c.args.flat.now.sizes.most (label_seen c.index-point.result.now.label) = fits_most P k.function c.args.flat.now.sizes.most c.requires.graph.valid copies.most k.label (label_seen c.index-point.result.now.label) k.fits k.copy in
     subst (λ (l : FlatLabel). FitsMost c.args.flat.now.sizes.most (label_seen l)) c.in-Return.is fits
 
 pub returns-in-Err-eval_answer-clause-moves : goal.returns-in-Err-eval_answer-clause-moves
@@ -181,23 +158,19 @@ returns-in-Err-eval_answer-clause-moves c s like =
     let P = program_tree c.args.program.now in
     let n = c.args.frames.now.top.point in
     let copies = c.requires.copies in
-    let count = copies.count in
-    let inside : n < length c.args.flat.now.labels.items = omega (arith, c.requires.frames.top) in
-    let k : IsCopyAt P n (label_seen c.index-label.result.now) = copies.copies n c.index-label.result.now inside c.index-label.ensures in
+    let k = (row_at P c.args.flat.now copies n c.index-point.result.now c.requires.frames.top c.index-point.ensures).copy in
     let top = c.args.frames.now.top in
     let cnt = length c.args.frames.now.below.items + 1 in
     let same = ap (λ (l : FlatLabel). flat_act (label_seen l) cnt top.base top.result (state_of c.args.store.now)) c.in-Return.is in
     let acts = same ∙ answered_not (expr_seen c.in-Return.expr) cnt top.base top.result (state_of c.args.store.now) (state_of c.eval_answer.new.store) c.in-Return.kind c.in-Err-eval_answer.trap c.in-Err-eval_answer.ensures.value in
-    ends_on P c.args.frames.now _ cnt c.requires.frames (can_act P c.requires.graph.valid c.args.flat.now copies c.args.frames.now _ c.requires.frames) (label_seen c.index-label.result.now) k s (state_of c.args.store.now) refl like (Trap c.in-Err-eval_answer.trap) (state_of c.eval_answer.new.store) acts
+    ends_on P c.args.frames.now _ cnt c.requires.frames (can_act P c.requires.graph.valid c.args.flat.now copies c.args.frames.now _ c.requires.frames) (label_seen c.index-point.result.now.label) k s (state_of c.args.store.now) refl like (Trap c.in-Err-eval_answer.trap) (state_of c.eval_answer.new.store) acts
 
 pub returns-in-Ok-eval_answer-clause-moves : goal.returns-in-Ok-eval_answer-clause-moves
 returns-in-Ok-eval_answer-clause-moves c s like =
     let P = program_tree c.args.program.now in
     let n = c.args.frames.now.top.point in
     let copies = c.requires.copies in
-    let count = copies.count in
-    let inside : n < length c.args.flat.now.labels.items = omega (arith, c.requires.frames.top) in
-    let k : IsCopyAt P n (label_seen c.index-label.result.now) = copies.copies n c.index-label.result.now inside c.index-label.ensures in
+    let k = (row_at P c.args.flat.now copies n c.index-point.result.now c.requires.frames.top c.index-point.ensures).copy in
     let top = c.args.frames.now.top in
     let cnt = length c.args.frames.now.below.items + 1 in
     let same = ap (λ (l : FlatLabel). flat_act (label_seen l) cnt top.base top.result (state_of c.args.store.now)) c.in-Return.is in
@@ -205,5 +178,5 @@ returns-in-Ok-eval_answer-clause-moves c s like =
     let fits : SFits w64 v = search rules in
     let Moved : ℤ → Type 0 = λ w. (below : List Standing) (t : Held) → Crosses P (cross (frame_of P top) below next (Some w) t ((flow_of P).succ (place_of P n).function (place_of P n).point next)) c.leave_by-in-Ok-eval_answer.result (record { frames = frame_of P c.leave_by-in-Ok-eval_answer.new.top ∷ below; store = t }) in
     let acts = same ∙ answered (expr_seen c.in-Return.expr) cnt top.base top.result (state_of c.args.store.now) (state_of c.eval_answer.new.store) c.in-Return.kind v c.in-Ok-eval_answer.ensures.value in
-    leaves_on P c.args.frames.now _ cnt c.requires.frames (can_act P c.requires.graph.valid c.args.flat.now copies c.args.frames.now _ c.requires.frames) (label_seen c.index-label.result.now) k s (state_of c.args.store.now) refl like next (Some v) (state_of c.eval_answer.new.store) acts
+    leaves_on P c.args.frames.now _ cnt c.requires.frames (can_act P c.requires.graph.valid c.args.flat.now copies c.args.frames.now _ c.requires.frames) (label_seen c.index-point.result.now.label) k s (state_of c.args.store.now) refl like next (Some v) (state_of c.eval_answer.new.store) acts
     _ c.leave_by-in-Ok-eval_answer.result (subst Moved (to_z-of_z w64 v fits) c.leave_by-in-Ok-eval_answer.ensures.moves) refl c.leave_by-in-Ok-eval_answer.ensures.point c.leave_by-in-Ok-eval_answer.ensures.function c.leave_by-in-Ok-eval_answer.ensures.base
