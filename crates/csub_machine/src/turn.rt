@@ -14,17 +14,22 @@ ghost use Rattle.csub_flat.specs.Frames.{globals_of};
 ghost use Rattle.csub_slots.specs.Seen.{slot_seen, exit_seen};
 ghost use Rattle.csub_slots.specs.States.{state_of};
 ghost use Rattle.csub_slots.specs.Like.{Like};
-ghost use Rattle.csub_flat.specs.Copies.{IsFlatOf};
+ghost use Rattle.csub_flat.specs.Copies.{IsCopyAt, IsFlatOf};
+ghost use Rattle.csub_flat.specs.Trees.{enters_callee, leaves_by};
+ghost use Rattle.csub_flat.specs.Seen.{variable_seen, call_seen};
 ghost use Rattle.csub_flat.specs.Ways.{AreWaysOut};
 ghost use Rattle.csub_machine.specs.Standings.{frame_of, live_function, live_of, standing_of, AreFrames, Moves, Resumes, Crosses, CrossesOfProgram};
 
 use crate::frames::{Frame, Frames};
 use crate::ways::{way_at, way_by};
 use csub_core::Program;
-use csub_flat::{FlatLabel, FlatProgram, PointWays};
-use csub_semantics::Status;
+use csub_flat::{FlatCall, FlatLabel, FlatProgram, FlatVariable, PointWays};
+use csub_semantics::{EndRule, Status};
 use csub_slots::Store;
-use csub_slots::act::{Outcome, PlainExit, act, eval_answer, eval_effect, eval_test, put_result};
+use csub_slots::act::{
+    PlainExit, end_with, enter_call, eval_answer, eval_effect, eval_test, initialise,
+    leave_function, put_result,
+};
 use flow_graph::Graph;
 use std::mem;
 
@@ -151,38 +156,60 @@ fn resume(
     leave_by(program, &point.ways, top, PlainExit::Next, kept)
 }
 
-/// One turn by the act of the top frame's label, whatever it is.
+/// A turn at a call: the frame of the callee comes on top, and no edge is crossed.
 #[inline(never)]
-fn take_any_turn(
+fn enter_turn(
     program: &Program,
     graph: &Graph,
     flat: &FlatProgram,
     frames: &mut Frames,
     store: &mut Store,
+    call: &FlatCall,
 ) -> Turn
     requires graph { IsGraphOf graph.now (program_tree program.now) }
     requires copies { IsFlatOf (program_tree program.now) flat.now }
     requires sizes { store.old.sizes ≡ flat.now.sizes }
     requires frames { AreFrames (program_tree program.now) frames.old (length (map slot_seen store.old.slots.items)) }
+    requires copy { IsCopyAt (program_tree program.now) frames.old.top.point (enters_callee (call_seen call.now)) }
     ensures moves { (s : Held) → let P = program_tree program.now in Like (globals_of P) (live_of P frames.old) s (state_of store.old) → Moves P (turn (flow_of P) (standing_of P frames.old s)) result frames.new (state_of store.new) }
     ensures edge { CrossesOfProgram (program_tree program.now) result }
     ensures input { store.new.input.items ≡ store.old.input.items }
     ensures sizes { store.new.sizes ≡ store.old.sizes }
 {
-    let point = &flat.points[frames.top.point as usize];
-    let ways = &point.ways;
     let count = frames.below.len() as u32 + 1;
-    let base = frames.top.base;
-    match act(store, &point.label, count, base, frames.top.result) {
+    match enter_call(store, call, count, frames.top.base) {
         Err(trap) => Turn::Stops(Status::Trap(trap)),
-        Ok(Outcome::Ends(status)) => Turn::Stops(status),
-        Ok(Outcome::Leaves(exit, given)) => leave_by(program, ways, &mut frames.top, exit, given),
-        Ok(Outcome::Gives(value)) => { choose_by(program, graph, ways, &mut frames.top, value) }
-        Ok(Outcome::Pushes(entry, begin)) => {
-            push_frame(frames, entry, begin);
+        Ok(begin) => {
+            push_frame(frames, call.entry, begin);
             Turn::Goes(None)
         }
-        Ok(Outcome::Pops(given)) => match frames.below.pop() {
+    }
+}
+
+/// A turn at the end of a function: its frame goes, and that of its call goes on, or the run ends.
+#[inline(never)]
+fn leave_turn(
+    program: &Program,
+    graph: &Graph,
+    flat: &FlatProgram,
+    frames: &mut Frames,
+    store: &mut Store,
+    rule: &EndRule,
+    first: &FlatVariable,
+) -> Turn
+    requires graph { IsGraphOf graph.now (program_tree program.now) }
+    requires copies { IsFlatOf (program_tree program.now) flat.now }
+    requires sizes { store.old.sizes ≡ flat.now.sizes }
+    requires frames { AreFrames (program_tree program.now) frames.old (length (map slot_seen store.old.slots.items)) }
+    requires copy { IsCopyAt (program_tree program.now) frames.old.top.point (leaves_by rule.now (variable_seen first.now)) }
+    ensures moves { (s : Held) → let P = program_tree program.now in Like (globals_of P) (live_of P frames.old) s (state_of store.old) → Moves P (turn (flow_of P) (standing_of P frames.old s)) result frames.new (state_of store.new) }
+    ensures edge { CrossesOfProgram (program_tree program.now) result }
+    ensures input { store.new.input.items ≡ store.old.input.items }
+    ensures sizes { store.new.sizes ≡ store.old.sizes }
+{
+    match leave_function(store, *rule, *first, frames.top.base, frames.top.result) {
+        Err(status) => Turn::Stops(status),
+        Ok(given) => match frames.below.pop() {
             None => Turn::Lost,
             Some(frame) => {
                 frames.top = frame;
@@ -192,7 +219,7 @@ fn take_any_turn(
     }
 }
 
-/// One turn: the act of the top frame's label, and where control goes by it. What most turns do needs no outcome of an act.
+/// One turn: what is done at the top frame's point, and where control goes by it.
 #[inline(always)]
 pub fn take_turn(
     program: &Program,
@@ -232,6 +259,17 @@ pub fn take_turn(
             Err(trap) => Turn::Stops(Status::Trap(trap)),
             Ok(given) => { leave_by(program, ways, &mut frames.top, PlainExit::Next, Some(given)) }
         },
-        _ => take_any_turn(program, graph, flat, frames, store),
+        FlatLabel::Init(steps) => match initialise(store, base, steps) {
+            Err(trap) => Turn::Stops(Status::Trap(trap)),
+            Ok(()) => leave_by(program, ways, &mut frames.top, PlainExit::Next, kept),
+        },
+        FlatLabel::Halt(expr) => match eval_test(store, base, expr) {
+            Err(trap) => Turn::Stops(Status::Trap(trap)),
+            Ok(value) => Turn::Stops(end_with(value)),
+        },
+        FlatLabel::Call(call) => enter_turn(program, graph, flat, frames, store, call),
+        FlatLabel::Exit(rule, first) => leave_turn(
+            program, graph, flat, frames, store, rule, first,
+        ),
     }
 }

@@ -1,10 +1,11 @@
 -- What a store of the code stands for, and what acts of the code answer.
-use Rattle.std.specs.Prelude.{ℕ, ℤ, ◌≡◌, ◌≤◌, length, map, drop, All, Result, Ok, Err}
+use Rattle.std.specs.Prelude.{ℕ, ℤ, ◌≡◌, ◌≤◌, length, map, drop, All, Option, Result, Ok, Err}
 use Rattle.csub_types.specs.declared.trap.Trap.{Trap}
 use Rattle.csub_semantics.specs.Trees.{variable, element_place, member_place, constant, reading, unary_operation, conversion, stepping, operation}
 use Rattle.csub_semantics.specs.Trees.{conjunction, disjunction, choice, assignment, update, input_byte, output_byte, formatted}
 use Rattle.csub_semantics.specs.Trees.{no_expr, more_exprs, expr_count}
 use Rattle.csub_semantics.specs.Memory.{Answer, value, trapped}
+use Rattle.csub_semantics.specs.declared.status.Status.{Status}
 use Rattle.csub_semantics.specs.declared.status.Status.TheVariants.{Trap as TrapStatus}
 use Rattle.csub_validity.specs.Valid.{most_values}
 use Rattle.csub_flat.specs.Trees.{FlatPlace, FlatExpr, FlatExprs, FlatGiven, number_of, array_at, FlatWrite, writes, clears}
@@ -12,9 +13,7 @@ use Rattle.csub_flat.specs.Trees.{FlatLabel, goes_on, leaves_by, does, begins, t
 use Rattle.csub_slots.specs.Acts as the
 use Rattle.csub_slots.specs.Acts.{FlatStore}
 use Rattle.csub_slots.specs.declared.store.Store.{Store}
-use Rattle.csub_slots.specs.declared.act.Outcome.{Outcome}
-use Rattle.csub_slots.specs.declared.act.Outcome.TheVariants.{Leaves, Gives as GivesValue, Pushes, Pops, Ends}
-use Rattle.csub_slots.specs.Seen.{slot_seen, exit_seen}
+use Rattle.csub_slots.specs.Seen.{slot_seen}
 
 -- what a store stands for: the input from the place on, what was written, and the slots
 abbrev pub state_of : Store → FlatStore
@@ -38,14 +37,15 @@ pub record Keeps (old new : Store) : Type 0 where
   pub count : length new.slots.items ≡ length old.slots.items
   pub values : new.values.items ≡ old.values.items
 
--- the same outcome, with the store that is left
-abbrev pub Acts : the.FlatOutcome → Result Outcome Trap → FlatStore → Type 0
-Acts outcome (Ok (Leaves x r)) s = outcome ≡ the.leaves (exit_seen x) r s
-Acts outcome (Ok (GivesValue v)) s = outcome ≡ the.gives v s
-Acts outcome (Ok (Pushes e b)) s = outcome ≡ the.pushes e b s
-Acts outcome (Ok (Pops r)) s = outcome ≡ the.pops r s
-Acts outcome (Ok (Ends t)) s = outcome ≡ the.ends t s
-Acts outcome (Err t) s = outcome ≡ the.ends (TrapStatus t) s
+-- a call comes to a frame at this entry, whose slots begin there, or to a trap, with the store that is left
+abbrev pub Enters : the.FlatOutcome → ℕ → Result ℕ Trap → FlatStore → Type 0
+Enters outcome entry (Ok b) s = outcome ≡ the.pushes entry b s
+Enters outcome entry (Err t) s = outcome ≡ the.ends (TrapStatus t) s
+
+-- the end of a function gives a result to its call, or ends the run
+abbrev pub Returns : the.FlatOutcome → Result (Option ℤ) Status → FlatStore → Type 0
+Returns outcome (Ok r) s = outcome ≡ the.pops r s
+Returns outcome (Err t) s = outcome ≡ the.ends t s
 
 abbrev mutual
   -- no `printf` in a place has more values than one may have

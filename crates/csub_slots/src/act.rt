@@ -1,24 +1,23 @@
-//! The acts of flat labels. Nothing here takes memory.
+//! What is done at points, over slots. Nothing here takes memory.
 ghost use Rattle.std.specs.Prelude.{◌≡◌, ◌+◌, ◌*◌, ◌<◌, ◌≤◌, ◌++◌, [], ◌∷◌, length, map, take, All, replicate, vec_len, vec_capacity};
 ghost use Rattle.csub_semantics.specs.declared.status.Status.TheVariants.{Exit};
 ghost use Rattle.csub_types.specs.Kinds.{convert};
 ghost use Rattle.csub_semantics.specs.Evaluation.{eval};
 ghost use Rattle.csub_semantics.specs.Memory.{value, then_do, low_byte};
-ghost use Rattle.csub_slots.specs.declared.act.Outcome.TheVariants.{Ends};
 ghost use Rattle.csub_slots.specs.Layout as layout;
 ghost use Rattle.csub_slots.specs.Memory.{flat};
-ghost use Rattle.csub_slots.specs.Acts.{flat_act, flat_call, flat_exit, flat_given_slot, flat_arguments, flat_entered, flat_result};
-ghost use Rattle.csub_flat.specs.Seen.{variable_seen, expr_seen, given_seen, arg_seen, call_seen, label_seen};
+ghost use Rattle.csub_slots.specs.Acts.{flat_call, flat_exit, flat_given_slot, flat_arguments, flat_entered, flat_result};
+ghost use Rattle.csub_flat.specs.Seen.{variable_seen, expr_seen, given_seen, arg_seen, call_seen};
 ghost use Rattle.csub_slots.specs.Seen.{slot_seen};
-ghost use Rattle.csub_slots.specs.States.{state_of, Gives, same, Acts, Keeps, FewValues, FewInGiven, FitsMost};
+ghost use Rattle.csub_slots.specs.States.{state_of, Gives, same, Enters, Returns, Keeps, FewValues, FewInGiven};
 
 pub use crate::direct::{eval_effect, eval_test};
-use crate::eval::{eval, eval_operand, eval_variable, locate, put_at, put_slot};
-use crate::init::initialise;
+use crate::eval::{eval_operand, eval_variable, locate, put_at, put_slot};
+pub use crate::init::initialise;
 use crate::slot::Slot;
 use crate::spot::refer_to;
 use crate::store::Store;
-use csub_flat::{FlatArg, FlatCall, FlatExpr, FlatGiven, FlatLabel, FlatVariable};
+use csub_flat::{FlatArg, FlatCall, FlatExpr, FlatGiven, FlatVariable};
 use csub_semantics::{EndRule, IntKind, Status, Trap};
 use csub_types::kind::convert;
 
@@ -34,73 +33,6 @@ pub enum PlainExit {
     True,
     /// The test gave 0.
     False,
-}
-
-/// What an act leads to, but for a trap.
-#[derive(Clone, Copy)]
-pub enum Outcome {
-    /// Control leaves along a way out; the frame has this result from now on.
-    Leaves(PlainExit, Option<i64>),
-    /// The value of a `switch`, which decides its way out.
-    Gives(i64),
-    /// A frame comes on top, at this entry, with its slots from a base on.
-    Pushes(u32, u32),
-    /// The top frame goes, with its result.
-    Pops(Option<i64>),
-    /// The run ends.
-    Ends(Status),
-}
-
-/// The act of a label for the top one of so many frames, whose slots begin at a base, and which has this result.
-#[inline(always)]
-pub fn act(
-    store: &mut Store,
-    label: &FlatLabel,
-    count: u32,
-    base: u32,
-    answer: Option<i64>,
-) -> Result<Outcome, Trap>
-    requires few { count ≤ 256 }
-    requires room { length store.old.slots.items ≤ store.old.sizes.globals + count * store.old.sizes.most }
-    requires fits { FitsMost store.old.sizes.most (label_seen label.now) }
-    ensures value { Acts (flat_act (label_seen label.now) count base answer (state_of store.old)) result (state_of store.new) }
-    ensures input { store.new.input.items ≡ store.old.input.items }
-    ensures sizes { store.new.sizes ≡ store.old.sizes }
-{
-    match label {
-        FlatLabel::Next => Ok(Outcome::Leaves(PlainExit::Next, answer)),
-        FlatLabel::Exit(rule, variable) => act_exit(store, *rule, *variable, base, answer),
-        FlatLabel::Eval(expr) => {
-            eval(store, base, expr)?;
-            Ok(Outcome::Leaves(PlainExit::Next, answer))
-        }
-        FlatLabel::Init(steps) => {
-            initialise(store, base, steps)?;
-            Ok(Outcome::Leaves(PlainExit::Next, answer))
-        }
-        FlatLabel::Branch(expr) => {
-            let value = eval(store, base, expr)?;
-            let exit = if value == 0 {
-                PlainExit::False
-            } else {
-                PlainExit::True
-            };
-            Ok(Outcome::Leaves(exit, answer))
-        }
-        FlatLabel::Switch(expr) => {
-            let value = eval_operand(store, base, expr)?;
-            Ok(Outcome::Gives(value))
-        }
-        FlatLabel::Return(kind, expr) => {
-            let given = eval_answer(store, base, *kind, expr)?;
-            Ok(Outcome::Leaves(PlainExit::Next, Some(given)))
-        }
-        FlatLabel::Halt(expr) => {
-            let value = eval(store, base, expr)?;
-            Ok(end_with(value))
-        }
-        FlatLabel::Call(call) => act_call(store, call, count, base),
-    }
 }
 
 /// What a return gives for the frame at a base: a value, converted to a kind (C11 6.8.6.4).
@@ -121,42 +53,43 @@ pub fn eval_answer(
 
 /// The end of the run with the low 8 bits of a value (C11 7.22.4.4).
 #[inline(always)]
-fn end_with(value: i64) -> Outcome
-    ensures { result ≡ Ends (Exit (low_byte value)) }
+pub fn end_with(value: i64) -> Status
+    ensures { result ≡ Exit (low_byte value) }
 {
-    Outcome::Ends(Status::Exit(value.rem_euclid(256) as u8))
+    Status::Exit(value.rem_euclid(256) as u8)
 }
 
-/// The act at the end of a function.
+/// The end of a function: what it gives to its call, and its slots go. An `Err` is the end of the run: that of `#start`,
+/// or a result that is missing.
 #[inline(always)]
-fn act_exit(
+pub fn leave_function(
     store: &mut Store,
     rule: EndRule,
     first: FlatVariable,
     base: u32,
     answer: Option<i64>,
-) -> Result<Outcome, Trap>
-    ensures value { Acts (flat_exit rule (variable_seen first) base answer (state_of store.old)) result (state_of store.new) }
+) -> Result<Option<i64>, Status>
+    ensures value { Returns (flat_exit rule (variable_seen first) base answer (state_of store.old)) result (state_of store.new) }
     ensures input { store.new.input.items ≡ store.old.input.items }
     ensures sizes { store.new.sizes ≡ store.old.sizes }
 {
     let given = match rule {
         EndRule::Nothing => answer,
         EndRule::Value => match answer {
-            None => return Err(Trap::Missing),
+            None => return Err(Status::Trap(Trap::Missing)),
             Some(value) => Some(value),
         },
         EndRule::Main => match answer {
             None => Some(0),
             Some(value) => Some(value),
         },
-        EndRule::Start => {
-            let value = eval_variable(store, base, first)?;
-            return Ok(end_with(value));
-        }
+        EndRule::Start => match eval_variable(store, base, first) {
+            Err(trap) => return Err(Status::Trap(trap)),
+            Ok(value) => return Err(end_with(value)),
+        },
     };
     leave(store, base);
-    Ok(Outcome::Pops(given))
+    Ok(given)
 }
 
 /// The slots from a base on go.
@@ -169,15 +102,15 @@ fn leave(store: &mut Store, base: u32)
     store.slots.truncate(base as usize);
 }
 
-/// The act of a call, where so many frames stand: its arguments, then a frame with its parameters.
+/// A call, where so many frames stand: its arguments, then a frame with its parameters; where the frame's slots begin.
 #[inline(always)]
-fn act_call(store: &mut Store, call: &FlatCall, count: u32, base: u32) -> Result<Outcome, Trap>
+pub fn enter_call(store: &mut Store, call: &FlatCall, count: u32, base: u32) -> Result<u32, Trap>
     requires few { count ≤ 256 }
     requires room { length store.old.slots.items ≤ store.old.sizes.globals + count * store.old.sizes.most }
     requires size { call.now.size ≤ store.old.sizes.most }
     requires args { length (map arg_seen call.now.args.items) ≤ 16 }
     requires values { All (λ a. FewInGiven a.given) (map arg_seen call.now.args.items) }
-    ensures value { Acts (flat_call (call_seen call.now) count base (state_of store.old)) result (state_of store.new) }
+    ensures value { Enters (flat_call (call_seen call.now) count base (state_of store.old)) call.now.entry result (state_of store.new) }
     ensures input { store.new.input.items ≡ store.old.input.items }
     ensures sizes { store.new.sizes ≡ store.old.sizes }
 {
@@ -187,7 +120,7 @@ fn act_call(store: &mut Store, call: &FlatCall, count: u32, base: u32) -> Result
     }
     let begin = store.slots.len() as u32;
     enter(store, call.size, &call.args, count);
-    Ok(Outcome::Pushes(call.entry, begin))
+    Ok(begin)
 }
 
 /// What the arguments of a call give to its parameters, from left to right, goes into the store's values.

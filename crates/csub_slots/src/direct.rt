@@ -1,6 +1,5 @@
 //! What turns evaluate most, without a call: operations of a variable of the frame and a constant, and what is written to
 //! such a variable. Each gives what [`crate::eval::eval`] gives.
-ghost use Rattle.std.specs.Prelude.{◌≡◌};
 ghost use Rattle.csub_types.specs.declared.kind.IntKind.TheVariants.{Int};
 ghost use Rattle.csub_semantics.specs.Trees.{variable, constant, reading, operation, assignment, update};
 ghost use Rattle.csub_semantics.specs.Evaluation.{eval};

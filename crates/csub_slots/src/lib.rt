@@ -5,11 +5,10 @@
 //!
 //! - [`make_store`] takes the memory of a whole run, in whose slots the globals have their initial contents
 //!   (`specs/Begins`); no other call here takes any.
-//! - [`act::act`]: the outcome of a flat label and the store that is left are those of `specs/Acts`, for the frame whose slots
-//!   begin at a base. Expressions are evaluated by the definitions of `csub_semantics`, over the memory of slots
-//!   (`specs/Memory`).
-//! - [`act::eval_effect`], [`act::eval_test`], [`act::eval_answer`]: what an expression gives, for a turn that needs no
-//!   outcome.
+//! - [`act::eval_effect`], [`act::eval_test`], [`act::eval_answer`]: what an expression gives for the frame whose slots begin
+//!   at a base, by the definitions of `csub_semantics`, over the memory of slots (`specs/Memory`).
+//! - [`act::initialise`], [`act::enter_call`], [`act::leave_function`], [`act::end_with`]: what other labels do, which is the
+//!   outcome of `specs/Acts`, with the store that is left.
 //! - [`act::put_result`]: a result goes into the slot of the call's temporary.
 //!
 //! A slot may refer to an array, as that of an array parameter does: it says where the array begins and how many elements
