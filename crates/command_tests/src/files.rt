@@ -10,10 +10,6 @@ use std::thread::Threads;
 /// Files with their names.
 pub type Files = Vec<(String, Vec<u8>)>;
 
-/// A source of 8 edges, of which 4 is crossed by every test whose first byte isn't 65.
-pub const BRANCHING: &str =
-    "int main(void) { if (getchar() == 65) { putchar(66); } else { putchar(67); } return 0; }";
-
 /// A source of 9 edges, of which 5 is crossed by every test whose first byte isn't 65.
 pub const ASSIGNED: &str =
     "int main(void) { int c; c = getchar(); if (c == 65) { putchar(66); } else { putchar(67); } return 0; }";
@@ -150,20 +146,4 @@ pub fn recorded<R: Threads + Sync>(
 pub fn changed_counter(alloc: Global) -> Result<String, Fail> {
     let (before, behind) = WORD_COUNTER.split_once(LINE_BEFORE).ok_or("no such line")?;
     Ok(format!(in alloc; "{before}{LINE_BEFORE}{CHANGED_LINE}{behind}")?)
-}
-
-/// A text between two others, so many times.
-pub fn repeated(
-    alloc: Global,
-    before: &str,
-    part: &str,
-    count: u32,
-    behind: &str,
-) -> Result<String, AllocError> {
-    let mut text = String::from_str(alloc, before)?;
-    for _ in 0..count {
-        text.push_str(part)?;
-    }
-    text.push_str(behind)?;
-    Ok(text)
 }

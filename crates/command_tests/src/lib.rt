@@ -1,45 +1,17 @@
-//! Tests of the whole command: what it writes and answers for words over files in memory. They stand above what they
-//! test, since a crate's tests are proved together with the whole crate.
+//! Tests of the whole command over files in memory: how many tests it runs, how many at a time, and what it does where a file or
+//! the output fails. What a user can see of the program is shown by the folder `cases`.
 #![tactic(auto)]
 
 #[cfg(test)]
 mod carried;
 #[cfg(test)]
-mod causes;
-#[cfg(test)]
-mod claims;
-#[cfg(test)]
-mod entries;
-#[cfg(test)]
-mod explanations;
-#[cfg(test)]
 mod faults;
 #[cfg(test)]
 mod files;
 #[cfg(test)]
-mod generated;
-#[cfg(test)]
-mod histories;
-#[cfg(test)]
-mod long_files;
-#[cfg(test)]
-mod migrations;
-#[cfg(test)]
-mod orders;
-#[cfg(test)]
 mod reruns;
 #[cfg(test)]
 mod script;
-#[cfg(test)]
-mod selections;
-#[cfg(test)]
-mod sources;
-#[cfg(test)]
-mod suites;
-#[cfg(test)]
-mod usage;
-#[cfg(test)]
-mod walks;
 #[cfg(test)]
 mod word_counter;
 #[cfg(test)]
