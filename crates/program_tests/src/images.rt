@@ -1,6 +1,6 @@
 //! Images of old edges in changed programs, worked out by hand from the numbers of the points and edges of both graphs.
-use crate::claims::walk_counted;
 use crate::graphs::{SMALL, graph_of};
+use crate::walks::walk_counted;
 use edge_images::{Image, images};
 use std::alloc::Global;
 use std::marker::Brand;

@@ -1,10 +1,8 @@
 //! Tests of what is made of programs: the graph, the numbers of labels, the reasons of the facts of walks and parts of these
-//! facts, the images of edges, what is found of the claims of two versions, and that programs and graphs go between threads.
-//! The programs are written in words (`program_words`).
+//! facts, the images of edges, and that programs and graphs go between threads. The programs are written in words
+//! (`program_words`).
 #![tactic(auto)]
 
-#[cfg(test)]
-mod claims;
 #[cfg(test)]
 mod graphs;
 #[cfg(test)]
@@ -19,3 +17,5 @@ mod switches;
 mod threads;
 #[cfg(test)]
 mod trimming;
+#[cfg(test)]
+mod walks;

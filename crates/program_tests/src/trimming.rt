@@ -4,8 +4,8 @@ ghost use Rattle.csub_semantics.specs.Syntax.{ProgramTree};
 ghost use Rattle.flow_graph.specs.Graph.{HasProgram, IsGraphOf};
 ghost use Rattle.call_walk.specs.Walks.{IsWalk};
 
-use crate::claims::walk_counted;
 use crate::graphs::{SMALL, graph_of};
+use crate::walks::walk_counted;
 use call_walk::{Fact, WalkResult, Why};
 use explain_report::trim;
 use flow_graph::Graph;
