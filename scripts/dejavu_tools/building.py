@@ -133,11 +133,15 @@ def ended(rt: subprocess.Popen[bytes]) -> bytes:
 
 
 def count_workers() -> int:
-    """As many as there are processors, and 4 GB of memory for each."""
+    """Half as many again as there are processors, and 4 GB of memory for each.
+
+    rt hands the crates out in a fixed order, and who gets one waits until those below it are proved.
+    """
     free = 0
     with suppress(OSError), open("/proc/meminfo", encoding="ascii") as file:
         free = next((int(line.split()[1]) for line in file if line.startswith("MemAvailable:")), 0)
-    return max(1, min(len(os.sched_getaffinity(0)), free // (GIGABYTES << 20)))
+    processors = len(os.sched_getaffinity(0))
+    return max(1, min(processors + processors // 2, free // (GIGABYTES << 20)))
 
 
 def take_turn(lock: BinaryIO, interrupts: Interrupts) -> None:
