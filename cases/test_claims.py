@@ -3,9 +3,9 @@
 The points are 0 to 2 of #start, and of `main` its entry 3, the test 4, the outputs 5 and 6, the return 7 and the exit 8. The
 edges 3 and 4 leave the test.
 """
-import hashlib
 import unittest
 
+from made_history import digest_of, sealed
 from program import Answer, Folder
 
 OLD = "int main(void) { if (getchar()) putchar(66); else putchar(67); return 0; }"
@@ -15,17 +15,12 @@ NEW = OLD.replace("67", "68")
 POINTS = (0, 1, 2, 3, 4, 5, 7, 8)
 
 
-def digest(text):
-    return hashlib.sha256(text.encode()).hexdigest()
-
-
 def certificate(edges, points):
     """The certificate that claims these edges, and these points, each beside itself."""
-    lines = ["dejavu certificate 1", f"old {digest(OLD)}", f"new {digest(NEW)}"]
+    lines = ["dejavu certificate 1", f"old {digest_of(OLD)}", f"new {digest_of(NEW)}"]
     lines += [f"dangerous {len(edges)}", *(f"edge {edge}" for edge in edges)]
     lines += [f"pairs {len(points)}", *(f"pair {point} {point}" for point in points)]
-    text = "".join(f"{line}\n" for line in lines)
-    return f"{text}end {digest(text)}\n"
+    return sealed("".join(f"{line}\n" for line in lines))
 
 
 class Claims(unittest.TestCase):
