@@ -3,7 +3,7 @@ ghost use Rattle.csub_semantics.specs.Syntax.{program_tree};
 ghost use Rattle.csub_flat.specs.Copies.{IsFlatOf};
 ghost use Rattle.flow_graph.specs.Graph.{IsGraphOf};
 
-use crate::running::program_of;
+use crate::sources::program_of;
 use csub_core::{Program, Status};
 use csub_flat::{FlatProgram, flatten_program};
 use csub_machine::Machine;

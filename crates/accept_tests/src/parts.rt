@@ -1,5 +1,5 @@
 //! Where the parts of statements stand.
-use crate::running::program_of;
+use crate::sources::program_of;
 use csub_core::Program;
 use csub_semantics::{RPart, RStmt};
 use std::alloc::{AllocError, Global};

@@ -1,5 +1,5 @@
 //! The first rule that a source breaks, by the rules of C11 and of the language, with the place and the text there.
-use crate::running::{answer, error_of, is_row};
+use crate::sources::{answer, error_of, is_row};
 use csub_accept::SourceError;
 use std::alloc::Global;
 use std::process::Abort;
