@@ -66,3 +66,12 @@ quotient_divides k a b f g = by (int_eq b (pos 0)) refl
     by : (t : Bool) → int_eq b (pos 0) ≡ t → IfOk (if t then Err Divide else settled k (int_div a b)) (λ q. DividesTo a b q (int_rem a b))
     by true e = tt
     by false e = settled_quotient k a b f g (not_zero b e)
+
+tested_zero : (b : ℤ) → b ≢ pos 0 → int_eq b (pos 0) ≡ false
+tested_zero (pos zero) n = absurd (n refl)
+tested_zero (pos (suc b)) n = grind arith
+tested_zero (negsuc b) n = refl
+
+-- a divisor that is not 0 traps only where the quotient overflows
+pub quotient_is : (k : IntKind) (a b : ℤ) → b ≢ pos 0 → settled k (int_div a b) ≡ quotient k a b
+quotient_is k a b n = ap (λ t. if t then Err Divide else settled k (int_div a b)) (sym (tested_zero b n))

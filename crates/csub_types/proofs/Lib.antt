@@ -1,1 +1,4 @@
+pub mod ConversionLemmas
+pub mod ResultLemmas
+pub mod ProductLemmas
 pub mod DivisionLemmas
