@@ -67,11 +67,10 @@ fn rest_command<'a>(alloc: Global) -> Result<Command<'a>, AllocError>
     let workers = Arg::new(alloc, WORKERS)
         .long(WORKERS)
         .action(ArgAction::Set);
-    let plain = Arg::new(alloc, PLAIN).action(ArgAction::Append);
     Command::new(alloc, "dejavu")
         .no_binary_name(true)
         .disable_help_flag(true)
         .disable_version_flag(true)
         .arg(workers)?
-        .arg(plain)
+        .arg(Arg::new(alloc, PLAIN).action(ArgAction::Append))
 }
