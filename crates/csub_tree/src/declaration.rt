@@ -1,5 +1,5 @@
 //! Declarations and initialisers (C11 6.7).
-use crate::expression::Expr;
+use crate::expression::{Expr, drop_expr, drop_perhaps};
 use crate::name::{Name, TypeName};
 use csub_text::Span;
 
@@ -15,7 +15,7 @@ pub enum Init {
 impl Drop for Init {
     fn drop(self) {
         match self {
-            Init::One(_) => {}
+            Init::One(e) => drop_expr(e),
             Init::List(_, _) => {}
         }
     }
@@ -101,8 +101,9 @@ impl Drop for Param {
             base: _,
             name: _,
             array: _,
-            length: _,
+            length,
             span: _,
         } = self;
+        drop_perhaps(length);
     }
 }

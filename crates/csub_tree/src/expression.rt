@@ -49,3 +49,14 @@ pub enum ExprKind {
     /// `a.m` (C11 6.5.2.3).
     Member(Box<Expr>, Name),
 }
+
+/// Drops an expression. What holds one drops it here, since each place that drops one takes long to prove.
+pub(crate) fn drop_expr(_: Expr) {}
+
+/// Drops an expression, where there is one.
+pub(crate) fn drop_perhaps(e: Option<Expr>) {
+    match e {
+        Some(e) => drop_expr(e),
+        None => {}
+    }
+}

@@ -1,6 +1,6 @@
 //! Statements (C11 6.8).
 use crate::declaration::Declare;
-use crate::expression::Expr;
+use crate::expression::{Expr, drop_expr, drop_perhaps};
 use crate::name::Name;
 use csub_text::Span;
 
@@ -63,21 +63,24 @@ impl Drop for StmtKind {
     fn drop(self) {
         match self {
             StmtKind::Declare(_) => {}
-            StmtKind::Eval(_) => {}
+            StmtKind::Eval(e) => drop_expr(e),
             StmtKind::Empty => {}
             StmtKind::Block(_) => {}
-            StmtKind::If(_, _, _) => {}
-            StmtKind::While(_, _) => {}
-            StmtKind::Do(_, _) => {}
-            StmtKind::For(_, _, _, _) => {}
-            StmtKind::Switch(_, _) => {}
-            StmtKind::Case(_) => {}
+            StmtKind::If(test, _, _) => drop_expr(test),
+            StmtKind::While(test, _) => drop_expr(test),
+            StmtKind::Do(_, test) => drop_expr(test),
+            StmtKind::For(_, test, step, _) => {
+                drop_perhaps(test);
+                drop_perhaps(step);
+            }
+            StmtKind::Switch(e, _) => drop_expr(e),
+            StmtKind::Case(e) => drop_expr(e),
             StmtKind::Default => {}
             StmtKind::Break => {}
             StmtKind::Continue => {}
             StmtKind::Goto(_) => {}
             StmtKind::Label(_, _) => {}
-            StmtKind::Return(_) => {}
+            StmtKind::Return(e) => drop_perhaps(e),
         }
     }
 }

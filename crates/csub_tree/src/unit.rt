@@ -1,6 +1,6 @@
 //! Translation units (C11 6.9).
 use crate::declaration::{Declare, Head};
-use crate::expression::Expr;
+use crate::expression::{Expr, drop_perhaps};
 use crate::name::Name;
 use crate::statement::Stmt;
 use csub_text::Span;
@@ -54,6 +54,7 @@ pub struct Constant {
 
 impl Drop for Constant {
     fn drop(self) {
-        let Constant { name: _, value: _ } = self;
+        let Constant { name: _, value } = self;
+        drop_perhaps(value);
     }
 }
