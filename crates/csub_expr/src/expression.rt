@@ -285,8 +285,9 @@ fn run(
         if depth >= budget {
             break;
         }
+        let waiting = boxed(alloc, left)?;
         let (right, right_depth, after) = joined(alloc, skip(rest), budget - 1, level)?;
-        left = joined_node(alloc, joint, left, right)?;
+        left = joined_node(alloc, joint, waiting, right)?;
         depth = depth.max(right_depth) + 1;
         rest = after;
     }
@@ -394,8 +395,9 @@ pub fn assign(alloc: Global, tokens: &[Token], budget: u32) -> Result<(Expr, u32
     if depth >= budget {
         return Ok((left, depth, rest));
     }
+    let waiting = boxed(alloc, left)?;
     let (right, right_depth, rest) = assign(alloc, skip(rest), budget - 1)?;
-    let node = assign_node(alloc, op, left, right)?;
+    let node = assign_node(alloc, op, waiting, right)?;
     Ok((node, depth.max(right_depth) + 1, rest))
 }
 

@@ -91,15 +91,14 @@ pub fn prefix_node(alloc: Global, start: u32, sign: Sign, inner: Expr) -> Result
 }
 
 /// The node of an operator between two operands (C11 6.5.5 to 6.5.14). An `Err` is want of memory.
-pub fn joined_node(alloc: Global, joint: Joint, left: Expr, right: Expr) -> Result<Expr, Stop>
-    ensures ok { IfOk result (λ e. expr_tree e ≡ joins (joined (operator_view joint) (expr_tree left) (expr_tree right)) (span_of (expr_tree left)).start (span_of (expr_tree right)).end) }
+pub fn joined_node(alloc: Global, joint: Joint, left: Box<Expr>, right: Expr) -> Result<Expr, Stop>
+    ensures ok { IfOk result (λ e. expr_tree e ≡ joins (joined (operator_view joint) (expr_tree left.value) (expr_tree right)) (span_of (expr_tree left.value)).start (span_of (expr_tree right)).end) }
     ensures err { IfErr result (λ e. e ≡ Memory) }
 {
     let span = Span {
         start: left.span.start,
         end: right.span.end,
     };
-    let left = boxed(alloc, left)?;
     let right = boxed(alloc, right)?;
     match joint {
         Joint::Binary(op) => Ok(Expr {
@@ -118,15 +117,20 @@ pub fn joined_node(alloc: Global, joint: Joint, left: Expr, right: Expr) -> Resu
 }
 
 /// The node of an assignment (C11 6.5.16). An `Err` is want of memory.
-pub fn assign_node(alloc: Global, op: Option<BinOp>, left: Expr, right: Expr) -> Result<Expr, Stop>
-    ensures ok { IfOk result (λ e. expr_tree e ≡ joins (tree.Assign op (expr_tree left) (expr_tree right)) (span_of (expr_tree left)).start (span_of (expr_tree right)).end) }
+pub fn assign_node(
+    alloc: Global,
+    op: Option<BinOp>,
+    left: Box<Expr>,
+    right: Expr,
+) -> Result<Expr, Stop>
+    ensures ok { IfOk result (λ e. expr_tree e ≡ joins (tree.Assign op (expr_tree left.value) (expr_tree right)) (span_of (expr_tree left.value)).start (span_of (expr_tree right)).end) }
     ensures err { IfErr result (λ e. e ≡ Memory) }
 {
     let span = Span {
         start: left.span.start,
         end: right.span.end,
     };
-    let kind = ExprKind::Assign(op, boxed(alloc, left)?, boxed(alloc, right)?);
+    let kind = ExprKind::Assign(op, left, boxed(alloc, right)?);
     Ok(Expr { kind, span })
 }
 

@@ -69,7 +69,7 @@ run-more-init t c = record {
 
 pub run-returns-in_err-right-clause-gives : goal.run-returns-in_err-right-clause-gives
 run-returns-in_err-right-clause-gives t c =
-    let p = err_from_is_err_and c.from_residual.result c.from_residual.ensures.1 in
+    let p = err_from_is_err_and c.from_residual-in_err-right.result c.from_residual-in_err-right.ensures.1 in
     let i = c.more.invariant in
     let b = c.args.budget in
     let failed : Fails c.in_err-right.field-0.0 (read (b - 1) (binary c.args.level) (rest c.more.rest.now)) = rw (← c.skip.ensures) c.in_err-right.ensures.gives in
@@ -81,7 +81,7 @@ pub run-more-preserved : goal.run-more-preserved
 run-more-preserved t c =
     let i = c.more.invariant in
     let b = c.args.budget in
-    let made = c.in_ok-left.ensures.ok in
+    let made = rw c.in_ok-waiting.ensures.ok at c.in_ok-left.ensures.ok in
     let lt : expr_depth (expr_tree c.more.left) ≤ b - 1 = omega (arith, i.is_depth) in
     record {
       is_depth = rw made (omega (arith, joined_depth (operator_view c.in-Some.joint) (expr_tree c.more.left) (expr_tree c.in_ok-right.right), i.is_depth, c.in_ok-right.ensures.deep, c.max-depth.ensures));
@@ -170,4 +170,4 @@ assign-returns-then-depth-budget-clause-gives t c =
 
 pub assign-returns-clause-gives : goal.assign-returns-clause-gives
 assign-returns-clause-gives t c =
-    rw c.in_ok-node.ensures.ok (assign_on c.args.budget c.args.tokens.now c.in_ok-first.rest.now c.in_ok-left.rest.now c.in_ok-right.rest.now (expr_tree c.in_ok-first.first) (expr_tree c.in_ok-left.left) (expr_tree c.in_ok-right.right) c.in-Some.op (omega arith) c.in_ok-first.ensures.gives c.in_ok-left.ensures.gives (sym c.in-Some.ensures) (sym c.if-not-is_unary.ensures) (omega (arith, c.in_ok-left.ensures.deep)) (rw (← c.skip.ensures) c.in_ok-right.ensures.gives))
+    rw (c.in_ok-node.ensures.ok, c.in_ok-waiting.ensures.ok) (assign_on c.args.budget c.args.tokens.now c.in_ok-first.rest.now c.in_ok-left.rest.now c.in_ok-right.rest.now (expr_tree c.in_ok-first.first) (expr_tree c.in_ok-left.left) (expr_tree c.in_ok-right.right) c.in-Some.op (omega arith) c.in_ok-first.ensures.gives c.in_ok-left.ensures.gives (sym c.in-Some.ensures) (sym c.if-not-is_unary.ensures) (omega (arith, c.in_ok-left.ensures.deep)) (rw (← c.skip.ensures) c.in_ok-right.ensures.gives))
