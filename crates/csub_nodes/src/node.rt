@@ -17,6 +17,7 @@ use csub_text::Span;
 use csub_tree::{Expr, Name};
 use csub_types::{IntKind, convert};
 use std::alloc::{AllocError, Global};
+use std::mem;
 
 /// A statement in a box. All are boxed here, since a call of a generic function at a type of many forms takes long to prove.
 fn boxed(alloc: Global, made: RStmt) -> Result<Box<RStmt>, AllocError>
@@ -175,8 +176,9 @@ pub fn mark_node(alloc: Global, x: &Name, inner: Box<RStmt>) -> Result<Box<RStmt
 pub fn own_parts(alloc: Global, made: Box<RStmt>) -> Vec<RPart>
     ensures { map part_tree result.items ≡ own_parts (made_tree made.value) }
 {
-    match Box::into_inner(made) {
-        RStmt::Parts(row) => row,
+    let mut stmt = made;
+    match &mut *stmt {
+        RStmt::Parts(row) => mem::replace(row, Vec::new(alloc)),
         _ => Vec::new(alloc),
     }
 }

@@ -34,7 +34,6 @@ impl Drop for RPart {
 }
 
 /// A statement.
-#[derive(Drop)]
 pub enum RStmt {
     /// A statement without statements inside it, by its parts in order; none for an empty statement.
     Parts(Vec<RPart>),
@@ -63,6 +62,26 @@ pub enum RStmt {
     Goto(Text, RPart),
     /// A labelled statement (C11 6.8.1): the label's name, and the statement.
     Mark(Text, Box<RStmt>),
+}
+
+impl Drop for RStmt {
+    fn drop(self) {
+        match self {
+            RStmt::Parts(_) => {}
+            RStmt::Block(_) => {}
+            RStmt::If(_, _, _) => {}
+            RStmt::While(_, _) => {}
+            RStmt::Do(_, _) => {}
+            RStmt::For(_, _, _, _) => {}
+            RStmt::Switch(_, _) => {}
+            RStmt::Case(_) => {}
+            RStmt::Default => {}
+            RStmt::Break => {}
+            RStmt::Continue => {}
+            RStmt::Goto(_, _) => {}
+            RStmt::Mark(_, _) => {}
+        }
+    }
 }
 
 /// A local object that is no parameter.
