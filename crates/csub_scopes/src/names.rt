@@ -4,7 +4,7 @@ ghost use Rattle.csub_scopes.specs.Scopes.{find};
 ghost use Rattle.csub_scopes.specs.Meanings.{declared_of, meaning_of};
 
 use crate::meaning::{Declared, Meaning};
-use crate::places::{place_of, put, put_back};
+use crate::places::{place_of, put_back, put_next};
 use csub_text::Text;
 use indexmap::IndexMap;
 use std::alloc::{AllocError, Global};
@@ -79,14 +79,9 @@ impl Names {
         ensures ok { OnOk result (self.new ≡ record { name = name.now; depth = depth; means = meaning_of meaning } ∷ self.old) }
         ensures err { OnErr result (self.new ≡ self.old) }
     {
-        if self.stack.len() >= 4_294_967_295 {
-            return Err(AllocError);
-        }
-        let place = self.stack.len() as u32;
-        let key = name.bytes().to_vec(self.alloc)?;
-        let name = name.copy()?;
         self.stack.reserve(1)?;
-        let outer = put(&mut self.latest, key, place)?;
+        let count = self.stack.len();
+        let (name, outer) = put_next(self.alloc, &mut self.latest, name, count)?;
         let declared = Declared {
             name,
             depth,

@@ -5,7 +5,7 @@ ghost use Rattle.csub_scopes.specs.Scopes.{find_tag};
 ghost use Rattle.csub_scopes.specs.Meanings.{tagged_of};
 
 use crate::meaning::Tagged;
-use crate::places::{place_of, put};
+use crate::places::{place_of, put_next};
 use csub_objects::Members;
 use csub_text::Text;
 use indexmap::IndexMap;
@@ -73,14 +73,9 @@ impl Tags {
         ensures ok { OnOk result (self.new ≡ record { tag = tag.now; members = option_map members_of members } ∷ self.old) }
         ensures err { OnErr result (self.new ≡ self.old) }
     {
-        if self.stack.len() >= 4_294_967_295 {
-            return Err(AllocError);
-        }
-        let place = self.stack.len() as u32;
-        let key = tag.bytes().to_vec(self.alloc)?;
-        let tag = tag.copy()?;
         self.stack.reserve(1)?;
-        put(&mut self.latest, key, place)?;
+        let count = self.stack.len();
+        let (tag, _) = put_next(self.alloc, &mut self.latest, tag, count)?;
         self.stack.push(Tagged { tag, members })?;
         Ok(())
     }
