@@ -28,24 +28,26 @@ const LIMITS: &[(usize, usize)] = &[
     (100_000, 10_000),
 ];
 
+// Whether the shelf gives as much of the file of this content as was asked for.
+fn gives_limits<S: Shelf>(shelf: &mut S, path: &str, content: &[u8]) -> bool {
+    for &(most, wanted) in LIMITS {
+        match shelf.fetch(path, most) {
+            Ok(bytes) if content.get(..wanted) == Some(bytes.as_slice()) => {}
+            _ => return false,
+        }
+    }
+    true
+}
+
 #[test]
 fn a_real_file_is_read_up_to_the_limit(rt: HostRuntime) -> Result<(), Fail> {
-    let alloc = rt.alloc();
-    let content = long_content(alloc)?;
-    let path = format!(in alloc; "file_tests-{}", process::id(rt.process()))?;
+    let content = long_content(rt.alloc())?;
+    let path = format!(in rt.alloc(); "file_tests-{}", process::id(rt.process()))?;
     fs::write(&rt, path.as_str(), content.as_slice())?;
-    let mut shelf = DiskShelf::new(&rt, alloc);
-    for &(most, wanted) in LIMITS {
-        let bytes = shelf.fetch(path.as_str(), most)?;
-        assert_eq!(rt;
-            Some(bytes.as_slice()),
-            content.get(..wanted),
-            "up to {most}"
-        );
-    }
+    let mut shelf = DiskShelf::new(&rt, rt.alloc());
+    assert!(rt; gives_limits(&mut shelf, path.as_str(), &content));
     fs::remove_file(&rt, path.as_str())?;
-    let missing = shelf.fetch(path.as_str(), 9).err();
-    assert_eq!(rt; missing, Some(FetchError::Failed));
+    assert!(rt; shelf.fetch(path.as_str(), 9).err() == Some(FetchError::Failed));
     Ok(())
 }
 
@@ -85,7 +87,7 @@ fn a_write_that_takes_nothing_is_a_fault(rt: HostRuntime) {
         calls: Cell::new(0),
     };
     let mut sink = StdSink::new(&output);
-    assert_eq!(rt; sink.put(b"left A\n"), Ok(3));
-    assert_eq!(rt; sink.put(b"left A\n"), Err(SinkFailed));
-    assert_eq!(rt; sink.put(b"left A\n"), Err(SinkFailed));
+    for wanted in [Ok(3), Err(SinkFailed), Err(SinkFailed)] {
+        assert!(rt; sink.put(b"left A\n") == wanted);
+    }
 }

@@ -4,23 +4,9 @@
 #![tactic(auto)]
 
 #[cfg(test)]
-mod certificates;
-#[cfg(test)]
 mod disk;
 #[cfg(test)]
 mod histories;
-#[cfg(test)]
-mod history_causes;
-#[cfg(test)]
-mod history_limits;
-#[cfg(test)]
-mod history_lines;
-#[cfg(test)]
-mod history_version_2;
-#[cfg(test)]
-mod known_history;
-#[cfg(test)]
-mod made_history;
 #[cfg(test)]
 mod numbers;
 #[cfg(test)]
@@ -32,13 +18,7 @@ mod row_of_numbers;
 #[cfg(test)]
 mod rows;
 #[cfg(test)]
-mod selections;
-#[cfg(test)]
-mod suite_limits;
-#[cfg(test)]
 mod suites;
-#[cfg(test)]
-mod tables;
 #[cfg(test)]
 mod texts;
 #[cfg(test)]

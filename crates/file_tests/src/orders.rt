@@ -1,121 +1,72 @@
-//! Three tests of a program of 10 edges, and the order of those that are selected.
+//! The order of tests whose choices say nothing of their edges, and how often waiting tests are counted. The digests and sums are
+//! those of Python's hashlib.
 ghost use Rattle.std.specs.Prelude.{◌<◌, ◌≤◌};
 
-use crate::made_history::{Results, history_of};
-use csub_core::Status;
-use dv_outside::{Gate, OpenGate};
+use dv_outside::Gate;
 use std::alloc::Global;
+use std::process::Abort;
 use std::sync::atomic::{AtomicU64, Ordering};
 use std::test::Fail;
 use std::thread::Threads;
-use test_order::{Placed, order, order_text};
+use test_history::read_history;
+use test_order::{order, order_text};
 use test_select::Choice;
 
-/// The edges that the tests A, C and B crossed: A and C the same, and B two that these didn't.
-const TWO_ALIKE: [&[u32]; 3] = [
-    &[0, 1, 2, 3, 4, 6, 8],
-    &[0, 1, 2, 3, 4, 6, 8],
-    &[0, 1, 2, 3, 5, 7, 8],
-];
+/// A history of a source of no bytes and 10 edges, in which A and C crossed the same, and B two that these didn't.
+const TWO_ALIKE: &str = "dejavu history 3\n\
+    source e3b0c44298fc1c149afbf4c8996fb92427ae41e4649b934ca495991b7852b855\n\
+    edges 10\n\
+    tests 3\n\
+    test A\n\
+    budget 100\n\
+    input 41\n\
+    status exit 0\n\
+    turns 8\n\
+    output -\n\
+    crossed 5f01\n\
+    test C\n\
+    budget 100\n\
+    input 43\n\
+    status exit 0\n\
+    turns 8\n\
+    output -\n\
+    crossed 5f01\n\
+    test B\n\
+    budget 100\n\
+    input 42\n\
+    status exit 0\n\
+    turns 8\n\
+    output -\n\
+    crossed af01\n\
+    end 24302e6cc256f457392b0840e1d99e8f57fb18a6a691e84947afc99fc2d41a92\n";
 
-/// A and B add as many edges once C is placed.
-const TWO_EQUALS: [&[u32]; 3] = [&[0], &[1, 2], &[0, 1]];
-
-const SELECTED: Choice = Choice::Selected(0);
-
-/// What the runs of the tests A, C and B gave, which crossed these edges.
-fn runs<'a>(crossed: [&'a [u32]; 3]) -> [Results<'a>; 3] {
-    let [a, c, b] = crossed;
-    [
-        (Status::Exit(0), 8, b"", a),
-        (Status::Exit(0), 8, b"", c),
-        (Status::Exit(0), 8, b"", b),
-    ]
-}
-
-/// A suite of these tests.
-const SUITE: &[u8] = b"dejavu suite 1\ntest A 100 41\ntest C 100 43\ntest B 100 42\n";
-
-/// The order of the selected ones of these tests, and its text.
-fn ordering<R: Threads + Sync, G: Gate>(
-    rt: &R,
-    alloc: Global,
-    crossed: [&[u32]; 3],
-    choices: [Choice; 3],
-    workers: usize,
-    gate: &G,
-) -> Result<(Vec<Placed>, Vec<u8>), Fail>
-    requires some { 0 < workers }
-    requires few { workers ≤ 64 }
-{
-    let history = history_of(alloc, b"", 10, SUITE, &runs(crossed))?;
-    if history.entries().len() != choices.len() {
-        return Err("not three entries")?;
-    }
-    let placed = order(rt, alloc, &history, &choices, workers, gate)?;
-    let text = order_text(alloc, &history, &placed)?;
-    Ok((placed, text))
-}
-
-const ALL: [Choice; 3] = [SELECTED, SELECTED, SELECTED];
-
-/// None of the tests crossed an edge.
-const NOTHING: [&[u32]; 3] = [&[], &[], &[]];
-
-/// The edges that the tests crossed, which ones are selected, and the text on their order.
-const ORDERS: &[([&[u32]; 3], [Choice; 3], &str)] = &[
-    (
-        TWO_ALIKE,
-        ALL,
-        "A adds 7\nB adds 2\nC adds 0\nordered 3 of 3\n",
-    ),
-    (
-        TWO_ALIKE,
-        [Choice::Left, SELECTED, SELECTED],
-        "C adds 7\nB adds 2\nordered 2 of 3\n",
-    ),
-    (
-        TWO_ALIKE,
-        [Choice::Left, Choice::Left, Choice::Left],
-        "ordered 0 of 3\n",
-    ),
-    (
-        TWO_EQUALS,
-        ALL,
-        "C adds 2\nA adds 1\nB adds 0\nordered 3 of 3\n",
-    ),
-    (
-        NOTHING,
-        ALL,
-        "A adds 0\nC adds 0\nB adds 0\nordered 3 of 3\n",
-    ),
-];
-
-#[test]
-fn the_order_goes_by_what_each_test_adds(rt: HostRuntime) -> Result<(), Fail> {
-    for &(crossed, choices, want) in ORDERS {
-        for workers in [1, 2, 64] {
-            let (_, text) = ordering(&rt, rt.alloc(), crossed, choices, workers, &OpenGate)?;
-            assert!(rt;
-                text.as_slice() == want.as_bytes(),
-                "{workers} workers: {want}"
-            );
-        }
-    }
-    Ok(())
-}
-
-#[test]
-fn a_place_has_the_place_in_the_history_and_the_gain(rt: HostRuntime) -> Result<(), Fail> {
-    let (placed, _) = ordering(&rt, rt.alloc(), TWO_ALIKE, ALL, 2, &OpenGate)?;
-    let want = [
-        Placed { at: 0, gain: 7 },
-        Placed { at: 2, gain: 2 },
-        Placed { at: 1, gain: 0 },
-    ];
-    assert!(rt; placed.as_slice() == want.as_slice());
-    Ok(())
-}
+/// The same tests, none of which crossed an edge.
+const NOTHING: &str = "dejavu history 3\n\
+    source e3b0c44298fc1c149afbf4c8996fb92427ae41e4649b934ca495991b7852b855\n\
+    edges 10\n\
+    tests 3\n\
+    test A\n\
+    budget 100\n\
+    input 41\n\
+    status exit 0\n\
+    turns 8\n\
+    output -\n\
+    crossed 0000\n\
+    test C\n\
+    budget 100\n\
+    input 43\n\
+    status exit 0\n\
+    turns 8\n\
+    output -\n\
+    crossed 0000\n\
+    test B\n\
+    budget 100\n\
+    input 42\n\
+    status exit 0\n\
+    turns 8\n\
+    output -\n\
+    crossed 0000\n\
+    end f18d8a0465a4303d11bb31f50532945730cd9d91deb6970acfc889a76d6f11f3\n";
 
 // A gate that counts who passes.
 #[derive(Drop)]
@@ -129,23 +80,79 @@ impl Gate for Turnstile {
     }
 }
 
-/// The edges that the tests crossed, and how often waiting tests are counted: 3 for the first place, 2 for the second and 1 for the
-/// third; where no test adds an edge, for the first place alone.
-const COUNTS: &[([&[u32]; 3], u64)] = &[(TWO_ALIKE, 6), (NOTHING, 3)];
+const SELECTED: Choice = Choice::Selected(0);
+
+/// The text on the order of three tests, of which the last two are selected.
+fn ordering<R: Threads + Sync>(
+    rt: &R,
+    alloc: Global,
+    history: &str,
+    first: Choice,
+    workers: usize,
+    gate: &Turnstile,
+) -> Result<Vec<u8>, Fail>
+    requires some { 0 < workers }
+    requires few { workers ≤ 64 }
+{
+    let history = read_history(alloc, history.as_bytes(), b"", 10)?;
+    let choices = [first, SELECTED, SELECTED];
+    if history.entries().len() != choices.len() {
+        return Err("not three entries")?;
+    }
+    let placed = order(rt, alloc, &history, &choices, workers, gate)?;
+    Ok(order_text(alloc, &history, &placed)?)
+}
+
+/// So many workers write this text on the order, and count so many tests.
+fn order_agrees<R: Threads + Abort + Sync>(
+    rt: &R,
+    alloc: Global,
+    row: &(&str, Choice, &str, u64),
+    workers: usize,
+) -> Result<(), Fail>
+    requires some { 0 < workers }
+    requires few { workers ≤ 64 }
+{
+    let gate = Turnstile {
+        passed: AtomicU64::new(0),
+    };
+    let text = ordering(rt, alloc, row.0, row.1, workers, &gate)?;
+    assert!(rt;
+        text.as_slice() == row.2.as_bytes() && gate.passed.load(Ordering::SeqCst) == row.3,
+        "{workers} workers: {}",
+        row.2
+    );
+    Ok(())
+}
+
+/// A history, the choice for A, the text, and how often waiting tests are counted: each for each place, but no more once none adds
+/// an edge.
+const ORDERS: &[(&str, Choice, &str, u64)] = &[
+    (
+        TWO_ALIKE,
+        SELECTED,
+        "A adds 7\nB adds 2\nC adds 0\nordered 3 of 3\n",
+        6,
+    ),
+    (
+        TWO_ALIKE,
+        Choice::Left,
+        "C adds 7\nB adds 2\nordered 2 of 3\n",
+        3,
+    ),
+    (
+        NOTHING,
+        SELECTED,
+        "A adds 0\nC adds 0\nB adds 0\nordered 3 of 3\n",
+        3,
+    ),
+];
 
 #[test]
 fn each_waiting_test_is_counted_for_each_place(rt: HostRuntime) -> Result<(), Fail> {
-    for &(crossed, want) in COUNTS {
+    for row in ORDERS {
         for workers in [1, 2, 64] {
-            let gate = Turnstile {
-                passed: AtomicU64::new(0),
-            };
-            let _ordering = ordering(&rt, rt.alloc(), crossed, ALL, workers, &gate)?;
-            assert_eq!(rt;
-                gate.passed.load(Ordering::SeqCst),
-                want,
-                "{workers} workers"
-            );
+            order_agrees(&rt, rt.alloc(), row, workers)?;
         }
     }
     Ok(())

@@ -1,9 +1,12 @@
 //! Files and outputs in memory, and gates that workers share.
+ghost use Rattle.std.specs.Prelude.{◌<◌};
+
 use dv_outside::{
     FailingShelf, FailingSink, FetchError, Gate, MemoryShelf, MemorySink, OpenGate, Shelf,
     SinkFailed, names_differ, write_whole,
 };
 use std::alloc::{AllocError, Global};
+use std::process::Abort;
 use std::sync::atomic::{AtomicU64, Ordering};
 use std::test::Fail;
 use std::thread::{Threads, join};
@@ -82,7 +85,7 @@ fn a_shelf_fails_at_its_second_fetch_alone(rt: HostRuntime) -> Result<(), Fail> 
     let alloc = rt.alloc();
     let mut shelf = FailingShelf::new(alloc, two_files(alloc)?, [2].to_vec(alloc)?);
     for wanted in [None, Some(FetchError::Failed), None, None] {
-        assert_eq!(rt; shelf.fetch("one.c", 9).err(), wanted);
+        assert!(rt; shelf.fetch("one.c", 9).err() == wanted);
     }
     Ok(())
 }
@@ -90,25 +93,31 @@ fn a_shelf_fails_at_its_second_fetch_alone(rt: HostRuntime) -> Result<(), Fail> 
 #[test]
 fn a_sink_fails_at_its_third_call_alone(rt: HostRuntime) -> Result<(), Fail> {
     let mut sink = FailingSink::new(rt.alloc(), 100, 4, 3)?;
-    assert_eq!(rt; write_whole(&mut sink, TEXT), Err(SinkFailed));
-    assert_eq!(rt; sink.bytes(), b"left A\nr".as_slice());
-    assert_eq!(rt; write_whole(&mut sink, b"un B\n"), Ok(()));
-    assert_eq!(rt; sink.bytes(), b"left A\nrun B\n".as_slice());
+    let failed = write_whole(&mut sink, TEXT);
+    assert!(rt; failed == Err(SinkFailed) && sink.bytes() == b"left A\nr".as_slice());
+    let written = write_whole(&mut sink, b"un B\n");
+    assert!(rt; written == Ok(()) && sink.bytes() == b"left A\nrun B\n".as_slice());
+    Ok(())
+}
+
+// A sink that takes so much at a call takes the text, and then no more.
+fn sink_takes_text(rt: &impl Abort, alloc: Global, most: usize) -> Result<(), Fail>
+    requires { 0 < most }
+{
+    let mut sink = MemorySink::new(alloc, TEXT.len(), most)?;
+    let written = write_whole(&mut sink, TEXT);
+    assert!(rt; written == Ok(()) && sink.bytes() == TEXT, "{most} a call");
+    assert!(rt;
+        write_whole(&mut sink, b"!") == Err(SinkFailed),
+        "{most} a call"
+    );
     Ok(())
 }
 
 #[test]
 fn a_sink_takes_the_text_until_it_is_full(rt: HostRuntime) -> Result<(), Fail> {
-    let alloc = rt.alloc();
     for most in [1, 4, 1000] {
-        let mut sink = MemorySink::new(alloc, TEXT.len(), most)?;
-        assert_eq!(rt; write_whole(&mut sink, TEXT), Ok(()), "{most} a call");
-        assert_eq!(rt; sink.bytes(), TEXT, "{most} a call");
-        assert_eq!(rt;
-            write_whole(&mut sink, b"!"),
-            Err(SinkFailed),
-            "{most} a call"
-        );
+        sink_takes_text(&rt, rt.alloc(), most)?;
     }
     Ok(())
 }
@@ -116,8 +125,8 @@ fn a_sink_takes_the_text_until_it_is_full(rt: HostRuntime) -> Result<(), Fail> {
 #[test]
 fn a_sink_that_is_too_small_has_a_beginning(rt: HostRuntime) -> Result<(), Fail> {
     let mut sink = MemorySink::new(rt.alloc(), 9, 4)?;
-    assert_eq!(rt; write_whole(&mut sink, TEXT), Err(SinkFailed));
-    assert_eq!(rt; sink.bytes(), b"left A\nru".as_slice());
+    let failed = write_whole(&mut sink, TEXT);
+    assert!(rt; failed == Err(SinkFailed) && sink.bytes() == b"left A\nru".as_slice());
     Ok(())
 }
 
@@ -147,5 +156,5 @@ fn workers_share_a_gate(rt: HostRuntime) {
         passed: AtomicU64::new(0),
     };
     two_workers(&rt, &turnstile);
-    assert_eq!(rt; turnstile.passed.load(Ordering::SeqCst), 2);
+    assert!(rt; turnstile.passed.load(Ordering::SeqCst) == 2);
 }
