@@ -40,42 +40,50 @@ impl Reading {
         }
     }
 
-    /// Reads all words of a text.
+    /// Reads all words of a text, of which nothing may be left but parts, functions and objects of file scope.
     fn read_text(&mut self, text: &str) -> Result<(), Unread> {
         for word in text.rsplit(' ') {
             if !word.is_empty() {
                 self.read_word(word)?;
             }
         }
-        Ok(())
+        if self.is_whole() {
+            Ok(())
+        } else {
+            Err(Unread::Operand)
+        }
     }
 
     /// Whether nothing is left but parts, functions and objects of file scope.
     fn is_whole(&self) -> bool {
         self.lines.parts.operands.are_used() && self.lines.are_used() && self.locals.is_empty()
     }
-}
 
-/// What a text stands for.
-fn read(alloc: Global, text: &str) -> Result<Reading, Unread> {
-    let mut reading = Reading::new(alloc);
-    reading.read_text(text)?;
-    if reading.is_whole() {
-        Ok(reading)
-    } else {
-        Err(Unread::Operand)
+    /// The program that a text stands for.
+    fn program(&mut self, text: &str) -> Result<Option<Program>, Unread> {
+        self.read_text(text)?;
+        if !self.lines.parts.parts.is_empty() {
+            return Err(Unread::Operand);
+        }
+        let functions = all(self.lines.alloc, &mut self.functions)?;
+        let globals = all(self.lines.alloc, &mut self.globals)?;
+        Ok(Program::make(functions, globals))
+    }
+
+    /// The labels that a text stands for.
+    fn labels(&mut self, text: &str) -> Result<Vec<Label>, Unread> {
+        self.read_text(text)?;
+        if !self.functions.is_empty() || !self.globals.is_empty() {
+            return Err(Unread::Operand);
+        }
+        labels_of(self.lines.alloc, &mut self.lines.parts.parts)
     }
 }
 
 /// The program that a text stands for, by its functions and its objects of file scope; `None` where it is not valid.
 pub fn read_program(alloc: Global, text: &str) -> Result<Option<Program>, Unread> {
-    let mut reading = read(alloc, text)?;
-    if !reading.lines.parts.parts.is_empty() {
-        return Err(Unread::Operand);
-    }
-    let functions = all(alloc, &mut reading.functions)?;
-    let globals = all(alloc, &mut reading.globals)?;
-    Ok(Program::make(functions, globals))
+    let mut reading = Reading::new(alloc);
+    reading.program(text)
 }
 
 /// Whether the program that a text stands for is valid.
@@ -85,17 +93,17 @@ pub fn accepts(alloc: Global, text: &str) -> Result<bool, Unread> {
 
 /// The labels that a text stands for, by its parts.
 pub fn read_labels(alloc: Global, text: &str) -> Result<Vec<Label>, Unread> {
-    let mut reading = read(alloc, text)?;
-    let parts = &mut reading.lines.parts.parts;
+    let mut reading = Reading::new(alloc);
+    reading.labels(text)
+}
+
+/// The labels of parts, of which the last one stands first in the text.
+fn labels_of(alloc: Global, parts: &mut Vec<RPart>) -> Result<Vec<Label>, Unread> {
     let mut labels = Vec::new(alloc);
     for _ in 0..parts.len() {
         push(&mut labels, label_of(last(parts)?)?)?;
     }
-    if reading.functions.is_empty() && reading.globals.is_empty() {
-        Ok(labels)
-    } else {
-        Err(Unread::Operand)
-    }
+    Ok(labels)
 }
 
 /// The label of a part of one point.
